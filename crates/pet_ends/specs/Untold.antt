@@ -1,0 +1,39 @@
+-- What the real ends tell. As a place and a sink they tell nothing but their faults; beside it they say what became of
+-- the bytes at a file or a writer that tells what it holds. This project's own.
+use Rattle.std.specs.Prelude.{ℕ, Bool, List, Option, None, false}
+use Rattle.pet_base.specs.Seen.{Seen}
+
+pub record Opened : Type 0 where
+  pub has_input : Bool
+  pub has_output : Bool
+  -- what the file of the input still has, and what that of the output holds
+  pub left : Option (List ℕ)
+  pub held : Option (List ℕ)
+  pub faults : ℕ
+
+-- no input, no output and no failure yet
+abbrev pub nothing_open : Opened
+nothing_open = record {
+  has_input = false;
+  has_output = false;
+  left = None;
+  held = None;
+  faults = 0;
+}
+
+-- no file is told, no name and no blame
+abbrev pub untold : Opened → Seen
+untold o = record {
+  files = None;
+  rest = None;
+  source = None;
+  target = None;
+  has_input = o.has_input;
+  has_output = o.has_output;
+  blamed = None;
+  faults = o.faults;
+}
+
+-- what the writer of an output holds, and how many calls failed
+abbrev pub Printed : Type 0
+Printed = Option (List ℕ) × ℕ

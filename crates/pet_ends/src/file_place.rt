@@ -1,0 +1,124 @@
+//! The files of the machine.
+ghost use Rattle.std.specs.Prelude.{◌≡◌, is_some, option_and_then};
+ghost use Rattle.pet_ends.specs.Untold.{Opened, nothing_open, untold};
+
+use crate::fault_count::FaultCount;
+use crate::transfer::{read_some, write_whole};
+use pet_base::{Failed, Place};
+use std::fs;
+use std::marker::Model;
+use std::rt::Files;
+
+/// The files of the machine, by path. As a `Place` it tells nothing of their names and of what they hold.
+#[derive(Drop)]
+pub struct FilePlace<'a, R: Files> {
+    rt: &'a R,
+    input: Option<R::File>,
+    output: Option<R::File>,
+    faults: FaultCount,
+}
+
+impl<'a, R: Files> Model for FilePlace<'a, R> {
+    ghost Value = { Opened };
+
+    ghost view = { λ p. record {
+      has_input = is_some p.input;
+      has_output = is_some p.output;
+      left = option_and_then R.File.remaining p.input;
+      held = option_and_then R.File.contents p.output;
+      faults = p.faults.count;
+    } };
+}
+
+impl<'a, R: Files> FilePlace<'a, R> {
+    /// No input and no output, and no failure yet.
+    pub fn new(rt: &'a R) -> FilePlace<'a, R>
+        ensures { result ≡ nothing_open }
+    {
+        FilePlace {
+            rt,
+            input: None,
+            output: None,
+            faults: FaultCount::new(),
+        }
+    }
+}
+
+impl<R: Files> Place for FilePlace<'_, R> {
+    ghost use Rattle.std.specs.Prelude.{◌≡◌, ◌<◌, ℕ, true, length, take, OnOk, OnErr, IfOk, MatchResult};
+    ghost use Rattle.std.specs.Io.{ReadsAtMost};
+    ghost use Rattle.std.specs.Io.KnownBytes.{prepend_known, IsAtEnd, ReadConsumes, Appends};
+    ghost use Rattle.pet_base.specs.declared.place.Side.TheVariants.{Read, Written};
+    ghost use Rattle.pet_base.specs.Causes.{Blames};
+    ghost use Rattle.pet_base.specs.Seen.{Grows, OnlyReads, KeepsInput, HasBlame};
+
+    ghost seen = { untold };
+
+    fn enter(&mut self, name: &str) -> Result<(), Failed> {
+        match fs::open(self.rt, name) {
+            Ok(file) => {
+                self.input = Some(file);
+                Ok(())
+            }
+            Err(_) => {
+                self.input = None;
+                Err(self.faults.rise())
+            }
+        }
+    }
+
+    fn take(&mut self, into: &mut [u8]) -> Result<usize, Failed>
+        requires input { (untold self.old).has_input ≡ true }
+        requires room { 0 < length into.old }
+        ensures bound { ReadsAtMost result into.new }
+        ensures taken { MatchResult result (λ n. (untold self.old).rest ≡ prepend_known (take n into.new) (untold self.new).rest)
+            (λ _. (untold self.new).rest ≡ (untold self.old).rest) }
+        ensures end { IfOk result (λ n. n ≡ 0 → IsAtEnd (untold self.old).rest) }
+        ensures others { OnlyReads (untold self.old) (untold self.new) }
+        ensures cause { HasBlame (untold self.old) (untold self.new) result (Blames Read (untold self.old).source) }
+        // Where the file tells what it still has, the bytes have left it.
+        ensures bytes { ReadConsumes self.old.left self.new.left result into.new }
+    {
+        let Some(file) = &mut self.input else {
+            unreachable!()
+        };
+        match read_some(file, into) {
+            Ok(count) => Ok(count),
+            Err(_) => Err(self.faults.rise()),
+        }
+    }
+
+    fn create(&mut self, name: &str) -> Result<(), Failed> {
+        match fs::create(self.rt, name) {
+            Ok(file) => {
+                self.output = Some(file);
+                Ok(())
+            }
+            Err(_) => {
+                self.output = None;
+                Err(self.faults.rise())
+            }
+        }
+    }
+
+    fn put(&mut self, bytes: &[u8]) -> Result<(), Failed>
+        requires { (untold self.old).has_output ≡ true }
+        ensures files { OnOk result (Grows (untold self.old).target bytes.now (untold self.old).files (untold self.new).files) }
+        ensures part { OnErr result ((k : ℕ) × Grows (untold self.old).target (take k bytes.now) (untold self.old).files (untold self.new).files) }
+        ensures target { (untold self.new).target ≡ (untold self.old).target }
+        ensures output { (untold self.new).has_output ≡ true }
+        ensures others { KeepsInput (untold self.old) (untold self.new) }
+        ensures cause { HasBlame (untold self.old) (untold self.new) result (Blames Written (untold self.old).target) }
+        // Where the file tells what it holds, that has grown by the bytes, or by a front of them at a failure.
+        ensures whole { OnOk result (Appends self.old.held self.new.held bytes.now) }
+        ensures front { OnErr result ((k : ℕ) × Appends self.old.held self.new.held (take k bytes.now)) }
+    {
+        let Some(file) = &mut self.output else {
+            unreachable!()
+        };
+        match write_whole(file, bytes) {
+            Ok(()) => Ok(()),
+            Err(_) => Err(self.faults.rise()),
+        }
+    }
+}

@@ -1,0 +1,58 @@
+//! Standard output, or any other writer.
+ghost use Rattle.std.specs.Prelude.{◌≡◌};
+ghost use Rattle.pet_ends.specs.Untold.{Printed};
+
+use crate::fault_count::FaultCount;
+use crate::transfer::write_whole;
+use pet_base::{Failed, Sink};
+use std::io::Write;
+use std::marker::Model;
+
+/// Standard output, where it is made with that of the runtime. As a `Sink` it tells nothing of what was written.
+#[derive(Drop)]
+pub struct StandardOut<W: Write> {
+    out: W,
+    faults: FaultCount,
+}
+
+impl<W: Write> Model for StandardOut<W> {
+    ghost Value = { Printed };
+
+    ghost view = { λ s. (W.contents s.out, s.faults.count) };
+}
+
+impl<W: Write> StandardOut<W> {
+    /// No failure yet.
+    pub fn new(out: W) -> StandardOut<W>
+        ensures { result ≡ (W.contents out, 0) }
+    {
+        StandardOut {
+            out,
+            faults: FaultCount::new(),
+        }
+    }
+}
+
+impl<W: Write> Sink for StandardOut<W> {
+    ghost use Rattle.std.specs.Prelude.{◌≡◌, ℕ, None, take, OnOk, OnErr};
+    ghost use Rattle.std.specs.Io.KnownBytes.{Appends, append_known};
+    ghost use Rattle.pet_base.specs.Causes.{HasCause};
+
+    ghost written = { λ _. None };
+
+    ghost faults = { λ s. s.1 };
+
+    fn put(&mut self, bytes: &[u8]) -> Result<(), Failed>
+        ensures written { OnOk result (None ≡ append_known None bytes.now) }
+        ensures part { OnErr result ((k : ℕ) × (None ≡ append_known None (take k bytes.now))) }
+        ensures cause { HasCause self.old.1 self.new.1 result }
+        // Where the writer tells what it holds, that has grown by the bytes, or by a front of them at a failure.
+        ensures whole { OnOk result (Appends self.old.0 self.new.0 bytes.now) }
+        ensures front { OnErr result ((k : ℕ) × Appends self.old.0 self.new.0 (take k bytes.now)) }
+    {
+        match write_whole(&mut self.out, bytes) {
+            Ok(()) => Ok(()),
+            Err(_) => Err(self.faults.rise()),
+        }
+    }
+}
