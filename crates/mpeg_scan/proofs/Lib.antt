@@ -1,0 +1,13 @@
+pub mod Base
+pub mod Now
+pub mod Front
+pub mod Deciding
+pub mod Reading
+pub mod Going
+pub mod Opening
+pub mod Stepping
+pub mod Ending
+pub mod Feeding
+pub mod Skipping
+pub mod Growing
+pub mod Standing

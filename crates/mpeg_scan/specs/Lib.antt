@@ -1,0 +1,5 @@
+pub mod StartCodes
+pub mod Refusals
+pub mod Pieces
+pub mod Scanning
+pub mod Moves
