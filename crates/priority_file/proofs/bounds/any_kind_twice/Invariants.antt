@@ -1,0 +1,7 @@
+use Rattle.std.proofs.Common.{◌≡◌, drop}
+use Rattle.priority_file.specs.Kinds.{same_kind}
+use Rattle.priority_file.specs.Bounds.{has_repeat}
+use Rattle.priority_file.proofs.bounds.any_kind_twice.Given as goal
+
+abbrev pub invariant-loop-i : goal.invariant-loop-i
+invariant-loop-i l = has_repeat same_kind (drop l.i l.kinds) ≡ has_repeat same_kind l.kinds

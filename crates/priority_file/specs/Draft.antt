@@ -1,0 +1,85 @@
+-- A priority file as it is written, this project's own: the typed values of its members, before a number, a name or a
+-- kind is looked at.
+use Rattle.std.specs.Prelude.{codes, ℕ, ℤ, pos, List, [], ◌∷◌, Option, Some, None, option_map, option_and_then, unwrap_or, if◌then◌else◌, bytes_eq}
+use Rattle.toml.specs.Data.{Data, Items, no_items, item, Members, get_member, as_str, as_integer, as_table}
+use Rattle.pet_base.specs.declared.Kind.{Kind}
+use Rattle.pet_base.specs.declared.Kind.TheVariants.{Head, I, P, B, D}
+use Rattle.priority_file.specs.declared.draft.Need.{Need}
+use Rattle.priority_file.specs.declared.draft.Need.TheVariants.{Packets, Percent}
+use Rattle.priority_file.specs.Document.{has_key, array_at, members_in}
+
+-- a layer as it is written
+pub record LayerText : Type 0 where
+  pub name : List ℕ
+  pub kinds : List Kind
+  pub need : Need
+
+pub record FileText : Type 0 where
+  pub packets : ℤ
+  pub layers : List LayerText
+
+infixl 10 ◌>>=◌
+abbrev pub ◌>>=◌ : {A B : Type 0} → Option A → (A → Option B) → Option B
+o >>= f = option_and_then f o
+
+abbrev pub text_at : List ℕ → Members → Option (List ℕ)
+text_at key ms = option_and_then as_str (get_member key ms)
+
+abbrev pub integer_at : List ℕ → Members → Option ℤ
+integer_at key ms = option_and_then as_integer (get_member key ms)
+
+-- the words of `kinds`, and what each lists
+abbrev pub kind_words : List (List ℕ × Kind)
+kind_words =
+    (codes "head", Head)
+    ∷ (codes "I", I)
+    ∷ (codes "P", P)
+    ∷ (codes "B", B)
+    ∷ (codes "D", D)
+    ∷ []
+
+-- what the first row with this word lists
+abbrev pub listed_by : List (List ℕ × Kind) → List ℕ → Option Kind
+listed_by [] word = None
+listed_by (row ∷ rows) word = if bytes_eq word row.0 then Some row.1 else listed_by rows word
+
+abbrev pub kind_named : List ℕ → Option Kind
+kind_named word = listed_by kind_words word
+
+abbrev pub kind_of : Data → Option Kind
+kind_of d = as_str d >>= kind_named
+
+-- the value of each item, where each has one
+abbrev pub each_of : {A : Type 0} → (Data → Option A) → Items → Option (List A)
+each_of read no_items = Some []
+each_of read (item d ds) = read d >>= (λ x. option_map (λ xs. x ∷ xs) (each_of read ds))
+
+-- the need that stands in a layer
+abbrev pub need_of : Members → Option Need
+need_of ms =
+    if has_key (codes "need") ms
+    then option_map Packets (integer_at (codes "need") ms)
+    else option_map Percent (integer_at (codes "percent") ms)
+
+abbrev pub layer_in : Members → Option LayerText
+layer_in ms =
+    text_at (codes "name") ms >>= (λ name.
+    (array_at (codes "kinds") ms >>= each_of kind_of) >>= (λ kinds.
+    option_map (λ need. record { name = name; kinds = kinds; need = need }) (need_of ms)))
+
+abbrev pub layer_of : Data → Option LayerText
+layer_of d = as_table d >>= layer_in
+
+-- what the document says, where each of its values has the right type
+abbrev pub file_text : Members → Option FileText
+file_text doc =
+    integer_at (codes "packets") doc >>= (λ packets.
+    (array_at (codes "layer") doc >>= each_of layer_of) >>= (λ layers.
+    Some (record { packets = packets; layers = layers })))
+
+abbrev pub no_text : FileText
+no_text = record { packets = pos 0; layers = [] }
+
+-- what the file says, and nothing where a value has another type
+abbrev pub text_in : List ℕ → FileText
+text_in bytes = unwrap_or (file_text (members_in bytes)) no_text

@@ -1,0 +1,9 @@
+pub mod Kinds
+pub mod Priority
+pub mod OnlyOne
+pub mod PriorityLaws
+pub mod Document
+pub mod Draft
+pub mod Bounds
+pub mod Refusals
+pub mod Stages
