@@ -1,0 +1,6 @@
+pub mod Running
+pub mod Totals
+pub mod Holding
+pub mod Adding
+pub mod Beginning
+pub mod Rebasing

@@ -1,0 +1,25 @@
+-- The runs of a group: its maximal rows of adjacent pieces of one layer (this project's own).
+use Rattle.std.specs.Prelude.{ℕ, ◌+◌, List, [], ◌∷◌, map, ◌==◌, if◌then◌else◌}
+use Rattle.pet_base.specs.declared.kind.Kind.{Kind}
+use Rattle.mpeg_scan.specs.declared.piece.Piece.{Piece}
+use Rattle.layer_split.specs.declared.cut.Run.{Run}
+
+-- a piece as a row of its own; `layer_of` gives the layer of a kind
+abbrev pub run_of : (Kind → ℕ) → Piece → Run
+run_of layer_of piece = record { layer = layer_of piece.kind; at = piece.at; len = piece.len }
+
+-- two adjacent rows of one layer as one
+abbrev pub both : Run → Run → Run
+both run next = record { layer = run.layer; at = run.at; len = run.len + next.len }
+
+-- adjacent rows of one layer are put together; the first has come so far
+abbrev pub joined_from : Run → List Run → List Run
+joined_from run [] = run ∷ []
+joined_from run (next ∷ later) = if next.layer == run.layer then joined_from (both run next) later else run ∷ joined_from next later
+
+abbrev pub joined : List Run → List Run
+joined [] = []
+joined (run ∷ later) = joined_from run later
+
+abbrev pub runs_of : (Kind → ℕ) → List Piece → List Run
+runs_of layer_of group = joined (map (run_of layer_of) group)
