@@ -1,0 +1,5 @@
+pub mod Frame
+pub mod Refusals
+pub mod View
+pub mod Reading
+pub mod Laws

@@ -1,0 +1,21 @@
+-- The fields that a header and a frame show.
+use Rattle.std.specs.Prelude.{ℕ, List}
+use Rattle.packet_frame.specs.Frame.{Fields}
+use Rattle.packet_frame.specs.declared.frame.Frame.{Frame}
+use Rattle.packet_frame.specs.declared.frame.Header.{Header}
+
+-- the fields of the packet of this header, number and payload
+abbrev pub fields_with : Header → ℕ → List ℕ → Fields
+fields_with header number payload = record {
+  session = header.session;
+  groups = header.groups;
+  group = header.group;
+  packets = header.table.packets;
+  number = number;
+  layers = header.table.layers;
+  payload = payload;
+}
+
+-- the fields of a frame
+abbrev pub view : Frame → Fields
+view frame = fields_with frame.header frame.number frame.payload.now
