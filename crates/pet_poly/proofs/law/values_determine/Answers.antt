@@ -1,0 +1,5 @@
+use Rattle.pet_poly.specs.Roots.{value_determines}
+use Rattle.pet_poly.proofs.law.values_determine.Goals as goal
+
+pub returns : goal.returns
+returns g c first second points = value_determines g.F.Field.is_element g.F.Field.ops g.met.F.Field.lawful points first second
