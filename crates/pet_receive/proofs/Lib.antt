@@ -1,0 +1,11 @@
+pub mod Rows
+pub mod Cuts
+pub mod Known
+pub mod Needs
+pub mod Holding
+pub mod Shown
+pub mod Received
+pub mod Agreement
+pub mod Sums
+pub mod Grown
+pub mod Accepted

@@ -1,0 +1,90 @@
+use Rattle.std.specs.Prelude.{option_map, is_none, OnErr}
+use Rattle.std.proofs.Common.{◌≡◌, ℕ, ◌+◌, ◌≤◌, List, None, Some, Result, Ok, Err, true, sym, ap, ◌∙◌, arith, subst}
+use Rattle.packet_frame.specs.View.{view}
+use Rattle.pet_interp.specs.Progressive.{step_bound}
+use Rattle.pet_receive.specs.KeptSet.{open_group, count_kept, keep}
+use Rattle.pet_receive.specs.Verdicts.{frame_verdict, is_kept, opens}
+use Rattle.pet_receive.specs.Arrivals.{GroupState, ReceiverState, HasKept, kept_set, stripe_lengths}
+use Rattle.pet_receive.specs.Receiving.{IsReceiver}
+use Rattle.pet_receive.specs.KeptSetLaws.{keepable}
+use Rattle.pet_receive.proofs.Received.{is_ready, set_after, order_after, sound_after, sound_again, cost_after, found_in, count_is}
+use Rattle.pet_receive.proofs.receiver.Receiver.keep.Goals as goal
+
+on_err : {A B : Type 0} (r : Result A B) (P : Type 0) → P → OnErr r P
+on_err (Ok x) P p = tt
+on_err (Err x) P p = p
+
+pub keep_frame-requires-clause-ready : goal.keep_frame-requires-clause-ready
+keep_frame-requires-clause-ready g c =
+    let F = g.F.Field in
+    let r : ReceiverState g.row.F-Elem.Denot = record { session = c.self.inside.session; limit = c.self.inside.limit; groups = c.self.inside.groups.entries } in
+    let f = view c.args.frame.now in
+    let k = keepable (kept_set r) f (subst (λ (v : ReceiverState g.row.F-Elem.Denot). is_kept (frame_verdict (kept_set v) f) ≡ true) (sym c.self.view_is) c.requires.kept) in
+    is_ready F.is_element F.ops F.spelt F.WIDTH F.point_of F.COUNT r c.self.inside.told c.self.inside.cost c.self.invariant f c.requires.frame k
+
+pub returns-in_err-more-clause-err : goal.returns-in_err-more-clause-err
+returns-in_err-more-clause-err g c =
+    let r : ReceiverState g.row.F-Elem.Denot = record { session = c.self.inside.session; limit = c.self.inside.limit; groups = c.self.inside.groups.entries } in
+    let f = view c.args.frame.now in
+    let e = c.in_err-more.ensures.err in
+    let none : open_group (kept_set r) f.group ≡ None = found_in r f.group ∙ ap (option_map (λ (s : GroupState g.row.F-Elem.Denot). s.packets)) e.2 in
+    let after : ReceiverState g.row.F-Elem.Denot = record { session = c.self.inside.session; limit = c.self.inside.limit; groups = c.keep_frame.new.groups.entries } in
+    let all : (after ≡ c.args.self.now) × (c.keep_frame.new.steps ≡ c.args.steps.now) × (opens (kept_set c.args.self.now) f ≡ true) = (
+      ap (λ (es : List (ℕ × GroupState g.row.F-Elem.Denot)). record { session = c.self.inside.session; limit = c.self.inside.limit; groups = es }) e.0 ∙ c.self.view_is,
+      e.1,
+      subst (λ (v : ReceiverState g.row.F-Elem.Denot). opens (kept_set v) f ≡ true) c.self.view_is (ap is_none none),
+    ) in
+    on_err c.from_residual.result ((after ≡ c.args.self.now) × (c.keep_frame.new.steps ≡ c.args.steps.now) × (opens (kept_set c.args.self.now) f ≡ true)) all
+
+pub overflow_add-self : goal.overflow_add-self
+overflow_add-self g c =
+    let F = g.F.Field in
+    let r : ReceiverState g.row.F-Elem.Denot = record { session = c.self.inside.session; limit = c.self.inside.limit; groups = c.self.inside.groups.entries } in
+    let f = view c.args.frame.now in
+    let k = keepable (kept_set r) f (subst (λ (v : ReceiverState g.row.F-Elem.Denot). is_kept (frame_verdict (kept_set v) f) ≡ true) (sym c.self.view_is) c.requires.kept) in
+    let cost = cost_after F.is_element F.ops F.spelt F.WIDTH F.point_of F.COUNT r c.self.inside.told c.self.inside.cost c.self.invariant f c.requires.frame k c.keep_frame.new.groups.entries c.in_ok-more.ensures.grown in
+    let sound = sound_after F.is_element F.ops F.spelt F.WIDTH F.point_of F.COUNT r c.self.inside.told c.self.inside.cost c.self.invariant f c.requires.frame k c.keep_frame.new.groups.entries c.in_ok-more.ensures.grown in
+    omega (arith, cost, sound.within, c.in_ok-more.ensures.more, c.self.invariant.fits)
+
+pub invariant_of-self-2 : goal.invariant_of-self-2
+invariant_of-self-2 g c =
+    let F = g.F.Field in
+    let r : ReceiverState g.row.F-Elem.Denot = record { session = c.self.inside.session; limit = c.self.inside.limit; groups = c.self.inside.groups.entries } in
+    let f = view c.args.frame.now in
+    let k = keepable (kept_set r) f (subst (λ (v : ReceiverState g.row.F-Elem.Denot). is_kept (frame_verdict (kept_set v) f) ≡ true) (sym c.self.view_is) c.requires.kept) in
+    let again = sound_again F.is_element F.ops F.spelt F.WIDTH F.point_of F.COUNT r c.self.inside.told c.self.inside.cost c.self.invariant f c.requires.frame k c.keep_frame.new.groups.entries c.in_ok-more.ensures.grown in
+    subst (λ n. IsReceiver F.is_element F.ops F.spelt F.WIDTH F.point_of F.COUNT (record { session = c.self.inside.session; limit = c.self.inside.limit; groups = c.keep_frame.new.groups.entries }) (Some f.groups) (c.self.inside.cost + n))
+    (sym c.in_ok-more.ensures.more) again
+
+pub returns-clause-kept : goal.returns-clause-kept
+returns-clause-kept g c =
+    let F = g.F.Field in
+    let r : ReceiverState g.row.F-Elem.Denot = record { session = c.self.inside.session; limit = c.self.inside.limit; groups = c.self.inside.groups.entries } in
+    let f = view c.args.frame.now in
+    let k = keepable (kept_set r) f (subst (λ (v : ReceiverState g.row.F-Elem.Denot). is_kept (frame_verdict (kept_set v) f) ≡ true) (sym c.self.view_is) c.requires.kept) in
+    set_after F.is_element F.ops F.spelt F.WIDTH F.point_of F.COUNT r c.self.inside.told c.self.inside.cost c.self.invariant f c.requires.frame k c.keep_frame.new.groups.entries c.in_ok-more.ensures.grown
+    ∙ ap (λ (v : ReceiverState g.row.F-Elem.Denot). keep (kept_set v) f) c.self.view_is
+
+pub returns-clause-order : goal.returns-clause-order
+returns-clause-order g c order kept =
+    let F = g.F.Field in
+    let r : ReceiverState g.row.F-Elem.Denot = record { session = c.self.inside.session; limit = c.self.inside.limit; groups = c.self.inside.groups.entries } in
+    let f = view c.args.frame.now in
+    let k = keepable (kept_set r) f (subst (λ (v : ReceiverState g.row.F-Elem.Denot). is_kept (frame_verdict (kept_set v) f) ≡ true) (sym c.self.view_is) c.requires.kept) in
+    order_after F.is_element F.ops F.spelt F.WIDTH F.point_of F.COUNT r c.self.inside.told c.self.inside.cost c.self.invariant f c.requires.frame k c.keep_frame.new.groups.entries c.in_ok-more.ensures.grown order
+    (subst (λ (v : ReceiverState g.row.F-Elem.Denot). HasKept F.is_element F.ops F.spelt F.WIDTH F.point_of v order) (sym c.self.view_is) kept)
+
+pub returns-clause-cost : goal.returns-clause-cost
+returns-clause-cost g c =
+    let r : ReceiverState g.row.F-Elem.Denot = record { session = c.self.inside.session; limit = c.self.inside.limit; groups = c.self.inside.groups.entries } in
+    let f = view c.args.frame.now in
+    let count = count_is r f.group ∙ ap (λ (v : ReceiverState g.row.F-Elem.Denot). count_kept (kept_set v) f.group) c.self.view_is in
+    subst (λ n. c.keep_frame.new.steps ≤ c.args.steps.now + step_bound n (stripe_lengths f.layers)) count c.in_ok-more.ensures.cost
+
+pub returns-clause-sound : goal.returns-clause-sound
+returns-clause-sound g c =
+    let F = g.F.Field in
+    let r : ReceiverState g.row.F-Elem.Denot = record { session = c.self.inside.session; limit = c.self.inside.limit; groups = c.self.inside.groups.entries } in
+    let f = view c.args.frame.now in
+    let k = keepable (kept_set r) f (subst (λ (v : ReceiverState g.row.F-Elem.Denot). is_kept (frame_verdict (kept_set v) f) ≡ true) (sym c.self.view_is) c.requires.kept) in
+    sound_after F.is_element F.ops F.spelt F.WIDTH F.point_of F.COUNT r c.self.inside.told c.self.inside.cost c.self.invariant f c.requires.frame k c.keep_frame.new.groups.entries c.in_ok-more.ensures.grown

@@ -1,0 +1,74 @@
+-- What the fields of a receiver keep to, and the verdict of a frame in two steps: by what is kept of its group.
+use Rattle.std.specs.Prelude.{◌≡◌, ℕ, ◌+◌, ◌^◌, ◌<◌, ◌≤◌, ◌==◌, Bool, not, nat_lt, if◌then◌else◌, List, [], ◌∷◌, ◌++◌, length, Option, None, Some, option_map, unwrap_or, slice_get, MatchOption}
+use Rattle.std.specs.Ordering.{nat_cmp}
+use Rattle.std.specs.BTreeMap.{is_at, insert_entry}
+use Rattle.std.specs.Map.{lookup}
+use Rattle.std.specs.Str.{bytes_eq}
+use Rattle.pet_base.specs.declared.limits.TheConstants.{MAX_PACKETS}
+use Rattle.pet_field.specs.Field.{Operations}
+use Rattle.stripe_plan.specs.Same.{same_table}
+use Rattle.packet_frame.specs.Frame.{Fields}
+use Rattle.packet_set.specs.Packets.{Packets, slot_at, with_packet}
+use Rattle.pet_encode.specs.Session.{cost_of}
+use Rattle.pet_receive.specs.declared.verdict.Verdict.{Verdict}
+use Rattle.pet_receive.specs.declared.verdict.Verdict.TheVariants.{Clash, Repeated, Full, Kept}
+use Rattle.pet_receive.specs.KeptSet.{KeptSet, IsKeptSet, count_in, cost_kept, header_of, no_packets}
+use Rattle.pet_receive.specs.Verdicts.{layer_set, shown_between}
+use Rattle.pet_receive.specs.ShownBytes.{shown_in}
+use Rattle.pet_receive.specs.Arrivals.{layers_of, GroupState, ReceiverState, Order, HoldsAfter, kept_set, HasKept}
+
+-- the number of groups that the kept frames tell, where one is kept
+abbrev pub told_by : KeptSet → Option ℕ
+told_by set = option_map (λ e. e.1.header.groups) (slice_get set.groups 0)
+
+-- a frame whose number is not kept: it opens its group, or follows so many packets of it
+abbrev pub shows_next : Fields → ℕ → Verdict
+shows_next f before = Kept (layer_set (shown_between f.layers before (before + 1)))
+
+-- by what is kept for its number
+abbrev pub verdict_at : Fields → ℕ → Option (List ℕ) → Verdict
+verdict_at f before None = shows_next f before
+verdict_at f before (Some payload) = if bytes_eq payload f.payload then Repeated else Clash
+
+-- by what is kept of its group, which is open
+abbrev pub verdict_in : Fields → Packets → Verdict
+verdict_in f p = if not (same_table p.header.table (header_of f).table) then Clash else verdict_at f (count_in p) (slot_at p f.number)
+
+-- where its group is not open
+abbrev pub verdict_new : Fields → ℕ → ℕ → Verdict
+verdict_new f limit cost = if nat_lt limit (cost + cost_of f.packets f.layers) then Full else shows_next f 0
+
+-- every layer of a group is shown
+abbrev pub is_whole : Packets → Bool
+is_whole p = shown_in p == length (layers_of p)
+
+-- one for such a group, and nothing for another
+unfoldable pub whole_in : Packets → ℕ
+whole_in p = if is_whole p then 1 else 0
+
+module _ {E : Type 0} (is_element : E → Type 0) (o : Operations E) (spelt : List ℕ → E) (width : ℕ) (point_of : ℕ → E) where
+  -- a frame can be kept next: where its group is open, it has the group's table and its number is not kept
+  pub record IsReadyFor (groups : List (ℕ × GroupState E)) (f : Fields) : Type 0 where
+    pub table : (g : GroupState E) → lookup (is_at (nat_cmp f.group)) groups ≡ Some g → g.packets.header.table ≡ (header_of f).table
+    pub absent : (g : GroupState E) → lookup (is_at (nat_cmp f.group)) groups ≡ Some g → slot_at g.packets f.number ≡ None
+    pub slots : (g : GroupState E) → lookup (is_at (nat_cmp f.group)) groups ≡ Some g → length g.packets.slots ≡ g.packets.header.table.packets
+    pub holds : (g : GroupState E) → lookup (is_at (nat_cmp f.group)) groups ≡ Some g → (numbers : List ℕ) × HoldsAfter is_element o spelt width point_of g numbers
+
+  -- the frame's group has the frame too, is opened where it was not open, and is held for one number more
+  pub record HasGrown (groups : List (ℕ × GroupState E)) (f : Fields) (after : List (ℕ × GroupState E)) : Type 0 where
+    pub state : GroupState E
+    pub entries : after ≡ insert_entry nat_cmp groups f.group state
+    pub packets : state.packets ≡ with_packet (unwrap_or (option_map (λ g. g.packets) (lookup (is_at (nat_cmp f.group)) groups)) (no_packets (header_of f))) f.number f.payload
+    pub holds : (numbers : List ℕ) → MatchOption (lookup (is_at (nat_cmp f.group)) groups) (numbers ≡ []) (λ g. HoldsAfter is_element o spelt width point_of g numbers)
+        → HoldsAfter is_element o spelt width point_of state (numbers ++ (f.number ∷ []))
+
+module _ {E : Type 0} (is_element : E → Type 0) (o : Operations E) (spelt : List ℕ → E) (width : ℕ) (point_of : ℕ → E) (count : ℕ) where
+  -- what is kept is a kept set, the state stands for some order, and both numbers beside it are those of the set
+  pub record IsReceiver (r : ReceiverState E) (told : Option ℕ) (cost : ℕ) : Type 0 where
+    pub two : width ≡ 2
+    pub points : MAX_PACKETS ≤ count
+    pub fits : r.limit < 2 ^ 64
+    pub set : IsKeptSet (kept_set r)
+    pub stands : (order : Order) × HasKept is_element o spelt width point_of r order
+    pub told_is : told ≡ told_by (kept_set r)
+    pub cost_is : cost ≡ cost_kept (kept_set r)

@@ -1,0 +1,56 @@
+-- The bytes of a shown layer, by the frames that were kept. This project's own, on interpolation by polynomials.
+use Rattle.std.specs.Prelude.{◌≡◌, ℕ, ◌+◌, ◌<◌, ◌≤◌, nat_le, List, [], length, take, sum_by, count_by, slice_index_or, Some, option_map, unwrap_or, slice_get, MatchOption}
+use Rattle.std.specs.List.{range_with_len}
+use Rattle.pet_field.specs.Field.{Operations}
+use Rattle.pet_interp.specs.Progressive.{column}
+use Rattle.pet_interp.specs.Points.{IsOnlyThrough}
+use Rattle.stripe_plan.specs.Layers.{plan_stripes, words_before, count_of}
+use Rattle.stripe_plan.specs.Counts.{Meets}
+use Rattle.packet_set.specs.Packets.{Packets, slot_at}
+use Rattle.pet_encode.specs.Payload.{stripes_in, payload_at}
+use Rattle.pet_encode.specs.Session.{IsMessage, bytes_of_layer}
+use Rattle.pet_receive.specs.KeptSet.{KeptSet, open_group, count_in}
+use Rattle.pet_receive.specs.Arrivals.{layers_of, points_of}
+
+-- the layer of a group is shown
+abbrev pub IsShownIn : Packets → ℕ → Type 0
+IsShownIn p layer = (layer < length (layers_of p)) × (count_of (layers_of p) layer ≤ count_in p)
+
+-- the group is open, and the layer is shown
+abbrev pub IsShown : KeptSet → ℕ → ℕ → Type 0
+IsShown set group layer = MatchOption (open_group set group) ⊥ (λ p. IsShownIn p layer)
+
+-- how many layers of a group are shown
+abbrev pub shown_in : Packets → ℕ
+shown_in p = count_by (λ layer. nat_le (count_of (layers_of p) layer) (count_in p)) (range_with_len 0 (length (layers_of p)))
+
+-- how many layers are shown
+abbrev pub shown_in_all : KeptSet → ℕ
+shown_in_all set = sum_by (λ e. shown_in e.1) set.groups
+
+-- the number of groups that the kept frames tell, and 0 where nothing is kept
+abbrev pub groups_told : KeptSet → ℕ
+groups_told set = unwrap_or (option_map (λ e. e.1.header.groups) (slice_get set.groups 0)) 0
+
+-- something is kept, and every layer of every group of the session is shown
+pub record IsComplete (set : KeptSet) : Type 0 where
+  pub some : 0 < length set.groups
+  pub shown : (group : ℕ) → group < groups_told set → MatchOption (open_group set group) ⊥ (λ p. (layer : ℕ) → layer < length (layers_of p) → IsShownIn p layer)
+
+module _ {E : Type 0} (is_element : E → Type 0) (o : Operations E) (spelt : List ℕ → E) (width : ℕ) (point_of : ℕ → E) where
+  -- The bytes of a layer by the packets of these numbers, in their order. Of a stripe of k words that has a word of the
+  -- layer, the words are the only k that have the first k packets' words for this stripe as their values.
+  pub record IsShownBytes (p : Packets) (numbers : List ℕ) (layer : ℕ) (bytes : List ℕ) : Type 0 where
+    pub message : List ℕ
+    pub is_message : IsMessage width (layers_of p) message
+    pub stripes : (j : ℕ) → j < length (plan_stripes (layers_of p))
+        → Meets (words_before (layers_of p) layer) (words_before (layers_of p) (layer + 1)) (slice_index_or (plan_stripes (layers_of p)) j (0, 0))
+        → IsOnlyThrough is_element o
+        (column o j (take (slice_index_or (plan_stripes (layers_of p)) j (0, 0)).1 (points_of spelt width point_of p numbers)))
+        (slice_index_or (stripes_in spelt width (layers_of p) message) j [])
+    pub bytes_are : bytes ≡ bytes_of_layer width (layers_of p) message layer
+
+-- each payload that is kept of the group is that of the message
+abbrev pub Agrees : {E : Type 0} → Operations E → (List ℕ → E) → (E → List ℕ) → ℕ → (ℕ → E) → Packets → List ℕ → Type 0
+Agrees o spelt spelling width point_of p message = (number : ℕ) (payload : List ℕ) → slot_at p number ≡ Some payload
+    → payload ≡ payload_at o spelt spelling width (layers_of p) message (point_of number)

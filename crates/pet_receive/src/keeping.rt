@@ -1,0 +1,88 @@
+//! One frame more for the open groups of a receiver.
+ghost use Rattle.std.specs.Prelude.{◌≡◌, ℕ, ◌+◌, ◌<◌, ◌≤◌, cond, is_none, List, [], ◌∷◌, ◌++◌, length, None, Some, MatchOption, option_map, unwrap_or, IfOk, OnOk, OnErr};
+ghost use Rattle.std.specs.Ordering.{nat_cmp};
+ghost use Rattle.std.specs.BTreeMap.{is_at, insert_entry, IsOrdered};
+ghost use Rattle.std.specs.Map.{lookup, set_value};
+ghost use Rattle.pet_base.specs.declared.limits.TheConstants.{MAX_PACKETS};
+ghost use Rattle.packet_frame.specs.Frame.{IsFrame};
+ghost use Rattle.packet_frame.specs.View.{view};
+ghost use Rattle.packet_set.specs.Packets.{with_packet};
+ghost use Rattle.pet_interp.specs.Progressive.{step_bound};
+ghost use Rattle.pet_encode.specs.Session.{cost_of};
+ghost use Rattle.pet_receive.specs.KeptSet.{no_packets, count_in};
+ghost use Rattle.pet_receive.specs.Arrivals.{GroupState, HoldsAfter, stripe_lengths};
+ghost use Rattle.pet_receive.specs.Receiving.{IsReadyFor, HasGrown};
+
+use crate::group::OpenGroup;
+use crate::judge::group_cost;
+use packet_frame::{Frame, Header};
+use pet_base::{NoMemory, Steps};
+use pet_field::Field;
+use std::alloc::Global;
+use std::collections::BTreeMap;
+use std::sync::ledger::Ledger;
+
+/// Keeps a frame, whose group is opened where it is not open, and answers by how much the cost of the open groups rises.
+pub(crate) fn keep_frame<'f, F: Field, L: Ledger>(
+    alloc: Global,
+    field: &'f F,
+    groups: &mut BTreeMap<u32, OpenGroup<'f, F>>,
+    frame: &Frame<'_>,
+    steps: &mut Steps<L>,
+) -> Result<u64, NoMemory>
+    requires width { F.WIDTH ≡ 2 }
+    requires points { MAX_PACKETS ≤ F.COUNT }
+    requires frame { IsFrame (view frame.now) }
+    requires ready { IsReadyFor F.is_element F.ops F.spelt F.WIDTH F.point_of groups.old.entries (view frame.now) }
+    ensures grown { OnOk result (HasGrown F.is_element F.ops F.spelt F.WIDTH F.point_of groups.old.entries (view frame.now) groups.new.entries) }
+    ensures more { IfOk result (λ more. more ≡ cond (is_none (lookup (is_at (nat_cmp frame.now.header.group)) groups.old.entries)) (cost_of frame.now.header.table.packets frame.now.header.table.layers) 0) }
+    ensures cost { OnOk result (steps.new ≤ steps.old + step_bound (unwrap_or (option_map (λ g. count_in g.packets) (lookup (is_at (nat_cmp frame.now.header.group)) groups.old.entries)) 0) (stripe_lengths frame.now.header.table.layers)) }
+    ensures err { OnErr result ((groups.new.entries ≡ groups.old.entries) × (steps.new ≡ steps.old) × (lookup (is_at (nat_cmp frame.now.header.group)) groups.old.entries ≡ None)) }
+{
+    if groups.contains_key(&frame.header.group) {
+        keep_in(groups, frame, steps);
+        return Ok(0);
+    }
+    open_group(alloc, field, groups, &frame.header)?;
+    keep_in(groups, frame, steps);
+    Ok(group_cost(&frame.header.table))
+}
+
+/// Opens the group of a header, which is not open.
+fn open_group<'f, F: Field>(
+    alloc: Global,
+    field: &'f F,
+    groups: &mut BTreeMap<u32, OpenGroup<'f, F>>,
+    header: &Header,
+) -> Result<(), NoMemory>
+    requires width { F.WIDTH ≡ 2 }
+    ensures opened { OnOk result ((g : GroupState F.Elem) × (groups.new.entries ≡ insert_entry nat_cmp groups.old.entries header.now.group g) × (g.packets ≡ no_packets header.now) × HoldsAfter F.is_element F.ops F.spelt F.WIDTH F.point_of g []) }
+    ensures err { OnErr result (groups.new.entries ≡ groups.old.entries) }
+{
+    let open = OpenGroup::open(alloc, field, header)?;
+    groups.insert(header.group, open)?;
+    Ok(())
+}
+
+/// Keeps a frame of an open group. It takes no memory.
+fn keep_in<'f, F: Field, L: Ledger>(
+    groups: &mut BTreeMap<u32, OpenGroup<'f, F>>,
+    frame: &Frame<'_>,
+    steps: &mut Steps<L>,
+)
+    requires width { F.WIDTH ≡ 2 }
+    requires points { MAX_PACKETS ≤ F.COUNT }
+    requires frame { IsFrame (view frame.now) }
+    requires ready { IsReadyFor F.is_element F.ops F.spelt F.WIDTH F.point_of groups.old.entries (view frame.now) }
+    requires open { (g : GroupState F.Elem) × (lookup (is_at (nat_cmp frame.now.header.group)) groups.old.entries ≡ Some g) }
+    ensures ordered { IsOrdered nat_cmp groups.old }
+    ensures kept { (g : GroupState F.Elem) → lookup (is_at (nat_cmp frame.now.header.group)) groups.old.entries ≡ Some g
+        → (h : GroupState F.Elem) × (groups.new.entries ≡ set_value (is_at (nat_cmp frame.now.header.group)) groups.old.entries h) × (h.packets ≡ with_packet g.packets frame.now.number frame.now.payload.now)
+        × ((numbers : List ℕ) → HoldsAfter F.is_element F.ops F.spelt F.WIDTH F.point_of g numbers → HoldsAfter F.is_element F.ops F.spelt F.WIDTH F.point_of h (numbers ++ (frame.now.number ∷ []))) }
+    ensures cost { (g : GroupState F.Elem) → lookup (is_at (nat_cmp frame.now.header.group)) groups.old.entries ≡ Some g
+        → steps.new ≤ steps.old + step_bound (count_in g.packets) (stripe_lengths frame.now.header.table.layers) }
+{
+    if let Some(open) = groups.get_mut(&frame.header.group) {
+        open.keep(frame.number, frame.payload, steps);
+    }
+}

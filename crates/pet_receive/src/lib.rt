@@ -1,0 +1,22 @@
+//! The receiver of one session: it judges datagrams, keeps the packets of the session, and lends out each layer as soon
+//! as enough packets of its group are kept.
+//!
+//! The verdict of a datagram is the defined one by the set of packets kept so far, and every verdict but `Kept` changes
+//! nothing. A layer is shown from the very packet on that brings its group to the layer's count, and its bytes are those
+//! of the only words that have the kept payloads as their values; where the kept packets are those of a message, they are
+//! the message's. Memory is taken only where a datagram opens a group.
+#![tactic(auto)]
+
+mod group;
+mod judge;
+mod keeping;
+mod receiver;
+mod totals;
+mod verdict;
+mod write;
+
+pub use receiver::Receiver;
+pub use verdict::{LayerSet, Verdict};
+
+#[cfg(test)]
+mod tests;
