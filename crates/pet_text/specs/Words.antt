@@ -1,0 +1,57 @@
+-- The command words, this project's own.
+use Rattle.std.specs.Prelude.{ℕ, ◌+◌, ◌-◌, ◌*◌, ◌&&◌, ◌||◌, ◌==◌, not, nat_le, nat_lt, nat_eq, Bool, List, [], ◌∷◌, length, drop, map, Option, None, Some, option_map, is_some, codes, String, string_bytes, if◌then◌else◌}
+use Rattle.std.specs.List.{starts_with}
+use Rattle.std.specs.Str.{bytes_eq}
+use Rattle.std.specs.declared.alloc.Global.{Global}
+use Rattle.pet_text.specs.declared.words.End.{End}
+use Rattle.pet_text.specs.declared.words.End.TheVariants.{File}
+use Rattle.pet_text.specs.declared.words.Command.{Command}
+use Rattle.pet_text.specs.declared.words.Command.TheVariants.{Receive}
+
+-- the texts of the words
+abbrev pub texts_of : List (String Global) → List (List ℕ)
+texts_of words = map string_bytes words
+
+-- the name behind `file:`, which is not empty
+abbrev pub file_of : List ℕ → Option (List ℕ)
+file_of word = if starts_with nat_eq word (codes "file:") && nat_lt 5 (length word) then Some (drop 5 word) else None
+
+-- a digit out of 0 to 9 and a to f
+abbrev pub digit_of : ℕ → Option ℕ
+digit_of c = if nat_le 48 c && nat_le c 57 then Some (c - 48) else if nat_le 97 c && nat_le c 102 then Some (c - 87) else None
+
+-- a byte of two digits, the high one first
+abbrev pub byte_of : Option ℕ → Option ℕ → Option ℕ
+byte_of None low = None
+byte_of (Some high) None = None
+byte_of (Some high) (Some low) = Some (16 * high + low)
+
+-- a byte before others
+abbrev pub byte_before : Option ℕ → Option (List ℕ) → Option (List ℕ)
+byte_before None bytes = None
+byte_before (Some b) bytes = option_map (λ bs. b ∷ bs) bytes
+
+-- the bytes that pairs of digits spell
+abbrev pub bytes_of : List ℕ → Option (List ℕ)
+bytes_of [] = Some []
+bytes_of (c ∷ []) = None
+bytes_of (c ∷ d ∷ word) = byte_before (byte_of (digit_of c) (digit_of d)) (bytes_of word)
+
+-- a session number: sixteen digits
+abbrev pub session_of : List ℕ → Option (List ℕ)
+session_of word = if length word == 16 then bytes_of word else None
+
+-- `receive FROM SESSION LAYERS`: a file that is read, a session number, and another file that is written
+abbrev pub receive_of : Option (List ℕ) → Option (List ℕ) → List ℕ → Option Command
+receive_of None session layers = None
+receive_of (Some from) None layers = None
+receive_of (Some from) (Some session) layers =
+    if nat_lt 0 (length layers) && not (bytes_eq from layers)
+    then Some (Receive (File from) session layers)
+    else None
+
+-- the command of the words, where they have its form
+abbrev pub command_of : List (List ℕ) → Option Command
+command_of (word ∷ from ∷ session ∷ layers ∷ []) =
+    if bytes_eq word (codes "receive") then receive_of (file_of from) (session_of session) layers else None
+command_of _ = None

@@ -1,0 +1,42 @@
+//! A session number in a command word.
+ghost use Rattle.std.specs.Prelude.{◌≡◌, ◌<◌, length, option_map};
+ghost use Rattle.pet_text.specs.Words.{digit_of, byte_of, session_of};
+
+/// The session number that sixteen digits out of `0` to `9` and `a` to `f` spell.
+pub fn read_session(word: &str) -> Option<[u8; 8]>
+    ensures { result ≡ session_of word.now }
+{
+    let digits = word.as_bytes();
+    if digits.len() != 16 {
+        return None;
+    }
+    let first = read_byte(digits[0], digits[1])?;
+    let second = read_byte(digits[2], digits[3])?;
+    let third = read_byte(digits[4], digits[5])?;
+    let fourth = read_byte(digits[6], digits[7])?;
+    let fifth = read_byte(digits[8], digits[9])?;
+    let sixth = read_byte(digits[10], digits[11])?;
+    let seventh = read_byte(digits[12], digits[13])?;
+    let eighth = read_byte(digits[14], digits[15])?;
+    Some([first, second, third, fourth, fifth, sixth, seventh, eighth])
+}
+
+/// The byte of two digits, the high one first.
+fn read_byte(high: u8, low: u8) -> Option<u8>
+    ensures { result ≡ byte_of (digit_of high) (digit_of low) }
+{
+    let high = read_digit(high)?;
+    let low = read_digit(low)?;
+    Some(high * 16 + low)
+}
+
+/// The value of a digit.
+fn read_digit(digit: u8) -> Option<u8>
+    ensures { result ≡ digit_of digit }
+{
+    match digit {
+        b'0'..=b'9' => Some(digit - b'0'),
+        b'a'..=b'f' => Some(digit - b'a' + 10),
+        _ => None,
+    }
+}
