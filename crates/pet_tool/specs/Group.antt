@@ -1,0 +1,6 @@
+-- The group that a datagram names. This project's own.
+use Rattle.std.specs.Prelude.{ℕ, List}
+use Rattle.packet_frame.specs.Refusals.{fields_of}
+
+unfoldable pub group_in : List ℕ → ℕ
+group_in bytes = (fields_of bytes).group

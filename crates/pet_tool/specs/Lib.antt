@@ -1,0 +1,10 @@
+pub mod Gf16
+pub mod LayersText
+pub mod Reading
+pub mod Group
+pub mod Records
+pub mod Steps
+pub mod Met
+pub mod Outcome
+pub mod Finished
+pub mod Receive

@@ -1,0 +1,109 @@
+//! The records of the layers that one arrival shows.
+ghost use Rattle.std.specs.Prelude.{◌≡◌, ◌==◌, ◌<◌, ◌≤◌, ◌^◌, ℕ, List, [], ◌∷◌, ◌++◌, length, map, true, All, Some, IsSome, OnOk, OnErr};
+ghost use Rattle.std.specs.Int.{w32, to_be_bytes, bit_at};
+ghost use Rattle.packet_set.specs.Packets.{Packets};
+ghost use Rattle.pet_base.specs.declared.place.Side.TheVariants.{Written};
+ghost use Rattle.pet_base.specs.Causes.{Blames};
+ghost use Rattle.pet_base.specs.Seen.{Seen, OnlyWrites, HasBlame};
+ghost use Rattle.pet_receive.specs.Arrivals.{Order, kept_set, numbers_of};
+ghost use Rattle.pet_receive.specs.KeptSet.{open_group};
+ghost use Rattle.pet_receive.specs.ShownBytes.{IsShown};
+ghost use Rattle.pet_tool.specs.Gf16.{HasKeptIn};
+ghost use Rattle.pet_tool.specs.LayersText.{record_text, IsLayer};
+ghost use Rattle.pet_tool.specs.Records.{layers_in, records_text, AreLayersOf};
+ghost use Rattle.pet_tool.specs.Reading.{Puts, PutsPart};
+
+use arrayvec::ArrayVec;
+use pet_base::{Failed, Place};
+use pet_field::Gf16Plain;
+use pet_receive::{LayerSet, Receiver};
+
+/// A layer that is shown, with its bytes.
+#[derive(Clone, Copy, Default)]
+pub(crate) struct ShownLayer<'a> {
+    layer: u8,
+    bytes: &'a [u8],
+}
+
+/// The layers of the set, each lent out by the receiver.
+pub(crate) fn shown_layers<'a>(
+    receiver: &'a Receiver<'_, Gf16Plain>,
+    group: u32,
+    shown: LayerSet,
+) -> ArrayVec<ShownLayer<'a>, 16>
+    requires shown { (layer : ℕ) → bit_at shown.bits layer ≡ 1 → IsShown (kept_set receiver.now) group layer }
+    ensures layers { map (λ e. e.layer) result.items ≡ layers_in shown }
+    ensures bytes { AreLayersOf receiver.now group result.items }
+{
+    let mut layers = ArrayVec::new();
+    for layer in 0..16u8 {
+        if !shown.has(layer) {
+            continue;
+        }
+        let bytes = shown_layer(receiver, group, layer);
+        layers.push(ShownLayer { layer, bytes });
+    }
+    layers
+}
+
+/// The bytes of a layer that is shown.
+fn shown_layer<'a>(receiver: &'a Receiver<'_, Gf16Plain>, group: u32, layer: u8) -> &'a [u8]
+    requires { IsShown (kept_set receiver.now) group layer }
+    ensures { (order : Order) (p : Packets) → HasKeptIn receiver.now order → open_group (kept_set receiver.now) group ≡ Some p → IsLayer p (numbers_of order group) layer result.now }
+{
+    match receiver.layer(group, layer) {
+        Some(bytes) => bytes,
+        None => &[],
+    }
+}
+
+/// Puts the records of the layers to the output, in their order.
+pub(crate) fn put_records<P: Place>(
+    place: &mut P,
+    arrival: u32,
+    group: u32,
+    layers: &[ShownLayer<'_>],
+) -> Result<(), Failed>
+    requires output { (P.seen place.old).has_output ≡ true }
+    requires short { All (λ e. length e.bytes.now < 2 ^ 32) layers.now }
+    ensures files { OnOk result (Puts (records_text arrival group layers.now) (P.seen place.old) (P.seen place.new)) }
+    ensures part { OnErr result (PutsPart (records_text arrival group layers.now) (P.seen place.old) (P.seen place.new)) }
+    ensures others { OnlyWrites (P.seen place.old) (P.seen place.new) }
+    ensures cause { HasBlame (P.seen place.old) (P.seen place.new) result (Blames Written (P.seen place.old).target) }
+{
+    for shown in layers {
+        put_record(place, arrival, group, shown.layer, shown.bytes)?;
+    }
+    Ok(())
+}
+
+/// Puts the record of one layer to the output.
+fn put_record<P: Place>(
+    place: &mut P,
+    arrival: u32,
+    group: u32,
+    layer: u8,
+    bytes: &[u8],
+) -> Result<(), Failed>
+    requires output { (P.seen place.old).has_output ≡ true }
+    requires short { length bytes.now < 2 ^ 32 }
+    ensures files { OnOk result (Puts (record_text arrival group layer bytes.now) (P.seen place.old) (P.seen place.new)) }
+    ensures part { OnErr result (PutsPart (record_text arrival group layer bytes.now) (P.seen place.old) (P.seen place.new)) }
+    ensures others { OnlyWrites (P.seen place.old) (P.seen place.new) }
+    ensures cause { HasBlame (P.seen place.old) (P.seen place.new) result (Blames Written (P.seen place.old).target) }
+{
+    place.put(record_head(arrival, group, layer, bytes.len() as u32).as_slice())?;
+    place.put(bytes)
+}
+
+/// The 13 bytes before those of a layer.
+fn record_head(arrival: u32, group: u32, layer: u8, length: u32) -> ArrayVec<u8, 13>
+    ensures { result.items ≡ to_be_bytes w32 arrival ++ to_be_bytes w32 group ++ (layer ∷ []) ++ to_be_bytes w32 length }
+{
+    let mut head = ArrayVec::new();
+    let _ = head.try_extend_from_slice(&arrival.to_be_bytes());
+    let _ = head.try_extend_from_slice(&group.to_be_bytes());
+    head.push(layer);
+    let _ = head.try_extend_from_slice(&length.to_be_bytes());
+    head
+}
