@@ -1,0 +1,12 @@
+pub mod Above
+pub mod SizesBy
+pub mod Tabled
+pub mod Keeping
+pub mod Planned
+pub mod Taking
+pub mod Passed
+pub mod Sourced
+pub mod Ending
+pub mod Looking
+pub mod Reading
+pub mod MarkedSources

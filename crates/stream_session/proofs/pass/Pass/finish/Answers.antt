@@ -1,0 +1,11 @@
+use Rattle.stream_session.proofs.Passed.{finish_refused, finish_plan, finish_fault}
+use Rattle.stream_session.proofs.pass.Pass.finish.Goals as goal
+
+pub returns-in-Some-clause-refused : goal.returns-in-Some-clause-refused
+returns-in-Some-clause-refused c priority file stream passed = finish_refused c.args.self _ priority file stream c.in-Some.is passed
+
+pub returns-in-Ok-clause-plan : goal.returns-in-Ok-clause-plan
+returns-in-Ok-clause-plan c = finish_plan c.args.self c.plan_of.result c.finish.new.pieces.items _ c.in_default.not-Some c.deref.ensures.value c.in-Ok.ensures.ok c.plan_of.ensures.plan
+
+pub returns-in-Ok-clause-refused : goal.returns-in-Ok-clause-refused
+returns-in-Ok-clause-refused c = finish_fault c.args.self c.plan_of.result c.finish.new.pieces.items _ c.in_default.not-Some c.deref.ensures.value c.in-Ok.ensures.ok c.plan_of.ensures.refused

@@ -1,0 +1,31 @@
+-- A stream and a priority file that are an accepted session, and the session that they are. This project's own.
+use Rattle.std.specs.Prelude.{◌≡◌, ℕ, List, length, map, None}
+use Rattle.mpeg_scan.specs.Refusals.{IsAccepted}
+use Rattle.mpeg_scan.specs.Pieces.{pieces_of}
+use Rattle.priority_file.specs.Priority.{Priorities}
+use Rattle.priority_file.specs.Refusals.{refusal_of, priorities_of}
+use Rattle.layer_split.specs.Layers.{Cut, message}
+use Rattle.pet_encode.specs.Session.{Session, SessionGroup}
+use Rattle.stream_session.specs.Tables.{sizes_of, cuts_of_stream}
+use Rattle.stream_session.specs.Refusals.{session_fault}
+use Rattle.stream_session.specs.Number.{session_number}
+
+-- neither is refused, and no cause holds against their plan
+pub record IsAcceptedSession (priority stream : List ℕ) : Type 0 where
+  pub priority_read : refusal_of priority ≡ None
+  pub stream_read : IsAccepted stream
+  pub fits : session_fault (priorities_of priority) (pieces_of stream) ≡ None
+
+-- a group: its table, and the message of its layers
+abbrev pub group_of : Priorities → List ℕ → Cut → SessionGroup
+group_of priority stream cut = record {
+  packets = priority.packets;
+  layers = sizes_of priority cut;
+  message = message stream cut.runs (length priority.layers);
+}
+
+abbrev pub session_of : List ℕ → List ℕ → Session
+session_of priority stream = record {
+  number = session_number priority stream;
+  groups = map (group_of (priorities_of priority) stream) (cuts_of_stream (priorities_of priority) stream);
+}

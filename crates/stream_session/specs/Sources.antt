@@ -1,0 +1,85 @@
+-- The session of a stream and a priority file that a place holds, and why there is none. This project's own.
+use Rattle.std.specs.Prelude.{◌≡◌, ◌≢◌, ◌⊎◌, ℕ, List, Option, None, Some}
+use Rattle.pet_base.specs.Seen.{Seen, Files, HadFault}
+use Rattle.mpeg_scan.specs.Refusals.{Refuses, IsAccepted}
+use Rattle.mpeg_scan.specs.Pieces.{pieces_of}
+use Rattle.priority_file.specs.declared.fault.PriorityFault.{PriorityFault}
+use Rattle.priority_file.specs.declared.fault.PriorityFault.TheVariants as rules
+use Rattle.priority_file.specs.Priority.{Priorities}
+use Rattle.priority_file.specs.Refusals.{refusal_of, priorities_of}
+use Rattle.stream_session.specs.declared.fault.SessionFault.TheVariants as session
+use Rattle.stream_session.specs.declared.input.InputFault.{InputFault}
+use Rattle.stream_session.specs.declared.input.InputFault.TheVariants as input
+use Rattle.stream_session.specs.declared.pass.SessionPlan.{SessionPlan}
+use Rattle.stream_session.specs.declared.pass.StreamFault.{StreamFault}
+use Rattle.stream_session.specs.declared.pass.StreamFault.TheVariants as pass
+use Rattle.stream_session.specs.declared.source.Source.{Source}
+use Rattle.stream_session.specs.declared.source.SourceFault.{SourceFault}
+use Rattle.stream_session.specs.declared.source.SourceFault.TheVariants.{NoMemory, Failed, Priority, Stream, Plan}
+use Rattle.stream_session.specs.Tables.{tables_of, cuts_of_stream}
+use Rattle.stream_session.specs.Refusals.{session_fault}
+use Rattle.stream_session.specs.Number.{session_number}
+use Rattle.stream_session.specs.Accepted.{IsAcceptedSession}
+use Rattle.stream_session.specs.Inputs.{IsFile, IsRead}
+use Rattle.stream_session.specs.Passing.{IsPlanOf}
+
+-- each cause as one of both files
+abbrev pub of_input : InputFault → SourceFault
+of_input input.NoMemory = NoMemory
+of_input input.Failed = Failed
+
+abbrev pub of_priority : PriorityFault → SourceFault
+of_priority rules.NoMemory = NoMemory
+of_priority fault = Priority fault
+
+abbrev pub of_stream : StreamFault → SourceFault
+of_stream (pass.Stream scan) = Stream scan
+of_stream (pass.Plan fault) = Plan fault
+of_stream pass.NoMemory = NoMemory
+
+-- The files are an accepted session, and this is its priority, its number and its tables.
+pub record IsSource (files : Option Files) (stream priority : List ℕ) (source : Source) : Type 0 where
+  pub file : List ℕ
+  pub bytes : List ℕ
+  pub priority_is : IsFile files priority file
+  pub stream_is : IsFile files stream bytes
+  pub accepted : IsAcceptedSession file bytes
+  pub rules : source.priority ≡ priorities_of file
+  pub number : source.number ≡ session_number file bytes
+  pub tables : source.tables.items ≡ tables_of (priorities_of file) (cuts_of_stream (priorities_of file) bytes)
+
+-- The priority file is accepted, and this holds of both files.
+pub record BothFiles (files : Option Files) (stream priority : List ℕ) (P : List ℕ → List ℕ → Type 0) : Type 0 where
+  pub file : List ℕ
+  pub bytes : List ℕ
+  pub priority_is : IsFile files priority file
+  pub stream_is : IsFile files stream bytes
+  pub accepted : refusal_of file ≡ None
+  pub holds : P file bytes
+
+-- When each fault comes: want of memory at any time, a failure where the place had a fault at one of the files, and else
+-- the first refusal, of the priority file, of the stream, or of the plan.
+abbrev pub IsSourceFault : Seen → Seen → List ℕ → List ℕ → SourceFault → Type 0
+IsSourceFault old new stream priority NoMemory = Unit {0}
+IsSourceFault old new stream priority Failed = HadFault old new (λ b. IsRead stream b ⊎ IsRead priority b)
+IsSourceFault old new stream priority (Priority fault) =
+    (file : List ℕ) × IsFile old.files priority file × (refusal_of file ≡ Some fault)
+IsSourceFault old new stream priority (Stream scan) = BothFiles old.files stream priority (λ file bytes. Refuses bytes scan)
+IsSourceFault old new stream priority (Plan fault) =
+    BothFiles old.files stream priority (λ file bytes.
+    IsAccepted bytes × (fault ≢ session.NoMemory) × (session_fault (priorities_of file) (pieces_of bytes) ≡ Some fault))
+
+-- the file of this name is a stream, and this is its session
+pub record HasPlanAt (files : Option Files) (name : List ℕ) (priority : Priorities) (file : List ℕ) (plan : SessionPlan) : Type 0 where
+  pub bytes : List ℕ
+  pub stream_is : IsFile files name bytes
+  pub plan_is : IsPlanOf plan priority file bytes
+
+-- when each fault comes of a stream alone
+abbrev pub IsFaultAt : Seen → Seen → List ℕ → Priorities → SourceFault → Type 0
+IsFaultAt old new name priority NoMemory = Unit {0}
+IsFaultAt old new name priority Failed = HadFault old new (IsRead name)
+IsFaultAt old new name priority (Priority fault) = ⊥
+IsFaultAt old new name priority (Stream scan) = (bytes : List ℕ) × IsFile old.files name bytes × Refuses bytes scan
+IsFaultAt old new name priority (Plan fault) =
+    (bytes : List ℕ) × IsFile old.files name bytes × IsAccepted bytes × (fault ≢ session.NoMemory) × (session_fault priority (pieces_of bytes) ≡ Some fault)

@@ -1,0 +1,29 @@
+-- The tables of a stream's groups: each layer's length is that of the cut, and its need that of the priority. This
+-- project's own.
+use Rattle.std.specs.Prelude.{ℕ, List, [], ◌∷◌, map}
+use Rattle.stripe_plan.specs.declared.layer.LayerSize.{LayerSize}
+use Rattle.stripe_plan.specs.Sizes.{Sizes}
+use Rattle.mpeg_scan.specs.Pieces.{pieces_of}
+use Rattle.priority_file.specs.Priority.{Rule, Priorities}
+use Rattle.layer_split.specs.Groups.{groups_of}
+use Rattle.layer_split.specs.Layers.{Cut}
+use Rattle.layer_split.specs.Splitting.{cuts_of}
+
+-- these lengths, each with the need of its layer
+abbrev pub sizes_with : List ℕ → List Rule → List LayerSize
+sizes_with (bytes ∷ lengths) (rule ∷ rules) = record { length = bytes; need = rule.need } ∷ sizes_with lengths rules
+sizes_with _ _ = []
+
+-- the layers of a cut
+abbrev pub sizes_of : Priorities → Cut → List LayerSize
+sizes_of priority cut = sizes_with cut.lengths priority.layers
+
+abbrev pub table_of : Priorities → Cut → Sizes
+table_of priority cut = record { packets = priority.packets; layers = sizes_of priority cut }
+
+abbrev pub tables_of : Priorities → List Cut → List Sizes
+tables_of priority cuts = map (table_of priority) cuts
+
+-- the cuts of a stream's groups
+abbrev pub cuts_of_stream : Priorities → List ℕ → List Cut
+cuts_of_stream priority stream = cuts_of priority (groups_of (pieces_of stream))

@@ -1,0 +1,40 @@
+//! The session that a stream and a priority file are: why there is none, its number, and its tables.
+//!
+//! `specs/` defines the tables of a stream's groups, the first cause that holds against a session, and the session's
+//! number. `Planner` makes exactly those tables out of pieces that come one by one, or refuses by exactly that cause; it
+//! holds no bytes of the stream, and one table a group. `Pass` does so for a stream that comes in portions of any size, and
+//! hashes it. `read_source` reads both files of a place, and answers the session that they are, or why they are none.
+//! `GroupCutter` gives a stream's groups with their bytes, each once it has ended, and holds one at a time. `read_marked`
+//! reads as `read_source` does, and gives each group's mark too, by which a later reading can be compared.
+#![tactic(auto)]
+
+mod fault;
+mod groups;
+mod input;
+mod mark;
+mod marked;
+mod marking;
+mod needs;
+mod pass;
+mod planner;
+mod reader;
+mod source;
+mod total;
+
+pub use fault::SessionFault;
+pub use groups::{Group, GroupCutter};
+pub use input::{InputFault, portion_room, read_file, take_portion};
+pub use mark::GroupMark;
+pub use marked::{MarkedSource, read_marked};
+pub use pass::{Pass, SessionPlan, StreamFault};
+pub use planner::Planner;
+pub use source::{Source, SourceFault, read_source};
+
+#[cfg(test)]
+mod group_tests;
+#[cfg(test)]
+mod mark_tests;
+#[cfg(test)]
+mod source_tests;
+#[cfg(test)]
+mod tests;

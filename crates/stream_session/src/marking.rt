@@ -1,0 +1,104 @@
+//! The first pass over a stream whose groups are marked.
+ghost use Rattle.std.specs.Prelude.{◌≡◌, ◌<◌, ◌^◌, ◌++◌, ℕ, List, [], length, OnOk, IfOk, IfErr};
+ghost use Rattle.priority_file.specs.Priority.{Priorities};
+ghost use Rattle.stream_session.specs.Cutting.{IsCuttable};
+ghost use Rattle.stream_session.specs.Passing.{IsStreamFault};
+ghost use Rattle.stream_session.specs.Marks.{group_marks, marks_of};
+ghost use Rattle.stream_session.specs.Marking.{AreMarked, HasMarked, IsMarkedPlanOf};
+
+use crate::groups::{Group, GroupCutter};
+use crate::mark::GroupMark;
+use crate::pass::{Pass, SessionPlan, StreamFault};
+use pet_base::NoMemory;
+use priority_file::Priority;
+use std::alloc::Global;
+
+/// The session of a stream, and the marks of its groups.
+#[derive(Drop)]
+pub(crate) struct MarkedPlan {
+    pub plan: SessionPlan,
+    // one for each group, in order
+    pub marks: Vec<GroupMark>,
+}
+
+/// A pass that marks each group as it ends, and then lets it go. It holds the bytes of the group that has not ended.
+#[derive(Drop)]
+pub(crate) struct MarkedPass {
+    pass: Pass,
+    cutter: GroupCutter,
+    marks: Vec<GroupMark>,
+}
+
+impl MarkedPass {
+    /// A pass that has read nothing. `file` has the bytes of the priority file.
+    pub fn new(alloc: Global, priority: &Priority, file: &[u8]) -> Result<MarkedPass, NoMemory>
+        requires { length file.now < 2 ^ 32 }
+        ensures { IfOk result (λ marked. HasMarked marked priority.now file.now []) }
+    {
+        Ok(MarkedPass {
+            pass: Pass::new(alloc, priority, file)?,
+            cutter: GroupCutter::new(alloc, priority)?,
+            marks: Vec::new(alloc),
+        })
+    }
+
+    /// Reads the next portion of the stream. A refusal of the stream or its groups is kept until the end.
+    pub fn add(&mut self, portion: &[u8]) -> Result<(), NoMemory>
+        ensures { OnOk result ((priority : Priorities) (file stream : List ℕ) → HasMarked self.old priority file stream
+            → HasMarked self.new priority file (stream ++ portion.now)) }
+    {
+        self.pass.add(portion)?;
+        self.cutter.feed(portion)?;
+        mark_ended(&mut self.cutter, &mut self.marks)
+    }
+
+    /// Ends the stream, and answers its session and the marks of its groups.
+    ///
+    /// # Errors
+    ///
+    /// The refusal of the stream, or else that of its plan.
+    pub fn finish(self) -> Result<MarkedPlan, StreamFault>
+        ensures plan { IfOk result (λ marked. (priority : Priorities) (file stream : List ℕ) → HasMarked self priority file stream
+            → IsMarkedPlanOf marked priority file stream) }
+        ensures refused { IfErr result (λ fault. (priority : Priorities) (file stream : List ℕ) → HasMarked self priority file stream
+            → IsStreamFault priority stream fault) }
+    {
+        let plan = self.pass.finish()?;
+        let mut cutter = self.cutter;
+        let mut marks = self.marks;
+        mark_last(&mut cutter, &mut marks)?;
+        Ok(MarkedPlan { plan, marks })
+    }
+}
+
+/// Marks the groups that have ended.
+fn mark_ended(cutter: &mut GroupCutter, marks: &mut Vec<GroupMark>) -> Result<(), NoMemory>
+    ensures { OnOk result ((priority : Priorities) (stream : List ℕ) → AreMarked cutter.old marks.old.items priority stream
+        → AreMarked cutter.new marks.new.items priority stream) }
+{
+    while let Some(ended) = cutter.next()? {
+        marks.push(GroupMark::of(&ended.bytes))?;
+    }
+    Ok(())
+}
+
+/// Marks the groups that are left at the end of the stream, of which the cutter gives none where it refuses the stream.
+fn mark_last(cutter: &mut GroupCutter, marks: &mut Vec<GroupMark>) -> Result<(), NoMemory>
+    ensures { OnOk result ((priority : Priorities) (stream : List ℕ) → AreMarked cutter.old marks.old.items priority stream
+        → IsCuttable priority stream → marks.new.items ≡ marks_of priority stream) }
+{
+    match cutter.finish()? {
+        Some(groups) => mark_all(&groups, marks),
+        None => Ok(()),
+    }
+}
+
+/// Marks these groups.
+fn mark_all(groups: &[Group], marks: &mut Vec<GroupMark>) -> Result<(), NoMemory>
+    ensures { OnOk result (marks.new.items ≡ marks.old.items ++ group_marks groups.now) }
+{
+    for group in groups {
+        marks.push(GroupMark::of(&group.bytes))?;
+    }
+    Ok(())
+}

@@ -1,0 +1,168 @@
+//! The tables of a stream's groups, made piece by piece.
+ghost use Rattle.std.specs.Prelude.{◌≡◌, ◌≢◌, ◌<◌, ◌++◌, ◌∷◌, List, [], All, length, Option, Some, None, IfOk, IfErr, OnOk};
+ghost use Rattle.pet_base.specs.declared.limits.TheConstants.{MAX_GROUPS};
+ghost use Rattle.mpeg_scan.specs.declared.piece.Piece.{Piece};
+ghost use Rattle.priority_file.specs.Priority.{Priorities};
+ghost use Rattle.layer_split.specs.Groups.{groups_of};
+ghost use Rattle.layer_split.specs.Layers.{Cut};
+ghost use Rattle.layer_split.specs.Splitting.{cuts_of, cuts_in};
+ghost use Rattle.stream_session.specs.declared.fault.SessionFault.{SessionFault};
+ghost use Rattle.stream_session.specs.Tables.{tables_of};
+ghost use Rattle.stream_session.specs.Refusals.{session_fault, fault_after, fault_of_cuts};
+ghost use Rattle.stream_session.specs.TableLaws.{IsFit};
+ghost use Rattle.stream_session.specs.Planning.{HasPlanned, HasTables, HasRefused, KeepsRest};
+
+use crate::fault::SessionFault;
+use crate::needs::LayerNeeds;
+use crate::total::first_too_large;
+use layer_split::{GroupCut, SplitFault, Splitter};
+use mpeg_scan::Piece;
+use pet_base::NoMemory;
+use priority_file::Priority;
+use std::alloc::Global;
+use stripe_plan::Table;
+
+/// Makes the tables of a stream's groups, piece by piece, and keeps a refusal back until the end. It holds no bytes of
+/// the stream.
+#[derive(Drop)]
+pub struct Planner {
+    needs: LayerNeeds,
+    splitter: Splitter,
+    // the tables of the groups that have ended, up to the first that is too wide
+    tables: Vec<Table>,
+    // the first group that is too wide
+    wide: Option<u32>,
+    // why the splitter has refused
+    refused: Option<SessionFault>,
+}
+
+impl Planner {
+    /// A planner for this priority, to which no piece was added. It takes no memory.
+    pub fn new(alloc: Global, priority: &Priority) -> Result<Planner, NoMemory>
+        ensures { IfOk result (λ planner. HasPlanned planner priority.now []) }
+    {
+        let splitter = Splitter::new(alloc, priority)?;
+        Ok(Planner {
+            needs: LayerNeeds::new(priority),
+            splitter,
+            tables: Vec::new(alloc),
+            wide: None,
+            refused: None,
+        })
+    }
+
+    /// Adds the next piece. It fails only for want of memory: a refusal of the pieces is answered at the end.
+    pub fn add(&mut self, piece: &Piece) -> Result<(), NoMemory>
+        ensures { OnOk result ((priority : Priorities) (pieces : List Piece) → HasPlanned self.old priority pieces → HasPlanned self.new priority (pieces ++ piece.now ∷ [])) }
+    {
+        if self.refused.is_some() {
+            return Ok(());
+        }
+        match self.splitter.add(piece) {
+            Ok(cut) => self.keep(cut),
+            Err(fault) => self.refuse(fault),
+        }
+    }
+
+    /// The tables of all groups in order, or the first cause that holds against them.
+    pub fn finish(mut self) -> Result<Vec<Table>, SessionFault>
+        ensures tables { IfOk result (λ tables. (priority : Priorities) (pieces : List Piece) → HasPlanned self priority pieces
+            → (session_fault priority pieces ≡ None) × (tables.items ≡ tables_of priority (cuts_of priority (groups_of pieces)))) }
+        ensures refused { IfErr result (λ fault. fault ≢ SessionFault.NoMemory → (priority : Priorities) (pieces : List Piece) → HasPlanned self priority pieces
+            → session_fault priority pieces ≡ Some fault) }
+    {
+        if let Some(fault) = self.refused {
+            return Err(fault);
+        }
+        match self.splitter.finish() {
+            Ok(cut) => self.end(cut),
+            Err(fault) => Err(refusal_of(fault)),
+        }
+    }
+
+    // The tables with that of the last group, or the first cause that holds against the groups.
+    fn end(mut self, cut: Option<GroupCut>) -> Result<Vec<Table>, SessionFault>
+        ensures tables { IfOk result (λ tables. (priority : Priorities) (cuts : List Cut) → length cuts < MAX_GROUPS → All (IsFit priority) (cuts_in cut)
+            → HasTables self priority cuts
+            → (fault_of_cuts priority (cuts ++ cuts_in cut) ≡ None) × (tables.items ≡ tables_of priority (cuts ++ cuts_in cut))) }
+        ensures refused { IfErr result (λ fault. fault ≢ SessionFault.NoMemory → (priority : Priorities) (cuts : List Cut) → length cuts < MAX_GROUPS
+            → All (IsFit priority) (cuts_in cut) → HasTables self priority cuts
+            → fault_of_cuts priority (cuts ++ cuts_in cut) ≡ Some fault) }
+    {
+        match self.keep(cut) {
+            Ok(()) => self.judged(),
+            Err(NoMemory) => Err(SessionFault::NoMemory),
+        }
+    }
+
+    // The tables, or the first cause that holds against the groups that have ended.
+    fn judged(self) -> Result<Vec<Table>, SessionFault>
+        ensures tables { IfOk result (λ tables. (priority : Priorities) (cuts : List Cut) → HasTables self priority cuts
+            → (fault_of_cuts priority cuts ≡ None) × (tables.items ≡ tables_of priority cuts)) }
+        ensures refused { IfErr result (λ fault. (priority : Priorities) (cuts : List Cut) → HasTables self priority cuts
+            → fault_of_cuts priority cuts ≡ Some fault) }
+    {
+        if let Some(group) = self.wide {
+            return Err(SessionFault::TooWide(group));
+        }
+        match first_too_large(&self.tables) {
+            Some(group) => Err(SessionFault::TooLarge(group)),
+            None => Ok(self.tables),
+        }
+    }
+
+    // Keeps why the splitter has refused.
+    fn refuse(&mut self, fault: SplitFault) -> Result<(), NoMemory>
+        ensures { OnOk result (HasRefused self.new fault) }
+    {
+        if fault == SplitFault::NoMemory {
+            return Err(NoMemory);
+        }
+        self.refused = Some(refusal_of(fault));
+        Ok(())
+    }
+
+    // Keeps the table of the next group, where there is one.
+    fn keep(&mut self, cut: Option<GroupCut>) -> Result<(), NoMemory>
+        ensures kept { OnOk result ((priority : Priorities) (cuts : List Cut) → length cuts < MAX_GROUPS → All (IsFit priority) (cuts_in cut)
+            → HasTables self.old priority cuts → HasTables self.new priority (cuts ++ cuts_in cut)) }
+        ensures rest { KeepsRest self.old self.new }
+    {
+        match cut {
+            Some(cut) => self.keep_table(&cut),
+            None => Ok(()),
+        }
+    }
+
+    // Keeps the table of the next group, or its number where it is the first that is too wide.
+    fn keep_table(&mut self, cut: &GroupCut) -> Result<(), NoMemory>
+        ensures kept { OnOk result ((priority : Priorities) (cuts : List Cut) → length cuts < MAX_GROUPS → IsFit priority cut.now
+            → HasTables self.old priority cuts → HasTables self.new priority (cuts ++ cut.now ∷ [])) }
+        ensures rest { KeepsRest self.old self.new }
+    {
+        if self.wide.is_some() {
+            return Ok(());
+        }
+        match self.needs.table_of(cut) {
+            Some(table) => {
+                self.tables.push(table)?;
+                Ok(())
+            }
+            None => {
+                self.wide = Some(self.tables.len().min(u32::MAX as usize) as u32);
+                Ok(())
+            }
+        }
+    }
+}
+
+// The same cause, as one against a session.
+fn refusal_of(fault: SplitFault) -> SessionFault
+    ensures { (later : Option SessionFault) → fault_after (Some fault) later ≡ Some result }
+{
+    match fault {
+        SplitFault::GroupTooLong(group) => SessionFault::GroupTooLong(group),
+        SplitFault::TooManyGroups => SessionFault::TooManyGroups,
+        SplitFault::NoMemory => SessionFault::NoMemory,
+    }
+}

@@ -1,0 +1,157 @@
+//! The session of a stream and a priority file that a place holds.
+ghost use Rattle.std.specs.Prelude.{◌≡◌, ◌<◌, ◌≤◌, ◌^◌, length, IfOk, IfErr};
+ghost use Rattle.pet_base.specs.Seen.{Seen, KeepsOutput};
+ghost use Rattle.stream_session.specs.Sources.{IsSource, IsSourceFault, HasPlanAt, IsFaultAt};
+
+use crate::fault::SessionFault;
+use crate::input::{InputFault, read_file};
+use crate::pass::{Pass, SessionPlan, StreamFault};
+use crate::reader::read_through;
+use mpeg_scan::Scan;
+use pet_base::{Failed, MAX_PRIORITY_FILE, NoMemory, Place};
+use priority_file::{Priority, PriorityFault, read_priority};
+use std::alloc::{AllocError, Global};
+use stripe_plan::Table;
+
+/// The session that a stream and a priority file are.
+#[derive(Drop)]
+pub struct Source {
+    pub priority: Priority,
+    /// The first eight bytes of a digest of the priority file and the stream.
+    pub number: [u8; 8],
+    /// One for each group, in order.
+    pub tables: Vec<Table>,
+}
+
+/// Why two files are no session: the first that holds of the priority file, the stream and the plan, in this order.
+#[derive(Clone, Copy, Debug, PartialEq, Eq)]
+pub enum SourceFault {
+    /// No memory was found.
+    NoMemory,
+    /// A call of the place failed.
+    Failed,
+    /// The priority file is refused. `PriorityFault::NoMemory` never stands here.
+    Priority(PriorityFault),
+    /// The stream is refused. `Scan::NoMemory` never stands here.
+    Stream(Scan),
+    /// There is no plan of the stream. `SessionFault::NoMemory` never stands here.
+    Plan(SessionFault),
+}
+
+impl From<AllocError> for SourceFault {
+    ghost use Rattle.stream_session.specs.declared.source.SourceFault.TheVariants.{NoMemory};
+
+    ghost from_gives = { λ _ fault. fault ≡ NoMemory };
+
+    fn from(_e: AllocError) -> SourceFault {
+        SourceFault::NoMemory
+    }
+}
+
+impl From<NoMemory> for SourceFault {
+    ghost use Rattle.stream_session.specs.declared.source.SourceFault.TheVariants.{NoMemory};
+
+    ghost from_gives = { λ _ fault. fault ≡ NoMemory };
+
+    fn from(_e: NoMemory) -> SourceFault {
+        SourceFault::NoMemory
+    }
+}
+
+impl From<Failed> for SourceFault {
+    ghost use Rattle.stream_session.specs.declared.source.SourceFault.TheVariants.{Failed};
+
+    ghost from_gives = { λ _ fault. fault ≡ Failed };
+
+    fn from(_e: Failed) -> SourceFault {
+        SourceFault::Failed
+    }
+}
+
+impl From<InputFault> for SourceFault {
+    ghost use Rattle.stream_session.specs.Sources.{of_input};
+
+    ghost from_gives = { λ e fault. fault ≡ of_input e };
+
+    fn from(e: InputFault) -> SourceFault {
+        match e {
+            InputFault::NoMemory => SourceFault::NoMemory,
+            InputFault::Failed => SourceFault::Failed,
+        }
+    }
+}
+
+impl From<PriorityFault> for SourceFault {
+    ghost use Rattle.stream_session.specs.Sources.{of_priority};
+
+    ghost from_gives = { λ e fault. fault ≡ of_priority e };
+
+    fn from(e: PriorityFault) -> SourceFault {
+        match e {
+            PriorityFault::NoMemory => SourceFault::NoMemory,
+            fault => SourceFault::Priority(fault),
+        }
+    }
+}
+
+impl From<StreamFault> for SourceFault {
+    ghost use Rattle.stream_session.specs.Sources.{of_stream};
+
+    ghost from_gives = { λ e fault. fault ≡ of_stream e };
+
+    fn from(e: StreamFault) -> SourceFault {
+        match e {
+            StreamFault::Stream(scan) => SourceFault::Stream(scan),
+            StreamFault::Plan(fault) => SourceFault::Plan(fault),
+            StreamFault::NoMemory => SourceFault::NoMemory,
+        }
+    }
+}
+
+/// Reads both files, and answers the session that they are. The priority file is read and judged first. The stream is
+/// then read to its end, or one byte past the most that a stream may have, portion by portion, and none of it is held.
+///
+/// # Errors
+///
+/// The first that comes of a failure of the place, want of memory, the refusal of the priority file, that of the stream,
+/// and that of its plan.
+pub fn read_source<P: Place>(
+    alloc: Global,
+    stream: &str,
+    priority: &str,
+    place: &mut P,
+) -> Result<Source, SourceFault>
+    ensures source { IfOk result (IsSource (P.seen place.old).files stream.now priority.now) }
+    ensures others { KeepsOutput (P.seen place.old) (P.seen place.new) }
+    ensures later { (P.seen place.old).faults ≤ (P.seen place.new).faults }
+    ensures cause { IfErr result (IsSourceFault (P.seen place.old) (P.seen place.new) stream.now priority.now) }
+{
+    let file = read_file(alloc, priority, u64::from(MAX_PRIORITY_FILE), place)?;
+    let rules = read_priority(alloc, &file)?;
+    let plan = read_stream(alloc, stream, &rules, &file, place)?;
+    let number = plan.number;
+    Ok(Source {
+        priority: rules,
+        number,
+        tables: plan.tables,
+    })
+}
+
+/// Reads the stream, and answers its session under this priority, whose file has these bytes.
+fn read_stream<P: Place>(
+    alloc: Global,
+    name: &str,
+    priority: &Priority,
+    file: &[u8],
+    place: &mut P,
+) -> Result<SessionPlan, SourceFault>
+    requires { length file.now < 2 ^ 32 }
+    ensures plan { IfOk result (HasPlanAt (P.seen place.old).files name.now priority.now file.now) }
+    ensures others { KeepsOutput (P.seen place.old) (P.seen place.new) }
+    ensures later { (P.seen place.old).faults ≤ (P.seen place.new).faults }
+    ensures cause { IfErr result (IsFaultAt (P.seen place.old) (P.seen place.new) name.now priority.now) }
+{
+    let mut pass = Pass::new(alloc, priority, file)?;
+    read_through(alloc, name, place, &mut pass)?;
+    Ok(pass.finish()?)
+}

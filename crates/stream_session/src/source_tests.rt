@@ -1,0 +1,156 @@
+//! The example session over files in memory, and what two files are refused for.
+ghost use Rattle.std.specs.Prelude.{◌<◌};
+
+use super::*;
+use mpeg_scan::Scan;
+use pet_base::MemoryPlace;
+use priority_file::{Priority, PriorityFault, read_priority};
+use std::alloc::Global;
+use std::test::Fail;
+use stripe_plan::{LayerSize, Table};
+
+/// The example stream.
+const STREAM: [u8; 44] = [
+    0x00, 0x00, 0x01, 0xB3, 0x11, 0x22, 0x00, 0x00, 0x01, 0xB8, 0x33, 0x00, 0x00, 0x01, 0x00, 0x00,
+    0x08, 0x44, 0x00, 0x00, 0x01, 0x00, 0x00, 0x10, 0x55, 0x00, 0x00, 0x01, 0x00, 0x00, 0x18, 0x66,
+    0x00, 0x00, 0x01, 0x00, 0x00, 0x18, 0x77, 0x77, 0x00, 0x00, 0x01, 0xB7,
+];
+
+/// The example priorities.
+const PRIORITIES: &str =
+    "packets = 6\n[[layer]]\nname = \"base\"\nkinds = [\"head\", \"I\"]\nneed = 2\n[[layer]]\nname = \"P\"\nkinds = [\"P\"]\nneed = 3\n[[layer]]\nname = \"B\"\nkinds = [\"B\"]\nneed = 5\n";
+
+/// The number of their session.
+const NUMBER: [u8; 8] = [0xA5, 0xAC, 0x94, 0x61, 0xB0, 0x3B, 0xCF, 0x36];
+
+/// Whether these are the tables of the example session.
+fn is_example(tables: &[Table]) -> bool {
+    let layers = [
+        LayerSize {
+            length: 46,
+            need: 2,
+        },
+        LayerSize { length: 7, need: 3 },
+        LayerSize {
+            length: 15,
+            need: 5,
+        },
+    ];
+    match tables {
+        [table] => table.packets() == 6 && table.layers() == layers.as_slice(),
+        _ => false,
+    }
+}
+
+/// The plan of a stream that comes in portions of so many bytes.
+fn plan_of(
+    alloc: Global,
+    priority: &Priority,
+    stream: &[u8],
+    portion: usize,
+) -> Result<SessionPlan, StreamFault> {
+    let mut pass = Pass::new(alloc, priority, PRIORITIES.as_bytes())?;
+    for bytes in stream.chunks(portion.max(1)) {
+        pass.add(bytes)?;
+    }
+    pass.finish()
+}
+
+#[test]
+fn plans_the_example_stream_in_portions(rt: HostRuntime) -> Result<(), Fail> {
+    let priority = read_priority(rt.alloc(), PRIORITIES.as_bytes()).expect(&rt, "a priority");
+    for portion in [1, 3, 7, 43, 44, 100] {
+        let plan = plan_of(rt.alloc(), &priority, &STREAM, portion).expect(&rt, "a plan");
+        assert_eq!(rt; plan.number, NUMBER, "in portions of {portion}");
+        assert!(rt; is_example(&plan.tables), "in portions of {portion}");
+    }
+    Ok(())
+}
+
+#[test]
+fn keeps_a_refusal_of_the_stream(rt: HostRuntime) -> Result<(), Fail> {
+    let priority = read_priority(rt.alloc(), PRIORITIES.as_bytes()).expect(&rt, "a priority");
+    let mut stream = STREAM;
+    stream[16] = 0x28;
+    for portion in [1, 44] {
+        let fault = plan_of(rt.alloc(), &priority, &stream, portion).err();
+        assert_eq!(rt; fault, Some(StreamFault::Stream(Scan::PictureType(11, 5))));
+    }
+    let fault = plan_of(rt.alloc(), &priority, &[], 1).err();
+    assert_eq!(rt; fault, Some(StreamFault::Stream(Scan::Empty)));
+    Ok(())
+}
+
+/// A place with these two files, whose calls of these numbers fail.
+fn place_with(
+    alloc: Global,
+    stream: &[u8],
+    priorities: &[u8],
+    failing: Vec<u64>,
+) -> Option<MemoryPlace> {
+    let mut place = MemoryPlace::new(alloc, failing);
+    place.add("s", stream).ok()?;
+    place.add("p", priorities).ok()?;
+    Some(place)
+}
+
+/// Why these two files are no session.
+fn fault_of(alloc: Global, stream: &[u8], priorities: &[u8]) -> Option<SourceFault> {
+    let mut place = place_with(alloc, stream, priorities, Vec::new(alloc))?;
+    read_source(alloc, "s", "p", &mut place).err()
+}
+
+#[test]
+fn reads_the_example_files(rt: HostRuntime) -> Result<(), Fail> {
+    let alloc = rt.alloc();
+    let mut place = place_with(alloc, &STREAM, PRIORITIES.as_bytes(), Vec::new(alloc)).expect(
+        &rt, "files",
+    );
+    let source = read_source(alloc, "s", "p", &mut place).expect(&rt, "a session");
+    assert_eq!(rt; source.number, NUMBER);
+    assert!(rt; is_example(&source.tables));
+    assert_eq!(rt; source.priority.packets, 6);
+    Ok(())
+}
+
+#[test]
+fn refuses_the_priority_file_first(rt: HostRuntime) -> Result<(), Fail> {
+    let alloc = rt.alloc();
+    let priorities = PRIORITIES.as_bytes();
+    let text = SourceFault::Priority(PriorityFault::Text);
+    assert_eq!(rt; fault_of(alloc, &STREAM, b"packets"), Some(text));
+    assert_eq!(rt; fault_of(alloc, &[], b"packets"), Some(text));
+    assert_eq!(rt;
+        fault_of(alloc, &[], priorities),
+        Some(SourceFault::Stream(Scan::Empty))
+    );
+    // a comment that makes a file of 65,536 bytes, and of one more
+    let mut long = Vec::from_slice(alloc, priorities)?;
+    long.push(b'#')?;
+    long.resize(65_536, b' ')?;
+    assert_eq!(rt;
+        fault_of(alloc, &[], &long),
+        Some(SourceFault::Stream(Scan::Empty))
+    );
+    long.push(b' ')?;
+    assert_eq!(rt;
+        fault_of(alloc, &[], &long),
+        Some(SourceFault::Priority(PriorityFault::Long))
+    );
+    Ok(())
+}
+
+#[test]
+fn answers_a_failed_call_as_a_failure(rt: HostRuntime) -> Result<(), Fail> {
+    let alloc = rt.alloc();
+    // the calls are enter, take, take of the one file, and then of the other
+    for call in 0..6u64 {
+        let failing = Vec::from_array(alloc, [call])?;
+        let mut place = place_with(alloc, &STREAM, PRIORITIES.as_bytes(), failing).expect(
+            &rt, "files",
+        );
+        let fault = read_source(alloc, "s", "p", &mut place).err();
+        assert_eq!(rt; fault, Some(SourceFault::Failed), "at call {call}");
+    }
+    Ok(())
+}
