@@ -1,3 +1,16 @@
 pub mod Words
 pub mod Forms
 pub mod Lines
+pub mod PlanLines
+pub mod PlanFile
+pub mod PlanText
+pub mod NumberLaws
+pub mod RowLaws
+pub mod ReadingLaws
+pub mod TableLaws
+pub mod PlanFileLaws
+pub mod RowCountLaws
+pub mod PlanRowLaws
+pub mod PlanLengthLaws
+pub mod LayerLines
+pub mod WordLaws

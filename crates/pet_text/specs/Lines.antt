@@ -1,7 +1,14 @@
--- The printed lines, and the numbers of the statuses. This project's own.
+-- The statuses: their numbers, and the lines that tell of them. This project's own.
 use Rattle.std.specs.Prelude.{ℕ, List, [], ◌++◌, codes, decimal}
+use Rattle.pet_base.specs.declared.limits.TheConstants.{MAX_STREAM}
+use Rattle.mpeg_scan.specs.declared.refusal.Scan.{Scan}
+use Rattle.mpeg_scan.specs.declared.refusal.Scan.TheVariants as scan
+use Rattle.priority_file.specs.declared.fault.PriorityFault.{PriorityFault}
+use Rattle.priority_file.specs.declared.fault.PriorityFault.TheVariants as priority
+use Rattle.pet_text.specs.declared.status.PlanKind.{PlanKind}
+use Rattle.pet_text.specs.declared.status.PlanKind.TheVariants as plan
 use Rattle.pet_text.specs.declared.status.Status.{Status}
-use Rattle.pet_text.specs.declared.status.Status.TheVariants.{Done, Usage, NoMemory, PlaceFault, OutFault, Incomplete, TurnsSpent}
+use Rattle.pet_text.specs.declared.status.Status.TheVariants.{Done, Usage, NoMemory, PlaceFault, OutFault, BadStream, BadPriority, BadPlan, Incomplete, TurnsSpent, NotLeast, Changed}
 
 abbrev pub code_of : Status → ℕ
 code_of Done = 0
@@ -9,8 +16,50 @@ code_of Usage = 1
 code_of NoMemory = 2
 code_of PlaceFault = 3
 code_of OutFault = 5
+code_of (BadStream fault) = 6
+code_of (BadPriority fault) = 7
+code_of (BadPlan kind number) = 8
 code_of Incomplete = 12
 code_of TurnsSpent = 13
+code_of (NotLeast group) = 16
+code_of (Changed group first second) = 17
+
+-- the kind of a stream's refusal, its offset, and for a picture's type the type; want of memory is a status of its own
+abbrev pub scan_text : Scan → List ℕ
+scan_text scan.Empty = codes "Empty 0"
+scan_text (scan.NoHead at) = codes "NoHead " ++ decimal at
+scan_text (scan.System at) = codes "System " ++ decimal at
+scan_text (scan.PictureType at kind) = codes "PictureType " ++ decimal at ++ codes " " ++ decimal kind
+scan_text (scan.ShortPicture at) = codes "ShortPicture " ++ decimal at
+scan_text scan.TooLong = codes "TooLong " ++ decimal MAX_STREAM
+scan_text scan.NoMemory = codes "NoMemory 0"
+
+-- the kind of a priority file's refusal
+abbrev pub priority_text : PriorityFault → List ℕ
+priority_text priority.Long = codes "Long"
+priority_text priority.Text = codes "Text"
+priority_text priority.UnknownKey = codes "UnknownKey"
+priority_text priority.MissingKey = codes "MissingKey"
+priority_text priority.WrongType = codes "WrongType"
+priority_text priority.PacketsRange = codes "PacketsRange"
+priority_text priority.NeedRange = codes "NeedRange"
+priority_text priority.Name = codes "Name"
+priority_text priority.KindTwice = codes "KindTwice"
+priority_text priority.KindMissing = codes "KindMissing"
+priority_text priority.HeadNotFirst = codes "HeadNotFirst"
+priority_text priority.NeedsFall = codes "NeedsFall"
+priority_text priority.TooManyLayers = codes "TooManyLayers"
+priority_text priority.NoMemory = codes "NoMemory"
+
+-- the kind of a plan's refusal
+abbrev pub plan_kind_text : PlanKind → List ℕ
+plan_kind_text plan.GroupTooLong = codes "GroupTooLong"
+plan_kind_text plan.TooManyGroups = codes "TooManyGroups"
+plan_kind_text plan.TooWide = codes "TooWide"
+plan_kind_text plan.TooLarge = codes "TooLarge"
+plan_kind_text plan.PlanLong = codes "PlanLong"
+plan_kind_text plan.Text = codes "Text"
+plan_kind_text plan.Lines = codes "Lines"
 
 -- the line that tells of a status; a command that is done has none, and after a fault of the output nothing is printed
 abbrev pub fault_text : Status → List ℕ
@@ -19,8 +68,13 @@ fault_text Usage = codes "fault usage\n"
 fault_text NoMemory = codes "fault memory\n"
 fault_text PlaceFault = codes "fault place\n"
 fault_text OutFault = []
+fault_text (BadStream fault) = codes "fault stream " ++ scan_text fault ++ codes "\n"
+fault_text (BadPriority fault) = codes "fault priority " ++ priority_text fault ++ codes "\n"
+fault_text (BadPlan kind number) = codes "fault plan " ++ plan_kind_text kind ++ codes " " ++ decimal number ++ codes "\n"
 fault_text Incomplete = codes "fault incomplete\n"
 fault_text TurnsSpent = codes "fault turns\n"
+fault_text (NotLeast group) = codes "fault least " ++ decimal group ++ codes "\n"
+fault_text (Changed group first second) = codes "fault changed " ++ decimal group ++ codes "\n"
 
 -- how many datagrams were read, how many packets are kept, and how many layers were shown
 abbrev pub receive_text : ℕ → ℕ → ℕ → List ℕ

@@ -1,16 +1,19 @@
 -- The command words, this project's own.
-use Rattle.std.specs.Prelude.{ℕ, ◌+◌, ◌-◌, ◌*◌, ◌&&◌, ◌||◌, ◌==◌, not, nat_le, nat_lt, nat_eq, Bool, List, [], ◌∷◌, length, drop, map, Option, None, Some, option_map, is_some, codes, String, string_bytes, if◌then◌else◌}
+use Rattle.std.specs.Prelude.{ℕ, ◌+◌, ◌-◌, ◌*◌, ◌&&◌, ◌==◌, not, nat_le, nat_lt, nat_eq, Bool, List, [], ◌∷◌, length, drop, map, Option, None, Some, option_map, codes, String, string_bytes, if◌then◌else◌}
 use Rattle.std.specs.List.{starts_with}
 use Rattle.std.specs.Str.{bytes_eq}
 use Rattle.std.specs.declared.alloc.Global.{Global}
-use Rattle.pet_text.specs.declared.words.End.{End}
 use Rattle.pet_text.specs.declared.words.End.TheVariants.{File}
 use Rattle.pet_text.specs.declared.words.Command.{Command}
-use Rattle.pet_text.specs.declared.words.Command.TheVariants.{Receive}
+use Rattle.pet_text.specs.declared.words.Command.TheVariants.{Plan, Check, Send, Receive}
 
 -- the texts of the words
 abbrev pub texts_of : List (String Global) → List (List ℕ)
 texts_of words = map string_bytes words
+
+-- the name of a file: any text that is not empty
+abbrev pub is_name : List ℕ → Bool
+is_name word = nat_lt 0 (length word)
 
 -- the name behind `file:`, which is not empty
 abbrev pub file_of : List ℕ → Option (List ℕ)
@@ -41,17 +44,38 @@ bytes_of (c ∷ d ∷ word) = byte_before (byte_of (digit_of c) (digit_of d)) (b
 abbrev pub session_of : List ℕ → Option (List ℕ)
 session_of word = if length word == 16 then bytes_of word else None
 
+-- `plan STREAM PRIORITY`: two files that are read
+abbrev pub plan_of : List ℕ → List ℕ → Option Command
+plan_of stream priority = if is_name stream && is_name priority then Some (Plan stream priority) else None
+
+-- `check STREAM PRIORITY PLAN`: three files that are read
+abbrev pub check_of : List ℕ → List ℕ → List ℕ → Option Command
+check_of stream priority plan =
+    if is_name stream && (is_name priority && is_name plan) then Some (Check stream priority plan) else None
+
+-- `send STREAM PRIORITY TO`: two files that are read, and another file that is written
+abbrev pub send_of : List ℕ → List ℕ → Option (List ℕ) → Option Command
+send_of stream priority None = None
+send_of stream priority (Some to) =
+    if is_name stream && (is_name priority && (not (bytes_eq to stream) && not (bytes_eq to priority)))
+    then Some (Send stream priority (File to))
+    else None
+
 -- `receive FROM SESSION LAYERS`: a file that is read, a session number, and another file that is written
 abbrev pub receive_of : Option (List ℕ) → Option (List ℕ) → List ℕ → Option Command
 receive_of None session layers = None
 receive_of (Some from) None layers = None
 receive_of (Some from) (Some session) layers =
-    if nat_lt 0 (length layers) && not (bytes_eq from layers)
+    if is_name layers && not (bytes_eq from layers)
     then Some (Receive (File from) session layers)
     else None
 
--- the command of the words, where they have its form
+-- the command of the words, where they have the form of one
 abbrev pub command_of : List (List ℕ) → Option Command
-command_of (word ∷ from ∷ session ∷ layers ∷ []) =
-    if bytes_eq word (codes "receive") then receive_of (file_of from) (session_of session) layers else None
+command_of (word ∷ first ∷ second ∷ []) = if bytes_eq word (codes "plan") then plan_of first second else None
+command_of (word ∷ first ∷ second ∷ third ∷ []) =
+    if bytes_eq word (codes "check") then check_of first second third
+    else if bytes_eq word (codes "send") then send_of first second (file_of third)
+    else if bytes_eq word (codes "receive") then receive_of (file_of first) (session_of second) third
+    else None
 command_of _ = None

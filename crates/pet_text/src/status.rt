@@ -1,8 +1,53 @@
 //! How the program ends.
-ghost use Rattle.std.specs.Prelude.{◌≡◌, [], ◌++◌};
-ghost use Rattle.pet_text.specs.Lines.{code_of, fault_text};
+ghost use Rattle.std.specs.Prelude.{◌≡◌, ◌+◌, ◌≤◌, [], ◌++◌, length, codes, decimal};
+ghost use Rattle.arrayvec.specs.ArrayVec.{array_vec_len};
+ghost use Rattle.mpeg_scan.specs.declared.refusal.Scan.TheVariants.{PictureType};
+ghost use Rattle.pet_text.specs.declared.status.Status.TheVariants.{BadStream, BadPriority, BadPlan};
+ghost use Rattle.pet_text.specs.Lines.{code_of, scan_text, priority_text, plan_kind_text, fault_text};
 
+use crate::append::{append_byte, append_number, append_text};
 use arrayvec::ArrayVec;
+use mpeg_scan::Scan;
+use pet_base::MAX_STREAM;
+use priority_file::PriorityFault;
+use stream_session::GroupMark;
+
+/// Why a stream has no plan, or a plan file is refused. Each kind comes with a number.
+#[derive(Clone, Copy, Debug, PartialEq, Eq)]
+pub enum PlanKind {
+    /// The layers of the group of this number have more than 4,194,304 bytes.
+    GroupTooLong,
+    /// There are more than 65,535 groups; the number is 65,535.
+    TooManyGroups,
+    /// The datagrams of the group of this number would be longer than 65,000 bytes.
+    TooWide,
+    /// With the group of this number the session passes 536,870,912 bytes.
+    TooLarge,
+    /// The plan file has more than 268,435,456 bytes; the number is 0.
+    PlanLong,
+    /// The number is that of the first line of lengths of another form, counted from 1 over all lines.
+    Text,
+    /// The number of lines of lengths, which is not that of the groups.
+    Lines,
+}
+
+impl PlanKind {
+    /// The name that a fault line gives the kind.
+    fn name(&self) -> &'static str
+        ensures text { result.now ≡ plan_kind_text self.now }
+        ensures len { length result.now ≤ 13 }
+    {
+        match self {
+            PlanKind::GroupTooLong => "GroupTooLong",
+            PlanKind::TooManyGroups => "TooManyGroups",
+            PlanKind::TooWide => "TooWide",
+            PlanKind::TooLarge => "TooLarge",
+            PlanKind::PlanLong => "PlanLong",
+            PlanKind::Text => "Text",
+            PlanKind::Lines => "Lines",
+        }
+    }
+}
 
 /// The status of a run.
 #[derive(Clone, Copy, Debug, PartialEq, Eq)]
@@ -17,14 +62,24 @@ pub enum Status {
     PlaceFault,
     /// A line could not be printed.
     OutFault,
+    /// The stream is refused.
+    BadStream(Scan),
+    /// The priority file is refused.
+    BadPriority(PriorityFault),
+    /// There is no plan, or the plan file is refused; the number is what the kind says.
+    BadPlan(PlanKind, u64),
     /// The input ended before every layer was shown.
     Incomplete,
     /// The input has 16,777,216 datagrams or more.
     TurnsSpent,
+    /// The listed lengths of this group, the first such, are not proved to be of the fewest stripes.
+    NotLeast(u32),
+    /// The stream changed while it was sent: this group, the first such, and its marks in the first pass and in the second.
+    Changed(u32, GroupMark, GroupMark),
 }
 
 impl Status {
-    /// The exit status of the program, from 0 to 13.
+    /// The exit status of the program, from 0 to 17.
     pub fn code(&self) -> u8
         ensures { result ≡ code_of self.now }
     {
@@ -34,8 +89,13 @@ impl Status {
             Status::NoMemory => 2,
             Status::PlaceFault => 3,
             Status::OutFault => 5,
+            Status::BadStream(_) => 6,
+            Status::BadPriority(_) => 7,
+            Status::BadPlan(_, _) => 8,
             Status::Incomplete => 12,
             Status::TurnsSpent => 13,
+            Status::NotLeast(_) => 16,
+            Status::Changed(_, _, _) => 17,
         }
     }
 }
@@ -46,13 +106,122 @@ pub fn fault_line(status: &Status, into: &mut ArrayVec<u8, 64>)
     requires { into.old.items ≡ [] }
     ensures { into.new.items ≡ fault_text status.now }
 {
-    let line = match status {
-        Status::Done | Status::OutFault => b"".as_slice(),
-        Status::Usage => b"fault usage\n".as_slice(),
-        Status::NoMemory => b"fault memory\n".as_slice(),
-        Status::PlaceFault => b"fault place\n".as_slice(),
-        Status::Incomplete => b"fault incomplete\n".as_slice(),
-        Status::TurnsSpent => b"fault turns\n".as_slice(),
-    };
-    let _ = into.try_extend_from_slice(line);
+    match status {
+        Status::Done | Status::OutFault => {}
+        Status::Usage => append_text("fault usage\n", into),
+        Status::NoMemory => append_text("fault memory\n", into),
+        Status::PlaceFault => append_text("fault place\n", into),
+        Status::BadStream(fault) => stream_fault(fault, into),
+        Status::BadPriority(fault) => priority_fault(fault, into),
+        Status::BadPlan(kind, number) => plan_fault(*kind, *number, into),
+        Status::Incomplete => append_text("fault incomplete\n", into),
+        Status::TurnsSpent => append_text("fault turns\n", into),
+        Status::NotLeast(group) => group_fault("fault least ", *group, into),
+        Status::Changed(group, _, _) => group_fault("fault changed ", *group, into),
+    }
+}
+
+/// The line of a refused stream.
+fn stream_fault(fault: &Scan, into: &mut ArrayVec<u8, 64>)
+    requires { into.old.items ≡ [] }
+    ensures { into.new.items ≡ fault_text (BadStream fault.now) }
+{
+    append_text("fault stream ", into);
+    append_scan(fault, into);
+    append_text("\n", into);
+}
+
+/// Appends the kind of a stream's refusal, and where it stands.
+fn append_scan(fault: &Scan, into: &mut ArrayVec<u8, 64>)
+    requires { array_vec_len into.old ≤ 20 }
+    ensures text { into.new.items ≡ into.old.items ++ scan_text fault.now }
+    ensures len { array_vec_len into.new ≤ array_vec_len into.old + 36 }
+{
+    match fault {
+        Scan::Empty => append_text("Empty 0", into),
+        Scan::NoHead(at) => append_numbered("NoHead ", *at, into),
+        Scan::System(at) => append_numbered("System ", *at, into),
+        Scan::PictureType(at, kind) => append_picture_type(*at, *kind, into),
+        Scan::ShortPicture(at) => append_numbered("ShortPicture ", *at, into),
+        Scan::TooLong => append_numbered("TooLong ", MAX_STREAM, into),
+        Scan::NoMemory => append_text("NoMemory 0", into),
+    }
+}
+
+/// Appends a text of at most 13 bytes, and a number.
+fn append_numbered(text: &str, number: u64, into: &mut ArrayVec<u8, 64>)
+    requires begun { array_vec_len into.old ≤ 20 }
+    requires short { length text.now ≤ 13 }
+    ensures text { into.new.items ≡ into.old.items ++ text.now ++ decimal number }
+    ensures len { array_vec_len into.new ≤ array_vec_len into.old + length text.now + 20 }
+{
+    append_text(text, into);
+    append_number(number, into);
+}
+
+/// Appends where a picture stands, and its type.
+fn append_picture_type(at: u64, kind: u8, into: &mut ArrayVec<u8, 64>)
+    requires { array_vec_len into.old ≤ 20 }
+    ensures text { into.new.items ≡ into.old.items ++ scan_text (PictureType at kind) }
+    ensures len { array_vec_len into.new ≤ array_vec_len into.old + 36 }
+{
+    append_numbered("PictureType ", at, into);
+    append_text(" ", into);
+    append_byte(kind, into);
+}
+
+/// The line of a refused priority file.
+fn priority_fault(fault: &PriorityFault, into: &mut ArrayVec<u8, 64>)
+    requires { into.old.items ≡ [] }
+    ensures { into.new.items ≡ fault_text (BadPriority fault.now) }
+{
+    append_text("fault priority ", into);
+    append_text(priority_name(fault), into);
+    append_text("\n", into);
+}
+
+/// The name that a fault line gives the refusal of a priority file.
+fn priority_name(fault: &PriorityFault) -> &'static str
+    ensures text { result.now ≡ priority_text fault.now }
+    ensures len { length result.now ≤ 13 }
+{
+    match fault {
+        PriorityFault::Long => "Long",
+        PriorityFault::Text => "Text",
+        PriorityFault::UnknownKey => "UnknownKey",
+        PriorityFault::MissingKey => "MissingKey",
+        PriorityFault::WrongType => "WrongType",
+        PriorityFault::PacketsRange => "PacketsRange",
+        PriorityFault::NeedRange => "NeedRange",
+        PriorityFault::Name => "Name",
+        PriorityFault::KindTwice => "KindTwice",
+        PriorityFault::KindMissing => "KindMissing",
+        PriorityFault::HeadNotFirst => "HeadNotFirst",
+        PriorityFault::NeedsFall => "NeedsFall",
+        PriorityFault::TooManyLayers => "TooManyLayers",
+        PriorityFault::NoMemory => "NoMemory",
+    }
+}
+
+/// The line of a plan that is not there, or of a refused plan file.
+fn plan_fault(kind: PlanKind, number: u64, into: &mut ArrayVec<u8, 64>)
+    requires { into.old.items ≡ [] }
+    ensures { into.new.items ≡ fault_text (BadPlan kind number) }
+{
+    append_text("fault plan ", into);
+    append_text(kind.name(), into);
+    append_text(" ", into);
+    append_number(number, into);
+    append_text("\n", into);
+}
+
+/// The line of a group, behind words of at most 14 bytes.
+fn group_fault(words: &str, group: u32, into: &mut ArrayVec<u8, 64>)
+    requires begun { into.old.items ≡ [] }
+    requires short { length words.now ≤ 14 }
+    ensures { into.new.items ≡ words.now ++ decimal group ++ codes "\n" }
+{
+    append_text(words, into);
+    append_number(u64::from(group), into);
+    append_text("\n", into);
 }

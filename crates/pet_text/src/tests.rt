@@ -1,7 +1,11 @@
 use super::*;
 use arrayvec::ArrayVec;
+use mpeg_scan::Scan;
+use priority_file::PriorityFault;
 use std::alloc::{AllocError, Global};
 use std::test::Fail;
+use stream_session::GroupMark;
+use stripe_plan::LayerSize;
 
 const SESSION: &str = "0001020304050607";
 
@@ -17,7 +21,8 @@ fn words(alloc: Global, texts: &[&str]) -> Result<Vec<String>, AllocError> {
 fn reads_the_words_of_receive(rt: HostRuntime) -> Result<(), Fail> {
     let alloc = rt.alloc();
     let given = words(alloc, &["receive", "file:a", SESSION, "b"])?;
-    match read_words(alloc, &given) {
+    let command = read_words(alloc, &given);
+    match &command {
         Ok(
             Command::Receive {
                 from,
@@ -27,10 +32,78 @@ fn reads_the_words_of_receive(rt: HostRuntime) -> Result<(), Fail> {
         ) => {
             let End::File(name) = from;
             assert_eq!(rt; name.as_str(), "a");
-            assert_eq!(rt; session, [0, 1, 2, 3, 4, 5, 6, 7]);
+            assert_eq!(rt; *session, [0, 1, 2, 3, 4, 5, 6, 7]);
             assert_eq!(rt; layers.as_str(), "b");
         }
-        Err(_) => assert!(rt; false),
+        _ => assert!(rt; false),
+    }
+    Ok(())
+}
+
+#[test]
+fn reads_the_words_of_plan_check_and_send(rt: HostRuntime) -> Result<(), Fail> {
+    let alloc = rt.alloc();
+    let command = read_words(alloc, &words(alloc, &["plan", "s", "f"])?);
+    match &command {
+        Ok(Command::Plan { stream, priority }) => {
+            assert_eq!(rt; stream.as_str(), "s");
+            assert_eq!(rt; priority.as_str(), "f");
+        }
+        _ => assert!(rt; false),
+    }
+    let command = read_words(alloc, &words(alloc, &["check", "s", "f", "p"])?);
+    match &command {
+        Ok(
+            Command::Check {
+                stream,
+                priority,
+                plan,
+            },
+        ) => {
+            assert_eq!(rt; stream.as_str(), "s");
+            assert_eq!(rt; priority.as_str(), "f");
+            assert_eq!(rt; plan.as_str(), "p");
+        }
+        _ => assert!(rt; false),
+    }
+    let command = read_words(alloc, &words(alloc, &["send", "s", "f", "file:d"])?);
+    match &command {
+        Ok(
+            Command::Send {
+                stream,
+                priority,
+                to,
+            },
+        ) => {
+            let End::File(name) = to;
+            assert_eq!(rt; stream.as_str(), "s");
+            assert_eq!(rt; priority.as_str(), "f");
+            assert_eq!(rt; name.as_str(), "d");
+        }
+        _ => assert!(rt; false),
+    }
+    Ok(())
+}
+
+#[test]
+fn refuses_other_words(rt: HostRuntime) -> Result<(), Fail> {
+    let alloc = rt.alloc();
+    let cases: [&[&str]; 11] = [
+        &[],
+        &["plan", "s"],
+        &["receive", "file:a", "0123", "l"],
+        &["plan", "s", ""],
+        &["PLAN", "s", "f"],
+        &["send", "s", "f"],
+        &["send", "s", "f", "d"],
+        &["send", "s", "f", "file:"],
+        &["send", "s", "f", "file:s"],
+        &["send", "s", "f", "file:f"],
+        &["send", "s", "f", "udp:a:9"],
+    ];
+    for case in &cases {
+        let fault = read_words(alloc, &words(alloc, *case)?).err();
+        assert_eq!(rt; fault, Some(WordsFault::Usage));
     }
     Ok(())
 }
@@ -43,9 +116,75 @@ fn prints_the_line_of_receive(rt: HostRuntime) -> Result<(), Fail> {
         .ok()
         .ok_or("memory")?;
     assert_eq!(rt; text.as_slice(), b"read 3 kept 2 shown 1\n".as_slice());
-    let mut line: ArrayVec<u8, 64> = ArrayVec::new();
-    fault_line(&Status::Incomplete, &mut line);
-    assert_eq!(rt; line.as_slice(), b"fault incomplete\n".as_slice());
-    assert_eq!(rt; Status::Incomplete.code(), 12);
+    Ok(())
+}
+
+#[test]
+fn prints_the_fault_lines(rt: HostRuntime) -> Result<(), Fail> {
+    let first = GroupMark {
+        length: 34,
+        digest: [1; 8],
+    };
+    let second = GroupMark::none();
+    let cases = [
+        (Status::Incomplete, 12, "fault incomplete\n"),
+        (
+            Status::BadStream(Scan::PictureType(4, 5)),
+            6,
+            "fault stream PictureType 4 5\n",
+        ),
+        (
+            Status::BadStream(Scan::TooLong),
+            6,
+            "fault stream TooLong 268435456\n",
+        ),
+        (Status::BadStream(Scan::Empty), 6, "fault stream Empty 0\n"),
+        (
+            Status::BadPriority(PriorityFault::NeedsFall),
+            7,
+            "fault priority NeedsFall\n",
+        ),
+        (
+            Status::BadPlan(PlanKind::TooManyGroups, 65_535),
+            8,
+            "fault plan TooManyGroups 65535\n",
+        ),
+        (Status::NotLeast(0), 16, "fault least 0\n"),
+        (Status::Changed(0, first, second), 17, "fault changed 0\n"),
+    ];
+    for case in cases.as_slice() {
+        let mut line: ArrayVec<u8, 64> = ArrayVec::new();
+        fault_line(&case.0, &mut line);
+        assert_eq!(rt; line.as_slice(), case.2.as_bytes());
+        assert_eq!(rt; case.0.code(), case.1);
+    }
+    Ok(())
+}
+
+#[test]
+fn prints_the_lines_of_plan_check_and_send(rt: HostRuntime) -> Result<(), Fail> {
+    let alloc = rt.alloc();
+    let session = [0xa5, 0xac, 0x94, 0x61, 0xb0, 0x3b, 0xcf, 0x36];
+    let size = LayerSize {
+        length: 46,
+        need: 2,
+    };
+    let mut text = Vec::new(alloc);
+    plan_session_line(alloc, &session, 1, 6, &mut text)
+        .ok()
+        .ok_or("memory")?;
+    plan_group_line(alloc, 0, 35, 15, 16, 81, &mut text)
+        .ok()
+        .ok_or("memory")?;
+    plan_layer_line(alloc, 0, "base", &size, 2, &mut text)
+        .ok()
+        .ok_or("memory")?;
+    least_line(alloc, 1, &mut text).ok().ok_or("memory")?;
+    send_line(alloc, &session, 1, 6, &mut text)
+        .ok()
+        .ok_or("memory")?;
+    let lines =
+        b"session a5ac9461b03bcf36 groups 1 packets 6\ngroup 0 words 35 stripes 15 bound 16 datagram 81\nlayer 0 base bytes 46 need 2 count 2\nleast 1\nsession a5ac9461b03bcf36 groups 1 datagrams 6\n";
+    assert_eq!(rt; text.as_slice(), lines.as_slice());
     Ok(())
 }

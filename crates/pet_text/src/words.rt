@@ -1,6 +1,6 @@
 //! The command words.
-ghost use Rattle.std.specs.Prelude.{◌≡◌, ◌↔◌, Err, None, Some, IfOk, option_map, option_copied};
-ghost use Rattle.pet_text.specs.Words.{texts_of, file_of, session_of, receive_of, command_of};
+ghost use Rattle.std.specs.Prelude.{◌≡◌, ◌↔◌, [], ◌∷◌, Err, None, Some, IfOk, option_map, option_copied};
+ghost use Rattle.pet_text.specs.Words.{texts_of, file_of, session_of, plan_of, check_of, send_of, receive_of, command_of};
 ghost use Rattle.pet_text.specs.Forms.{receive_command};
 
 use crate::name::Name;
@@ -17,6 +17,31 @@ pub enum End {
 /// A command, with what its words name.
 #[derive(Drop, Debug)]
 pub enum Command {
+    /// Prints the plan of a stream's groups.
+    Plan {
+        /// The file of the stream.
+        stream: Name,
+        /// The file of the priority.
+        priority: Name,
+    },
+    /// Checks that listed stripe lengths are those of a plan of the fewest stripes.
+    Check {
+        /// The file of the stream.
+        stream: Name,
+        /// The file of the priority.
+        priority: Name,
+        /// The file of the listed lengths.
+        plan: Name,
+    },
+    /// Sends the packets of the session that a stream and a priority are.
+    Send {
+        /// The file of the stream.
+        stream: Name,
+        /// The file of the priority.
+        priority: Name,
+        /// Where the datagrams go to.
+        to: End,
+    },
     /// Reads the datagrams of a session, and writes its layers as they are shown.
     Receive {
         /// Where the datagrams come from.
@@ -52,7 +77,132 @@ pub fn read_words(alloc: Global, words: &[String]) -> Result<Command, WordsFault
     ensures usage { (result ≡ Err WordsFault.Usage) ↔ (command_of (texts_of words.now) ≡ None) }
     ensures command { IfOk result (λ command. command_of (texts_of words.now) ≡ Some command) }
 {
-    let Some(form) = receive_words(words) else {
+    match words {
+        [word, first, second] => { read_two(alloc, word.as_str(), first.as_str(), second.as_str()) }
+        [word, first, second, third] => {
+            read_three(
+                alloc,
+                word.as_str(),
+                first.as_str(),
+                second.as_str(),
+                third.as_str(),
+            )
+        }
+        _ => Err(WordsFault::Usage),
+    }
+}
+
+/// A command with two words behind its own.
+fn read_two(alloc: Global, word: &str, first: &str, second: &str) -> Result<Command, WordsFault>
+    ensures usage { (result ≡ Err WordsFault.Usage) ↔ (command_of (word.now ∷ first.now ∷ second.now ∷ []) ≡ None) }
+    ensures command { IfOk result (λ command. command_of (word.now ∷ first.now ∷ second.now ∷ []) ≡ Some command) }
+{
+    if word == "plan" {
+        read_plan_words(alloc, first, second)
+    } else {
+        Err(WordsFault::Usage)
+    }
+}
+
+/// A command with three words behind its own.
+fn read_three(
+    alloc: Global,
+    word: &str,
+    first: &str,
+    second: &str,
+    third: &str,
+) -> Result<Command, WordsFault>
+    ensures usage { (result ≡ Err WordsFault.Usage)
+        ↔ (command_of (word.now ∷ first.now ∷ second.now ∷ third.now ∷ []) ≡ None) }
+    ensures command { IfOk result (λ command.
+        command_of (word.now ∷ first.now ∷ second.now ∷ third.now ∷ []) ≡ Some command) }
+{
+    if word == "check" {
+        read_check_words(alloc, first, second, third)
+    } else if word == "send" {
+        read_send_words(alloc, first, second, third)
+    } else if word == "receive" {
+        read_receive_words(alloc, first, second, third)
+    } else {
+        Err(WordsFault::Usage)
+    }
+}
+
+/// The words behind `plan`.
+fn read_plan_words(alloc: Global, stream: &str, priority: &str) -> Result<Command, WordsFault>
+    ensures usage { (result ≡ Err WordsFault.Usage) ↔ (plan_of stream.now priority.now ≡ None) }
+    ensures command { IfOk result (λ command. plan_of stream.now priority.now ≡ Some command) }
+{
+    if stream.is_empty() || priority.is_empty() {
+        return Err(WordsFault::Usage);
+    }
+    Ok(Command::Plan {
+        stream: Name::new(alloc, stream)?,
+        priority: Name::new(alloc, priority)?,
+    })
+}
+
+/// The words behind `check`.
+fn read_check_words(
+    alloc: Global,
+    stream: &str,
+    priority: &str,
+    plan: &str,
+) -> Result<Command, WordsFault>
+    ensures usage { (result ≡ Err WordsFault.Usage) ↔ (check_of stream.now priority.now plan.now ≡ None) }
+    ensures command { IfOk result (λ command. check_of stream.now priority.now plan.now ≡ Some command) }
+{
+    if stream.is_empty() || priority.is_empty() || plan.is_empty() {
+        return Err(WordsFault::Usage);
+    }
+    Ok(Command::Check {
+        stream: Name::new(alloc, stream)?,
+        priority: Name::new(alloc, priority)?,
+        plan: Name::new(alloc, plan)?,
+    })
+}
+
+/// The words behind `send`.
+fn read_send_words(
+    alloc: Global,
+    stream: &str,
+    priority: &str,
+    to: &str,
+) -> Result<Command, WordsFault>
+    ensures usage { (result ≡ Err WordsFault.Usage)
+        ↔ (send_of stream.now priority.now (file_of to.now) ≡ None) }
+    ensures command { IfOk result (λ command.
+        send_of stream.now priority.now (file_of to.now) ≡ Some command) }
+{
+    let Some(to) = file_name(to) else {
+        return Err(WordsFault::Usage);
+    };
+    if stream.is_empty() || priority.is_empty() || to == stream || to == priority {
+        return Err(WordsFault::Usage);
+    }
+    let stream = Name::new(alloc, stream)?;
+    let priority = Name::new(alloc, priority)?;
+    let to = Name::new(alloc, to)?;
+    Ok(Command::Send {
+        stream,
+        priority,
+        to: End::File(to),
+    })
+}
+
+/// The words behind `receive`.
+fn read_receive_words(
+    alloc: Global,
+    from: &str,
+    session: &str,
+    layers: &str,
+) -> Result<Command, WordsFault>
+    ensures usage { (result ≡ Err WordsFault.Usage)
+        ↔ (receive_of (file_of from.now) (session_of session.now) layers.now ≡ None) }
+    ensures command { IfOk result (λ command.
+        receive_of (file_of from.now) (session_of session.now) layers.now ≡ Some command) }
+{
+    let Some(form) = receive_words(from, session, layers) else {
         return Err(WordsFault::Usage);
     };
     let from = Name::new(alloc, form.from)?;
@@ -72,24 +222,8 @@ struct ReceiveWords<'a> {
     layers: &'a str,
 }
 
-/// The words of `receive FROM SESSION LAYERS`.
-fn receive_words(words: &[String]) -> Option<ReceiveWords<'_>>
-    ensures { option_map receive_command result ≡ command_of (texts_of words.now) }
-{
-    match words {
-        [command, from, session, layers] => {
-            if command.as_str() == "receive" {
-                receive_from(from.as_str(), session.as_str(), layers.as_str())
-            } else {
-                None
-            }
-        }
-        _ => None,
-    }
-}
-
-/// The words behind `receive`.
-fn receive_from<'a>(from: &'a str, session: &str, layers: &'a str) -> Option<ReceiveWords<'a>>
+/// What the words behind `receive` give, where they have its form.
+fn receive_words<'a>(from: &'a str, session: &str, layers: &'a str) -> Option<ReceiveWords<'a>>
     ensures { option_map receive_command result ≡ receive_of (file_of from.now) (session_of session.now) layers.now }
 {
     let from = file_name(from)?;

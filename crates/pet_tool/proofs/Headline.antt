@@ -10,10 +10,10 @@ use Rattle.pet_base.specs.Entries.{datagrams}
 use Rattle.pet_encode.specs.Session.{Session}
 use Rattle.pet_receive.specs.ShownBytes.{IsComplete, shown_in_all}
 use Rattle.pet_text.specs.declared.status.Status.{Status}
-use Rattle.pet_text.specs.declared.status.Status.TheVariants.{Done, Usage, NoMemory, PlaceFault, OutFault, Incomplete, TurnsSpent}
+use Rattle.pet_text.specs.declared.status.Status.TheVariants.{Done, Usage, NoMemory, PlaceFault, OutFault, BadStream, BadPriority, BadPlan, Incomplete, TurnsSpent, NotLeast, Changed}
 use Rattle.pet_text.specs.Lines.{receive_text, fault_text}
 use Rattle.pet_text.specs.declared.words.Command.{Command}
-use Rattle.pet_text.specs.declared.words.Command.TheVariants.{Receive}
+use Rattle.pet_text.specs.declared.words.Command.TheVariants.{Plan, Check, Send, Receive}
 use Rattle.pet_text.specs.declared.words.End.TheVariants.{File}
 use Rattle.pet_tool.specs.Finished.{Finishes, Receives, ForReceive, AreRead, Ends, kept_of}
 use Rattle.pet_tool.specs.Met.{met_in, all_shown, count_met, layers_text}
@@ -33,6 +33,11 @@ module _ (s : Session) (from layers : List ℕ) (files : Files) (bytes : List �
   ended_is NoMemory read all few there back ends = absurd ends
   ended_is PlaceFault read all few there back ends = absurd ends
   ended_is OutFault read all few there back ends = absurd ends
+  ended_is (BadStream scan) read all few there back ends = absurd ends
+  ended_is (BadPriority fault) read all few there back ends = absurd ends
+  ended_is (BadPlan kind number) read all few there back ends = absurd ends
+  ended_is (NotLeast group) read all few there back ends = absurd ends
+  ended_is (Changed group first second) read all few there back ends = absurd ends
 
   from_finish : (status : Status) → Finishes s.number from layers old new before after fb fa so sn status → AreGiven s from layers files bytes old new fb fa status
       → ReceivesSession s layers files (datagrams bytes) new before after status
@@ -67,6 +72,11 @@ module _ (s : Session) (from layers : List ℕ) (files : Files) (bytes : List �
   headline PlaceFault tells given = absurd (given.place_well tells.0)
   headline OutFault tells given = absurd (given.out_well tells.0)
   headline Usage tells given = absurd tells
+  headline (BadStream scan) tells given = absurd tells
+  headline (BadPriority fault) tells given = absurd tells
+  headline (BadPlan kind number) tells given = absurd tells
+  headline (NotLeast group) tells given = absurd tells
+  headline (Changed group first second) tells given = absurd tells
 
 -- the headline, of the words that were read
 pub headline_for : (o : Option Command) (old new : Seen) (before after : Option (List ℕ)) (fb fa so sn : ℕ) (status : Status)
@@ -74,5 +84,8 @@ pub headline_for : (o : Option Command) (old new : Seen) (before after : Option 
     → (s : Session) (files : Files) (bytes : List ℕ) → ForReceive o (λ from session layers. session ≡ s.number → AreGiven s from layers files bytes old new fb fa status
     → ReceivesSession s layers files (datagrams bytes) new before after status)
 headline_for None old new before after fb fa so sn status tells s files bytes = tt
+headline_for (Some (Plan stream priority)) old new before after fb fa so sn status tells s files bytes = tt
+headline_for (Some (Check stream priority plan)) old new before after fb fa so sn status tells s files bytes = tt
+headline_for (Some (Send stream priority to)) old new before after fb fa so sn status tells s files bytes = tt
 headline_for (Some (Receive (File from) session layers)) old new before after fb fa so sn status tells s files bytes =
     λ is given. headline s from layers files bytes old new before after fb fa so sn status (subst (λ (n : List ℕ). Receives n from layers old new before after fb fa so sn status) is tells) given

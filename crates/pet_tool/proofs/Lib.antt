@@ -16,3 +16,17 @@ pub mod KeptNow
 pub mod Loop
 pub mod Opening
 pub mod Telling
+pub mod Starts
+pub mod Reporting
+pub mod Planned
+pub mod Certified
+pub mod Printed
+pub mod Checked
+pub mod Datagrams
+pub mod SentGroup
+pub mod SentSoFar
+pub mod SentAgain
+pub mod Sent
+pub mod SentReading
+pub mod SentTold
+pub mod SentFirst

@@ -14,7 +14,7 @@ use Rattle.pet_receive.specs.Arrivals.{ReceiverState, kept_set}
 use Rattle.pet_receive.specs.KeptSet.{KeptSet, kept_in_all}
 use Rattle.pet_receive.specs.ShownBytes.{IsComplete, shown_in_all}
 use Rattle.pet_text.specs.declared.status.Status.{Status}
-use Rattle.pet_text.specs.declared.status.Status.TheVariants.{Done, Usage, NoMemory, PlaceFault, OutFault, Incomplete, TurnsSpent}
+use Rattle.pet_text.specs.declared.status.Status.TheVariants.{Done, Usage, NoMemory, PlaceFault, OutFault, BadStream, BadPriority, BadPlan, Incomplete, TurnsSpent, NotLeast, Changed}
 use Rattle.pet_text.specs.Lines.{receive_text}
 use Rattle.pet_tool.specs.declared.outcome.Stop.{Stop}
 use Rattle.pet_tool.specs.declared.receive.Totals.{Totals}
@@ -126,3 +126,8 @@ ends_by session read totals Usage t few done incomplete turns one = elim one [ i
 ends_by session read totals NoMemory t few done incomplete turns one = elim one [ inl e ↦ absurd (cc) | inr f ↦ elim f [ inl e ↦ absurd (cc) | inr e ↦ absurd (cc) ] ]
 ends_by session read totals PlaceFault t few done incomplete turns one = elim one [ inl e ↦ absurd (cc) | inr f ↦ elim f [ inl e ↦ absurd (cc) | inr e ↦ absurd (cc) ] ]
 ends_by session read totals OutFault t few done incomplete turns one = elim one [ inl e ↦ absurd (cc) | inr f ↦ elim f [ inl e ↦ absurd (cc) | inr e ↦ absurd (cc) ] ]
+ends_by session read totals (BadStream scan) t few done incomplete turns one = elim one [ inl e ↦ absurd (cc) | inr f ↦ elim f [ inl e ↦ absurd (cc) | inr e ↦ absurd (cc) ] ]
+ends_by session read totals (BadPriority fault) t few done incomplete turns one = elim one [ inl e ↦ absurd (cc) | inr f ↦ elim f [ inl e ↦ absurd (cc) | inr e ↦ absurd (cc) ] ]
+ends_by session read totals (BadPlan kind number) t few done incomplete turns one = elim one [ inl e ↦ absurd (cc) | inr f ↦ elim f [ inl e ↦ absurd (cc) | inr e ↦ absurd (cc) ] ]
+ends_by session read totals (NotLeast group) t few done incomplete turns one = elim one [ inl e ↦ absurd (cc) | inr f ↦ elim f [ inl e ↦ absurd (cc) | inr e ↦ absurd (cc) ] ]
+ends_by session read totals (Changed group first second) t few done incomplete turns one = elim one [ inl e ↦ absurd (cc) | inr f ↦ elim f [ inl e ↦ absurd (cc) | inr e ↦ absurd (cc) ] ]

@@ -8,9 +8,10 @@ use Rattle.pet_base.specs.Causes.{Rose, HasCause}
 use Rattle.pet_base.specs.declared.faults.Failed.{Failed}
 use Rattle.pet_base.specs.Seen.{Seen, HadFault}
 use Rattle.pet_text.specs.declared.status.Status.{Status}
-use Rattle.pet_text.specs.declared.status.Status.TheVariants.{Done, Usage, NoMemory, PlaceFault, OutFault, Incomplete, TurnsSpent}
+use Rattle.pet_text.specs.declared.status.Status.TheVariants.{Done, Usage, NoMemory, PlaceFault, OutFault, BadStream, BadPriority, BadPlan, Incomplete, TurnsSpent, NotLeast, Changed}
 use Rattle.pet_text.specs.declared.words.Command.{Command}
-use Rattle.pet_text.specs.declared.words.Command.TheVariants.{Receive}
+use Rattle.pet_text.specs.declared.words.Command.TheVariants.{Plan, Check, Send, Receive}
+use Rattle.pet_text.specs.declared.words.End.{End}
 use Rattle.pet_text.specs.declared.words.End.TheVariants.{File}
 use Rattle.pet_text.specs.Lines.{fault_text}
 use Rattle.pet_tool.specs.declared.outcome.Stop.{Stop}
@@ -22,7 +23,7 @@ append_known-twice : (o : Option (List ℕ)) (a b : List ℕ) → append_known (
 append_known-twice None a b = refl
 append_known-twice (Some x) a b = ap (λ (t : List ℕ). Some t) (append_assoc x a b)
 
-append_known-nil : (o : Option (List ℕ)) → append_known o [] ≡ o
+pub append_known-nil : (o : Option (List ℕ)) → append_known o [] ≡ o
 append_known-nil None = refl
 append_known-nil (Some x) = ap (λ (t : List ℕ). Some t) (append-nil x)
 
@@ -46,11 +47,11 @@ Prints-put (Err e) line before after fb fa whole part cause = (part, λ well. ab
 Rose-since : (fb fm fa : ℕ) → fb ≤ fm → Rose fm fa → Rose fb fa
 Rose-since fb fm fa later rose = omega (arith, later, rose)
 
-Rose-before : (fb fm fa : ℕ) → fm ≤ fa → Rose fb fm → Rose fb fa
+pub Rose-before : (fb fm fa : ℕ) → fm ≤ fa → Rose fb fm → Rose fb fa
 Rose-before fb fm fa later rose = omega (arith, later, rose)
 
 -- a line after others
-Prints-after : (lines last : List ℕ) (before mid after : Option (List ℕ)) (fb fm fa : ℕ) → mid ≡ append_known before lines → fb ≤ fm → Prints [] last mid after fm fa
+pub Prints-after : (lines last : List ℕ) (before mid after : Option (List ℕ)) (fb fm fa : ℕ) → mid ≡ append_known before lines → fb ≤ fm → Prints [] last mid after fm fa
     → Prints lines last before after fb fa
 Prints-after lines last before mid after fb fm fa first later p = (
   (p.0.0, p.0.1 ∙ ap (λ (o : Option (List ℕ)). append_known o (take p.0.0 last)) first ∙ append_known-twice before lines (take p.0.0 last)),
@@ -84,6 +85,11 @@ module _ (session from layers : List ℕ) (old new : Seen) (before mid after : O
       at NoMemory e p = absurd e.1
       at PlaceFault e p = absurd e.1
       at OutFault e p = absurd e.1
+      at (BadStream scan) e p = absurd e.1
+      at (BadPriority fault) e p = absurd e.1
+      at (BadPlan kind number) e p = absurd e.1
+      at (NotLeast group) e p = absurd e.1
+      at (Changed group first second) e p = absurd e.1
 
   -- it stopped before
   pub tells_stop : (stop : Stop) (told : Status) → told ≡ status_of stop → LeavesFront session from layers old new → PrintsAt session before mid stop
@@ -100,6 +106,9 @@ module _ (session from layers : List ℕ) (old new : Seen) (before mid after : O
 -- what holds of all words of `receive`
 pub for_all : (o : Option Command) (P : List ℕ → List ℕ → List ℕ → Type 0) → ((from session layers : List ℕ) → P from session layers) → ForReceive o P
 for_all None P h = tt
+for_all (Some (Plan stream priority)) P h = tt
+for_all (Some (Check stream priority plan)) P h = tt
+for_all (Some (Send stream priority to)) P h = tt
 for_all (Some (Receive (File from) session layers)) P h = h from session layers
 
 -- what holds of the words that were read
@@ -115,3 +124,11 @@ tells_no_memory session from layers seen before after fb fa s p = (inl refl, p)
 pub not_usage : (session from layers : List ℕ) (old new : Seen) (before after : Option (List ℕ)) (fb fa so sn : ℕ) (status : Status)
     → Receives session from layers old new before after fb fa so sn status → status ≢ Usage
 not_usage session from layers old new before after fb fa so sn status tells e = subst (λ (s : Status). Receives session from layers old new before after fb fa so sn s) e tells
+
+-- what a status of `receive` tells, of the command that was read
+pub receives_in : (command : Command) (session from name layers : List ℕ) (end : End) (old new : Seen) (before after : Option (List ℕ)) (fb fa so sn : ℕ) (status : Status) → command ≡ Receive end session layers → name ≡ layers → end ≡ File from
+    → Receives session from name old new before after fb fa so sn status
+    → ForReceive (Some command) (λ from session layers. Receives session from layers old new before after fb fa so sn status)
+receives_in command session from name layers end old new before after fb fa so sn status is name_is end_is receives =
+    for_these (Some command) from session layers (λ from session layers. Receives session from layers old new before after fb fa so sn status)
+    (ap (λ (c : Command). Some c) (is ∙ ap (λ (e : End). Receive e session layers) end_is)) (subst (λ (l : List ℕ). Receives session from l old new before after fb fa so sn status) name_is receives)

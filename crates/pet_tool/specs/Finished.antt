@@ -1,6 +1,6 @@
 -- What `receive` leaves behind: where it has read the whole input or 16,777,216 datagrams, and where it has stopped
 -- before. This project's own.
-use Rattle.std.specs.Prelude.{◌≡◌, ◌⊎◌, ◌↔◌, IsTrue, ℕ, ◌+◌, ◌<◌, ◌≤◌, List, [], ◌++◌, length, take, Option, None, Some, option_map, IfSome}
+use Rattle.std.specs.Prelude.{◌≡◌, ◌⊎◌, ◌↔◌, IsTrue, ℕ, ◌+◌, ◌<◌, ◌≤◌, List, [], ◌++◌, length, take, Option, Some, option_map, IfSome}
 use Rattle.std.specs.Io.KnownBytes.{append_known}
 use Rattle.pet_base.specs.declared.limits.TheConstants.{MAX_SESSION, MAX_DATAGRAMS}
 use Rattle.pet_base.specs.Causes.{Rose}
@@ -10,7 +10,7 @@ use Rattle.pet_receive.specs.KeptSet.{KeptSet, empty_set, kept_in_all}
 use Rattle.pet_receive.specs.ShownBytes.{IsComplete, shown_in_all}
 use Rattle.pet_receive.specs.Verdicts.{after_all}
 use Rattle.pet_text.specs.declared.status.Status.{Status}
-use Rattle.pet_text.specs.declared.status.Status.TheVariants.{Done, Usage, NoMemory, PlaceFault, OutFault, Incomplete, TurnsSpent}
+use Rattle.pet_text.specs.declared.status.Status.TheVariants.{Done, NoMemory, PlaceFault, OutFault, Incomplete, TurnsSpent}
 use Rattle.pet_text.specs.declared.words.Command.{Command}
 use Rattle.pet_text.specs.declared.words.Command.TheVariants.{Receive}
 use Rattle.pet_text.specs.declared.words.End.TheVariants.{File}
@@ -91,12 +91,12 @@ Receives session from layers old new before after fb fa so sn TurnsSpent = Finis
 Receives session from layers old new before after fb fa so sn NoMemory = LeavesFront session from layers old new × Prints [] (fault_text NoMemory) before after fb fa
 Receives session from layers old new before after fb fa so sn PlaceFault = HadFault old new (IsOf from layers) × LeavesFront session from layers old new × Prints [] (fault_text PlaceFault) before after fb fa
 Receives session from layers old new before after fb fa so sn OutFault = Rose fb fa × LeavesFront session from layers old new × PrintsFront session before after
-Receives session from layers old new before after fb fa so sn Usage = ⊥
+Receives session from layers old new before after fb fa so sn _ = ⊥
 
 -- a fact on the words of `receive`
 abbrev pub ForReceive : Option Command → (List ℕ → List ℕ → List ℕ → Type 0) → Type 0
-ForReceive None P = Unit {0}
 ForReceive (Some (Receive (File from) session layers)) P = P from session layers
+ForReceive _ P = Unit {0}
 
 -- the numbers that are told of what was read
 pub record Tells (session : List ℕ) (read : List (List ℕ)) (totals : Totals) : Type 0 where

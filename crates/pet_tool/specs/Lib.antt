@@ -8,3 +8,14 @@ pub mod Met
 pub mod Outcome
 pub mod Finished
 pub mod Receive
+pub mod Reports
+pub mod Sources
+pub mod Plan
+pub mod Least
+pub mod Check
+pub mod Checking
+pub mod Packets
+pub mod Sending
+pub mod Second
+pub mod Send
+pub mod SendParts

@@ -5,14 +5,34 @@
 //! numbered by the arrival that showed it, the status is Done exactly where every layer is shown, and the printed lines
 //! are the defined ones. Its premises, and what each status tells without them, stand in `specs/Receive.antt` and
 //! `specs/Finished.antt`.
+//!
+//! `plan` prints the plan text of a session, and `check` tells whether the stripe lengths of a plan file are certificates of
+//! fewest stripes; `send` writes the session's packets, by group, then number. Three clauses of `run` say when they are done:
+//! `plan` and `send` on each accepted session, and `check` on what `plan` printed (`specs/{Plan,Check,Send}.antt`).
 #![tactic(auto)]
 
+mod check;
+mod least;
 mod outcome;
+mod packets;
+mod plan;
 mod receive;
 mod records;
+mod report;
+mod second;
+mod send;
+mod sent_group;
 mod top;
 
 pub use top::run;
 
 #[cfg(test)]
+mod second_tests;
+#[cfg(test)]
+mod send_tests;
+#[cfg(test)]
+mod sender_tests;
+#[cfg(test)]
 mod tests;
+#[cfg(test)]
+mod untold_place;

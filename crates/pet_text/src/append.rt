@@ -1,0 +1,49 @@
+//! The pieces of a fault line, which take no memory.
+ghost use Rattle.std.specs.Prelude.{◌≡◌, ◌+◌, ◌≤◌, ◌++◌, length, decimal};
+ghost use Rattle.arrayvec.specs.ArrayVec.{array_vec_len};
+
+use arrayvec::ArrayVec;
+
+/// Appends a text, for which there must be room.
+pub fn append_text(text: &str, into: &mut ArrayVec<u8, 64>)
+    requires { array_vec_len into.old + length text.now ≤ 64 }
+    ensures text { into.new.items ≡ into.old.items ++ text.now }
+    ensures len { array_vec_len into.new ≡ array_vec_len into.old + length text.now }
+{
+    let _ = into.try_extend_from_slice(text.as_bytes());
+}
+
+/// Appends a number in decimal digits, of which there are at most 20.
+#[tactic(auto, using(crate::proofs::Digits::number_fits))]
+pub fn append_number(number: u64, into: &mut ArrayVec<u8, 64>)
+    requires { array_vec_len into.old + 20 ≤ 64 }
+    ensures text { into.new.items ≡ into.old.items ++ decimal number }
+    ensures len { array_vec_len into.new ≤ array_vec_len into.old + 20 }
+{
+    append_digits(number, into);
+}
+
+/// Appends a byte in decimal digits, of which there are at most 3.
+#[tactic(auto, using(crate::proofs::Digits::byte_fits))]
+pub fn append_byte(number: u8, into: &mut ArrayVec<u8, 64>)
+    requires { array_vec_len into.old + 3 ≤ 64 }
+    ensures text { into.new.items ≡ into.old.items ++ decimal number }
+    ensures len { array_vec_len into.new ≤ array_vec_len into.old + 3 }
+{
+    append_digits(u64::from(number), into);
+}
+
+/// Appends the digits of a number, for which there must be room.
+#[tactic(auto, using(std::proofs::lemmas::Fmt::decimal_digit))]
+fn append_digits(number: u64, into: &mut ArrayVec<u8, 64>)
+    requires { array_vec_len into.old + length (decimal number) ≤ 64 }
+    ensures text { into.new.items ≡ into.old.items ++ decimal number }
+    ensures len { array_vec_len into.new ≡ array_vec_len into.old + length (decimal number) }
+{
+    if number < 10 {
+        into.push(b'0' + number as u8);
+        return;
+    }
+    append_digits(number / 10, into);
+    into.push(b'0' + (number % 10) as u8);
+}

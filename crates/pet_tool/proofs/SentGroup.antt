@@ -1,0 +1,111 @@
+-- The table and the message of a group of the second pass.
+use Rattle.std.proofs.Common.{◌≡◌, ℕ, zero, suc, ◌+◌, ◌*◌, ◌%◌, ◌<◌, ◌≤◌, Bool, List, [], ◌∷◌, ◌++◌, length, map, drop, replicate, min, refl, sym, ◌∙◌, ap, ap₂, arith, inl, inr}
+use Rattle.std.specs.Prelude.{◌==◌, All, get_or, slice_get, Some, None, Result, Ok, Err, IfOk}
+use Rattle.std.specs.List.{flat_map, range_with_len}
+use Rattle.std.specs.Int.{div_ceil}
+use Rattle.std.proofs.lemmas.Bool.{cond-true, cond-false, cases_Bool, cases_lt}
+use Rattle.std.proofs.lemmas.Bool.Decides.{nat_tests}
+use Rattle.std.proofs.lemmas.List.{length-append, length-replicate, drop_all}
+use Rattle.std.specs.Prelude.{IsTrue}
+use Rattle.std.specs.Bool.{Decides}
+use Rattle.stripe_plan.specs.declared.layer.LayerSize.{LayerSize}
+use Rattle.stripe_plan.specs.Sizes.{Sizes}
+use Rattle.stripe_plan.specs.Layers.{needs_of}
+use Rattle.priority_file.specs.Priority.{Rule, Priorities}
+use Rattle.layer_split.specs.declared.cut.Run.{Run}
+use Rattle.layer_split.specs.Layers.{Cut, layer_bytes, layer_length, lengths_of, padded, message}
+use Rattle.layer_split.proofs.Beginning.{layer_size}
+use Rattle.packet_frame.specs.declared.frame.Header.{Header}
+use Rattle.pet_encode.specs.Encoding.{Encoding}
+use Rattle.stream_session.specs.declared.source.Source.{Source}
+use Rattle.stream_session.specs.CutGroups.{CutGroup}
+use Rattle.stream_session.specs.FittingLaws.{IsWhole}
+use Rattle.stream_session.specs.Tables.{table_of, sizes_of, sizes_with}
+use Rattle.pet_tool.specs.Sending.{encoding_of}
+
+no_rules : (lengths : List ℕ) → sizes_with lengths [] ≡ []
+no_rules [] = refl
+no_rules (bytes ∷ lengths) = refl
+
+-- no layer is left behind the shorter one
+pub sizes_end : (lengths : List ℕ) (rules : List Rule) (at : ℕ) → min (length lengths) (length rules) ≤ at → sizes_with (drop at lengths) (drop at rules) ≡ []
+sizes_end lengths rules at le = elim (cases_lt (length lengths) (length rules)) [
+  | inl lt ↦ ap (λ ls. sizes_with ls (drop at rules)) (drop_all at lengths (omega arith))
+  | inr ge ↦ ap (sizes_with (drop at lengths)) (drop_all at rules (omega arith)) ∙ no_rules (drop at lengths)
+]
+
+-- whole words
+padded_length : (bytes : List ℕ) → length (padded bytes) ≡ div_ceil (length bytes) 2 * 2
+padded_length bytes = elim (cases_Bool (length bytes % 2 == 1)) [
+  | inl e ↦
+      let odd : length bytes % 2 ≡ 1 = grind (arith, nat_tests) in
+      ap length (cond-true (length bytes % 2 == 1) (bytes ++ 0 ∷ []) bytes e) ∙ length-append bytes (0 ∷ []) ∙ (omega arith)
+  | inr e ↦
+      let even : length bytes % 2 ≡ 0 = grind (arith, nat_tests) in
+      ap length (cond-false (length bytes % 2 == 1) (bytes ++ 0 ∷ []) bytes e) ∙ (omega arith)
+]
+
+words_from : (s : List ℕ) (runs : List Run) → All (λ (r : Run). r.at + r.len ≤ length s) runs → (rules : List Rule) (a : ℕ)
+    → length (flat_map (λ layer. padded (layer_bytes s runs layer)) (range_with_len a (length rules))) ≡ length (needs_of (sizes_with (map (layer_length runs) (range_with_len a (length rules))) rules)) * 2
+words_from s runs inside [] a = refl
+words_from s runs inside (rule ∷ rules) a =
+    let rest = words_from s runs inside rules (a + 1) in
+    let later : List ℕ = flat_map (λ layer. padded (layer_bytes s runs layer)) (range_with_len (a + 1) (length rules)) in
+    let needs : List ℕ = needs_of (sizes_with (map (layer_length runs) (range_with_len (a + 1) (length rules))) rules) in
+    let here : length (padded (layer_bytes s runs a)) ≡ div_ceil (layer_length runs a) 2 * 2 = padded_length (layer_bytes s runs a) ∙ ap (λ n. div_ceil n 2 * 2) (layer_size s runs a inside) in
+    let words : length (replicate (div_ceil (layer_length runs a) 2) rule.need) ≡ div_ceil (layer_length runs a) 2 = length-replicate (div_ceil (layer_length runs a) 2) rule.need in
+    by_sum (length (padded (layer_bytes s runs a))) (length later) (div_ceil (layer_length runs a) 2) (length (replicate (div_ceil (layer_length runs a) 2) rule.need)) (length needs)
+    _ _ (length-append (padded (layer_bytes s runs a)) later) (length-append (replicate (div_ceil (layer_length runs a) 2) rule.need) needs) here words rest
+  where
+    by_sum : (p l d w n x y : ℕ) → x ≡ p + l → y ≡ w + n → p ≡ d * 2 → w ≡ d → l ≡ n * 2 → x ≡ y * 2
+    by_sum p l d w n x y a b c e f = omega arith
+
+-- the message of a whole group has the words of its table
+pub message_words : (priority : Priorities) (g : CutGroup) → IsWhole (length priority.layers) g → length (message g.bytes g.cut.runs (length g.cut.lengths)) ≡ length (needs_of (sizes_of priority g.cut)) * 2
+message_words priority g whole =
+    ap (λ n. length (message g.bytes g.cut.runs n)) whole.count ∙ words_from g.bytes g.cut.runs whole.inside priority.layers 0
+    ∙ ap (λ l. length (needs_of (sizes_with l priority.layers)) * 2) (ap (lengths_of g.cut.runs) (sym whole.count) ∙ sym whole.lengths)
+
+pub some_same : {A : Type 0} (x y : A) → Some x ≡ Some y → x ≡ y
+some_same x y e = cc
+
+no_some : {A : Type 0} (x : A) → None ≡ Some x → ⊥
+no_some x e = cc
+
+-- what stands at a place
+pub there_at : {A : Type 0} (xs : List A) (k : ℕ) (d x : A) → slice_get xs k ≡ Some x → get_or xs k d ≡ x
+there_at [] k d x e = absurd (no_some x e)
+there_at (y ∷ ys) zero d x e = some_same y x e
+there_at (y ∷ ys) (suc k) d x e = there_at ys k d x e
+
+-- an encoder of this header and this message
+pub encoder_is : {X : Type 0} (r : Result Encoding X) (source : Source) (number : ℕ) (g : CutGroup) (header : Header) (bytes : List ℕ) → IfOk r (λ e. e.header ≡ header) → IfOk r (λ e. e.message ≡ bytes)
+    → header ≡ record { session = source.number; groups = length source.tables.items; group = number; table = table_of source.priority g.cut }
+    → bytes ≡ message g.bytes g.cut.runs (length source.priority.layers) → IfOk r (λ e. e ≡ encoding_of source number g)
+encoder_is (Ok e) source number g header bytes h m is words = ap₂ (λ (x : Header) (y : List ℕ). record { header = x; message = y }) (h ∙ is) (m ∙ words)
+encoder_is (Err x) source number g header bytes h m is words = tt
+
+abbrev pub head : List ℕ → ℕ → ℕ → Sizes → Header
+head session groups number table = record { session = session; groups = groups; group = number; table = table }
+
+pub header_is : (session : List ℕ) (groups many number : ℕ) (table other : Sizes) → groups ≡ many → table ≡ other → head session groups number table ≡ head session many number other
+header_is session groups many number table other e t = ap₂ (λ (n : ℕ) (s : Sizes). head session n number s) e t
+
+pub ok_same : {A E : Type 0} (x y : A) (r : Result A E) → r ≡ Ok x → r ≡ Ok y → x ≡ y
+ok_same x y r p q = cc
+
+pub there_lt : {A : Type 0} (xs : List A) (k : ℕ) (x : A) → slice_get xs k ≡ Some x → k < length xs
+there_lt [] k x e = absurd (no_some x e)
+there_lt (y ∷ ys) zero x e = omega arith
+there_lt (y ∷ ys) (suc k) x e = let lt = there_lt ys k x e in omega arith
+
+abbrev sized : ℕ → List LayerSize → Sizes
+sized n l = record { packets = n; layers = l }
+
+-- the layers of a table are those of the cut, and so the table is
+pub table_decides : (priority : Priorities) (cut : Cut) (table : Sizes) (xs ys : List LayerSize) (r : Bool) → Decides r (xs ≡ ys) → xs ≡ sizes_of priority cut → ys ≡ table.layers → priority.packets ≡ table.packets
+    → (IsTrue r → table ≡ table_of priority cut) × (table ≡ table_of priority cut → IsTrue r)
+table_decides priority cut table xs ys r decides is of packets = (
+  λ same. ap₂ (λ (n : ℕ) (l : List LayerSize). sized n l) (sym packets) (sym of ∙ sym (decides.0 same) ∙ is),
+  λ same. decides.1 (is ∙ sym (ap (λ (t : Sizes). t.layers) same) ∙ sym of),
+)
