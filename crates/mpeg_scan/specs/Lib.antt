@@ -3,3 +3,4 @@ pub mod Refusals
 pub mod Pieces
 pub mod Scanning
 pub mod Moves
+pub mod StandingLaws

@@ -23,7 +23,8 @@ use Rattle.stream_session.specs.Cutting.{IsCuttable, cut_group, cut_groups}
 use Rattle.stream_session.specs.CuttingLaws.{message_rebased}
 use Rattle.stream_session.specs.FilledLaws.{IsFilled, groups_filled}
 use Rattle.stream_session.specs.FitLaws.{no_cause}
-use Rattle.stream_session.specs.StandingLaws.{StandsIn, groups_stand}
+use Rattle.layer_split.specs.CutLaws.{StandsIn}
+use Rattle.stream_session.specs.StandingLaws.{groups_stand}
 use Rattle.stream_session.specs.MarkLaws.{mark_found}
 use Rattle.stream_session.specs.Marks.{mark_of, no_mark, mark_at, group_marks, marks_of}
 use Rattle.stream_session.specs.Tables.{table_of, tables_of, sizes_of, cuts_of_stream}

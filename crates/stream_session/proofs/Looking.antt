@@ -13,7 +13,9 @@ use Rattle.layer_split.specs.Splitting.{HasAdded, cuts_of, cuts_in, groups_after
 use Rattle.stream_session.specs.CutGroups.{CutGroup}
 use Rattle.stream_session.specs.declared.groups.GroupCutter.{GroupCutter}
 use Rattle.stream_session.specs.Cutting.{HasLooked, HasEnded, KeepsPieces, Ends, cut_group, cut_groups, group_from, groups_in, bytes_of_pieces, first_at, pending, pieces_left, end_of}
-use Rattle.stream_session.specs.StandingLaws.{stand_le, stand_end, stand_tail, stand_push, end_push, stand_bytes, runs_lie}
+use Rattle.mpeg_scan.specs.StandingLaws.{stand_le, stand_push}
+use Rattle.layer_split.specs.CutLaws.{runs_lie}
+use Rattle.stream_session.specs.StandingLaws.{stand_end, stand_tail, end_push, stand_bytes}
 use Rattle.stream_session.proofs.Ending.{after_nil, all_groups, begins_last, begins_some, stays, begins, cut_is}
 
 -- the current group lies in what was seen, up to the pieces that are pending

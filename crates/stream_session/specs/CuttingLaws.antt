@@ -19,7 +19,8 @@ use Rattle.layer_split.specs.Splitting.{rebased, cuts_of, groups_after}
 use Rattle.stream_session.specs.CutGroups.{CutGroup}
 use Rattle.stream_session.specs.declared.groups.GroupCutter.{GroupCutter}
 use Rattle.stream_session.specs.Cutting.{HasCut, HasLooked, IsLive, IsRefused, AreFirst, cut_group, cut_groups, bytes_of_pieces, pending}
-use Rattle.stream_session.specs.StandingLaws.{LiesIn, stand_bytes, StandsIn, groups_stand, runs_lie}
+use Rattle.layer_split.specs.CutLaws.{LiesIn, StandsIn, runs_lie}
+use Rattle.stream_session.specs.StandingLaws.{stand_bytes, groups_stand}
 
 -- the groups that were given are the first of the stream
 pub looked_first : (cutter : GroupCutter) (priority : Priorities) (seen : List ℕ) (pieces : List Piece) (given : List CutGroup) → HasLooked cutter priority seen pieces given → IsFrontOf seen pieces → AreFirst priority seen given

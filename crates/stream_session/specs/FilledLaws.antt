@@ -11,7 +11,9 @@ use Rattle.layer_split.specs.Groups.{groups_of, groups_from, begins_group}
 use Rattle.stream_session.specs.CutGroups.{CutGroup}
 use Rattle.stream_session.specs.declared.groups.GroupCutter.{GroupCutter}
 use Rattle.stream_session.specs.Cutting.{HasCut, cut_group, cut_groups, bytes_of_pieces}
-use Rattle.stream_session.specs.StandingLaws.{StandsIn, stand_le, stand_bytes, groups_stand}
+use Rattle.mpeg_scan.specs.StandingLaws.{stand_le}
+use Rattle.layer_split.specs.CutLaws.{StandsIn}
+use Rattle.stream_session.specs.StandingLaws.{stand_bytes, groups_stand}
 use Rattle.stream_session.specs.CuttingLaws.{given_front}
 
 -- the group has bytes

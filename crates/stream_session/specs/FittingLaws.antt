@@ -19,7 +19,9 @@ use Rattle.layer_split.specs.Splitting.{rebased}
 use Rattle.stream_session.specs.CutGroups.{CutGroup}
 use Rattle.stream_session.specs.declared.groups.GroupCutter.{GroupCutter}
 use Rattle.stream_session.specs.Cutting.{HasCut, cut_group, cut_groups, bytes_of_pieces}
-use Rattle.stream_session.specs.StandingLaws.{LiesIn, StandsIn, stand_le, stand_bytes, runs_lie, groups_stand}
+use Rattle.mpeg_scan.specs.StandingLaws.{stand_le}
+use Rattle.layer_split.specs.CutLaws.{LiesIn, StandsIn, runs_lie}
+use Rattle.stream_session.specs.StandingLaws.{stand_bytes, groups_stand}
 use Rattle.stream_session.specs.CuttingLaws.{given_front}
 
 -- the group is one of so many layers
