@@ -188,7 +188,7 @@ there_seam : {A B : Type 0} (f : A → B) (xs : List A) (x : A) (ys : List A) �
 there_seam f [] x ys = refl
 there_seam f (y ∷ xs) x ys = there_seam f xs x ys
 
-same_next : (p b : List ℕ) (source : Source) (marks : List GroupMark) (before : List CutGroup) (group : ℕ) (second : GroupMark) → IsFirstPass p b source marks → IsNext source b before group second → mark_at marks group ≡ second
+same_next : (p b : List ℕ) (source : Source) (marks : List GroupMark) (before : List CutGroup) (group : ℕ) (second : GroupMark) → IsFirstPass p b source marks → IsNext source.priority source.tables.items b before group second → mark_at marks group ≡ second
 same_next p b source marks before group second f n =
     let priority = source.priority in
     let later = n.first_groups.0 in
@@ -205,7 +205,7 @@ same_next p b source marks before group second f n =
       | inr other ↦ absurd (other.1 table)
     ]
 
-same_lost : (p b : List ℕ) (source : Source) (marks : List GroupMark) (before : List CutGroup) (group : ℕ) (second : GroupMark) → IsFirstPass p b source marks → IsLost source b before group second → mark_at marks group ≡ second
+same_lost : (p b : List ℕ) (source : Source) (marks : List GroupMark) (before : List CutGroup) (group : ℕ) (second : GroupMark) → IsFirstPass p b source marks → IsLost source.priority b before group second → mark_at marks group ≡ second
 same_lost p b source marks before group second f l =
     let groups = l.all (cuttable_here p b source marks f) in
     ap (λ ms. mark_at ms group) (marks_here p b source marks f ∙ ap group_marks groups) ∙ mark_past before group l.beyond ∙ sym l.none
@@ -213,11 +213,12 @@ same_lost p b source marks before group second f l =
 pub told_changed : (p b : List ℕ) (source : Source) (marks : List GroupMark) (change : Change) (old new : Seen) → IsFirstPass p b source marks → old.rest ≡ Some b → HasChanged source marks change old new → ⊥
 told_changed p b source marks change old new f told h =
     let at = subst (λ s. IsChange source marks s change old new) (taken_told p b h.stream source marks old new f told h.taken) h.change_is in
-    let same : mark_at marks change.group ≡ change.second = elim at.second_is [
-      | inl n ↦ same_next p b source marks at.before change.group change.second f n
-      | inr l ↦ same_lost p b source marks at.before change.group change.second f l
+    let least = at.least in
+    let same : mark_at marks change.group ≡ change.second = elim least.second_is [
+      | inl n ↦ same_next p b source marks least.before change.group change.second f n
+      | inr l ↦ same_lost p b source marks least.before change.group change.second f l
     ] in
-    at.differ (at.first_is ∙ same)
+    least.differ (least.first_is ∙ same)
 
 -- the answers that this makes
 pub told_ok : (p b : List ℕ) (source : Source) (marks : List GroupMark) (old new : Seen) (change : Option Change) (result : Result (Unit {0}) SendStop) → MatchOption change (result ≡ Ok tt) (λ c. result ≡ Err (Changed c.group c.first c.second))
