@@ -224,3 +224,9 @@ pub differs_in : (words : List (List ℕ)) (command : Command) (stream priority 
 differs_in words command stream priority name to end words_are is name_is end_is =
     let sent : command_of words ≡ Some (Send stream priority (File to)) = words_are ∙ ap (λ (c : Command). Some c) (is ∙ ap (λ (e : End). Send stream priority e) end_is) in
     subst (λ (s : List ℕ). bytes_eq to s ≡ false) (sym name_is) (send_differs stream priority to words sent)
+
+-- what holds of the words of `send` that were read
+pub for_sent : (command : Command) (stream priority : List ℕ) (end : End) (one other to : List ℕ) (P : List ℕ → List ℕ → List ℕ → Type 0) → command ≡ Send stream priority end → one ≡ stream → other ≡ priority → end ≡ File to → P one other to
+    → ForSend (Some command) P
+for_sent command stream priority end one other to P is one_is other_is end_is h =
+    subst (λ (c : Command). ForSend (Some c) P) (sym (is ∙ ap (λ (e : End). Send stream priority e) end_is)) (subst (λ (x : List ℕ). P x priority to) one_is (subst (λ (y : List ℕ). P one y to) other_is h))

@@ -1,5 +1,7 @@
-use Rattle.std.proofs.Common.{Option, sym, subst}
+use Rattle.std.proofs.Common.{Option, ap, sym, subst}
+use Rattle.std.specs.Prelude.{Err}
 use Rattle.pet_text.specs.declared.words.Command.{Command}
+use Rattle.pet_text.specs.declared.words.WordsFault.{WordsFault}
 use Rattle.pet_text.specs.Words.{texts_of, command_of}
 use Rattle.pet_tool.specs.Runs.{Runs}
 use Rattle.pet_tool.proofs.Running.{runs_none, runs_no_memory}
@@ -16,7 +18,7 @@ pub returns-in-Err-Usage-clause-runs : goal.returns-in-Err-Usage-clause-runs
 returns-in-Err-Usage-clause-runs g c =
     let seen = g.P.Place.seen c.args.place.now in
     runs_none (command_of (texts_of c.args.words.now)) seen seen (g.S.Sink.written c.args.out.now) (g.S.Sink.written c.tell.new.out) (g.S.Sink.faults c.args.out.now) (g.S.Sink.faults c.tell.new.out) c.args.steps.now c.args.steps.now
-    c.tell.result ?
+    c.tell.result (c.in-Err-Usage.ensures.usage.0 (ap (λ (fault : WordsFault). Err fault) c.in-Err-Usage.field-0-is))
 
 pub returns-in-Err-NoMemory-clause-runs : goal.returns-in-Err-NoMemory-clause-runs
 returns-in-Err-NoMemory-clause-runs g c =
