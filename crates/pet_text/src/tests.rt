@@ -88,10 +88,12 @@ fn reads_the_words_of_plan_check_and_send(rt: HostRuntime) -> Result<(), Fail> {
 #[test]
 fn refuses_other_words(rt: HostRuntime) -> Result<(), Fail> {
     let alloc = rt.alloc();
-    let cases: [&[&str]; 11] = [
+    let cases: [&[&str]; 13] = [
         &[],
         &["plan", "s"],
         &["receive", "file:a", "0123", "l"],
+        &["receive", "file:a", "A5AC9461B03BCF36", "l"],
+        &["receive", "file:", "a5ac9461b03bcf36", "l"],
         &["plan", "s", ""],
         &["PLAN", "s", "f"],
         &["send", "s", "f"],

@@ -159,11 +159,3 @@ check_no_memory stream priority plan seen before after fb fa p = record {
   files = refl;
   reports = record { text = []; tells = (check.NoMemory, tt, refl, refl); rose = λ is. absurd (cc); prints = p };
 }
-
--- what holds of all words of `check`
-pub for_all_checks : (o : Option Command) (P : List ℕ → List ℕ → List ℕ → Type 0) → ((stream priority plan : List ℕ) → P stream priority plan) → ForCheck o P
-for_all_checks None P h = tt
-for_all_checks (Some (Plan stream priority)) P h = tt
-for_all_checks (Some (Check stream priority plan)) P h = h stream priority plan
-for_all_checks (Some (Send stream priority to)) P h = tt
-for_all_checks (Some (Receive from session layers)) P h = tt

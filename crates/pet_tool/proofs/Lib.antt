@@ -30,3 +30,4 @@ pub mod Sent
 pub mod SentReading
 pub mod SentTold
 pub mod SentFirst
+pub mod Running

@@ -58,14 +58,6 @@ module _ (stream priority p b : List ℕ) (old new : Seen) (before after : Optio
             ∙ ap (append_known before) (append-nil r.text ∙ done.1);
       }
 
--- what holds of all words of `plan`
-pub for_all_plans : (o : Option Command) (P : List ℕ → List ℕ → Type 0) → ((stream priority : List ℕ) → P stream priority) → ForPlan o P
-for_all_plans None P h = tt
-for_all_plans (Some (Plan stream priority)) P h = h stream priority
-for_all_plans (Some (Check stream priority plan)) P h = tt
-for_all_plans (Some (Send stream priority to)) P h = tt
-for_all_plans (Some (Receive from session layers)) P h = tt
-
 -- that `plan` is done, of the words that were read
 pub plans_for : (o : Option Command) (old new : Seen) (before after : Option (List ℕ)) (fb fa : ℕ) (status : Status)
     → ForPlan o (λ stream priority. Plans stream priority old new before after fb fa status)

@@ -1,7 +1,8 @@
 -- What `send` tells at its end, and that it is done wherever no cause of another status holds.
-use Rattle.std.proofs.Common.{◌≡◌, ◌≢◌, ℕ, ◌*◌, ◌≤◌, false, List, [], ◌++◌, length, take, Option, Some, None, refl, sym, ap, subst, ◌∙◌, arith, inl, inr}
+use Rattle.std.proofs.Common.{◌≡◌, ◌≢◌, ℕ, ◌+◌, ◌*◌, ◌≤◌, false, List, [], ◌++◌, length, take, Option, Some, None, refl, sym, ap, subst, ◌∙◌, arith, inl, inr}
 use Rattle.std.proofs.lemmas.List.{append-nil}
 use Rattle.std.specs.Prelude.{◌⊎◌, option_map, Result, Ok, Err, OnErr}
+use Rattle.std.specs.List.{sum_by}
 use Rattle.std.specs.Str.{bytes_eq}
 use Rattle.std.specs.Io.KnownBytes.{append_known}
 use Rattle.pet_base.specs.declared.place.Side.TheVariants.{Written}
@@ -15,7 +16,7 @@ use Rattle.stream_session.specs.declared.mark.GroupMark.{GroupMark}
 use Rattle.stream_session.specs.declared.source.Source.{Source}
 use Rattle.stream_session.specs.declared.source.SourceFault.TheVariants as source
 use Rattle.stream_session.specs.Inputs.{IsFile, IsRead}
-use Rattle.stream_session.specs.Marks.{marks_of, mark_at}
+use Rattle.stream_session.specs.Marks.{marks_of}
 use Rattle.stream_session.specs.Number.{session_number}
 use Rattle.stream_session.specs.Sources.{IsSource, IsSourceFault}
 use Rattle.pet_text.specs.declared.status.Status.{Status}
@@ -30,13 +31,14 @@ use Rattle.pet_text.specs.Lines.{fault_text}
 use Rattle.pet_text.specs.PlanLines.{send_text}
 use Rattle.pet_tool.specs.declared.send.SendFault.{SendFault}
 use Rattle.pet_tool.specs.declared.send.SendFault.TheVariants as fault
+use Rattle.pet_tool.specs.declared.sent_group.Change.{Change}
 use Rattle.pet_tool.specs.Finished.{Prints}
 use Rattle.pet_tool.specs.Reading.{IsPrefix, PutsPart}
 use Rattle.pet_tool.specs.Reports.{Reports}
-use Rattle.pet_tool.specs.Send.{session_datagrams, sent_line_text, HasSent, LeavesSent, IsOfSent, HasChanged, IsSendFault, status_of_send, SendTells, Sends, ForSend, CanSend, SendsSession}
+use Rattle.pet_tool.specs.Send.{session_datagrams, sent_line_text, HasSent, LeavesSent, IsOfSent, Costs, HasChanged, IsSendFault, status_of_send, SendTells, Sends, ForSend, CanSend, SendsSession}
 use Rattle.pet_tool.specs.declared.second.SendStop.{SendStop}
 use Rattle.pet_tool.specs.declared.second.SendStop.TheVariants as stopped
-use Rattle.pet_tool.specs.Sending.{IsFirstPass, IsSendStop, IsToldStop, SentPart}
+use Rattle.pet_tool.specs.Sending.{words_cost, IsLeastChange, IsFirstPass, IsSendStop, IsToldStop, SentPart}
 use Rattle.pet_tool.specs.SendParts.{IsOfReopened, SessionSent, SessionLeft, SessionStops}
 use Rattle.pet_tool.specs.Sources.{HasSession, tables_in, status_of_source}
 use Rattle.pet_tool.proofs.Reporting.{priority_is, stream_is, no_fault}
@@ -77,6 +79,14 @@ pub sent_leaves : (old new : Seen) (stream priority to : List ℕ) (s : HasSessi
 sent_leaves old new stream priority to s sent =
     inr (s, session_datagrams s.priority_bytes s.stream_bytes, ([], sym (append-nil (session_datagrams s.priority_bytes s.stream_bytes))), sent)
 
+-- the change is one of the session's marks
+least_of : (p b : List ℕ) (source : Source) (marks : List GroupMark) (again : List ℕ) (change : Change) → IsFirstPass p b source marks → IsLeastChange source.priority source.tables.items marks again change
+    → IsLeastChange (priorities_of p) (tables_in p b) (marks_of (priorities_of p) b) again change
+least_of p b source marks again change first least =
+    subst (λ (r : Priorities). IsLeastChange r (tables_in p b) (marks_of (priorities_of p) b) again change) first.rules
+    (subst (λ (ts : List Sizes). IsLeastChange source.priority ts (marks_of (priorities_of p) b) again change) first.tables
+    (subst (λ (ms : List GroupMark). IsLeastChange source.priority source.tables.items ms again change) first.marks_are least))
+
 -- why the sending stopped
 pub stops_of : (old mid new : Seen) (stream priority to : List ℕ) (source : Source) (marks : List GroupMark) (f : SendFault) (s : HasSession old stream priority) → IsFirstPass s.priority_bytes s.stream_bytes source marks
     → mid.files ≡ old.files → old.faults ≤ mid.faults → SessionStops source marks stream to mid new f → IsSendFault old new stream priority to f
@@ -86,10 +96,15 @@ stops_of old mid new stream priority to source marks fault.Failed s first same l
 stops_of old mid new stream priority to source marks (fault.Source refused) s first same later stops = absurd stops
 stops_of old mid new stream priority to source marks (fault.Changed group one other) s first same later stops = record {
   session = s;
-  at_first = stops.0 ∙ ap (λ (ms : List GroupMark). mark_at ms group) first.marks_are;
-  other = stops.1;
+  again = stops.0;
+  least = least_of s.priority_bytes s.stream_bytes source marks stops.0 (record { group = group; first = one; second = other }) first stops.1;
   untold = sym same ∙ stops.2 s.priority_bytes s.stream_bytes first (subst (λ (o : Option Files). IsFile o stream s.stream_bytes) (sym same) s.stream_file);
 }
+
+-- how many steps it may have counted
+pub costs_of : (old : Seen) (stream priority : List ℕ) (source : Source) (marks : List GroupMark) (s : HasSession old stream priority) (before after : ℕ) → IsFirstPass s.priority_bytes s.stream_bytes source marks
+    → after ≤ before + sum_by words_cost source.tables.items → Costs stream priority old before after
+costs_of old stream priority source marks s before after first few = inr (s, subst (λ (ts : List Sizes). after ≤ before + sum_by words_cost ts) first.tables few)
 
 -- a fault of it
 pub send_refused : (stream priority to : List ℕ) (old new : Seen) (f : SendFault) → IsSendFault old new stream priority to f → LeavesSent stream priority to old new → SendTells stream priority to old new (status_of_send f) []
@@ -166,14 +181,6 @@ module _ (stream priority to p b : List ℕ) (old new : Seen) (before after : Op
             ∙ ap (append_known before) (append-nil r.text ∙ done.2);
       }
 
--- what holds of all words of `send`
-pub for_all_sends : (o : Option Command) (P : List ℕ → List ℕ → List ℕ → Type 0) → ((stream priority to : List ℕ) → P stream priority to) → ForSend o P
-for_all_sends None P h = tt
-for_all_sends (Some (Plan stream priority)) P h = tt
-for_all_sends (Some (Check stream priority plan)) P h = tt
-for_all_sends (Some (Send stream priority (File to))) P h = h stream priority to
-for_all_sends (Some (Receive from session layers)) P h = tt
-
 -- that `send` is done, of the words that were read
 pub sends_for : (o : Option Command) (old new : Seen) (before after : Option (List ℕ)) (fb fa : ℕ) (status : Status)
     → ForSend o (λ stream priority to. Sends stream priority to old new before after fb fa status)
@@ -217,3 +224,9 @@ pub differs_in : (words : List (List ℕ)) (command : Command) (stream priority 
 differs_in words command stream priority name to end words_are is name_is end_is =
     let sent : command_of words ≡ Some (Send stream priority (File to)) = words_are ∙ ap (λ (c : Command). Some c) (is ∙ ap (λ (e : End). Send stream priority e) end_is) in
     subst (λ (s : List ℕ). bytes_eq to s ≡ false) (sym name_is) (send_differs stream priority to words sent)
+
+-- what holds of the words of `send` that were read
+pub for_sent : (command : Command) (stream priority : List ℕ) (end : End) (one other to : List ℕ) (P : List ℕ → List ℕ → List ℕ → Type 0) → command ≡ Send stream priority end → one ≡ stream → other ≡ priority → end ≡ File to → P one other to
+    → ForSend (Some command) P
+for_sent command stream priority end one other to P is one_is other_is end_is h =
+    subst (λ (c : Command). ForSend (Some c) P) (sym (is ∙ ap (λ (e : End). Send stream priority e) end_is)) (subst (λ (x : List ℕ). P x priority to) one_is (subst (λ (y : List ℕ). P one y to) other_is h))

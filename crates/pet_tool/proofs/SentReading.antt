@@ -82,19 +82,8 @@ stands_read source marks stream None pass first before after reads h = record {
   number = h.number;
   sent = some_read source marks h.groups first before after reads h.sent;
 }
-stands_read source marks stream (Some c) pass first before after reads h = (
-  record {
-    before = h.0.before;
-    first_groups = h.0.first_groups;
-    sent = some_read source marks h.0.before first before after reads h.0.sent;
-    agree = h.0.agree;
-    first_is = h.0.first_is;
-    second_is = h.0.second_is;
-    differ = h.0.differ;
-  },
-  h.1,
-  h.2,
-)
+stands_read source marks stream (Some c) pass first before after reads h =
+    (record { least = h.0.least; sent = some_read source marks h.0.least.before first before after reads h.0.sent }, h.1, h.2)
 
 prepend_none : (known : Option (List ℕ)) → prepend_known [] known ≡ known
 prepend_none None = refl

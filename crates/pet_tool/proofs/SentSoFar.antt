@@ -120,7 +120,7 @@ front_before priority stream groups more f = (more ++ f.0, f.1 ∙ append_assoc 
 
 -- the next group is another
 next_at : (source : Source) (marks : List GroupMark) (stream : List ℕ) (groups : List CutGroup) (g : CutGroup) (before after : Seen) (change : Change) → IsFront source.priority stream (groups ++ g ∷ [])
-    → Differs source marks (length groups) g before after change → IsNext source stream groups change.group change.second
+    → Differs source marks (length groups) g before after change → IsNext source.priority source.tables.items stream groups change.group change.second
 next_at source marks stream groups g before after change firsts d = record {
   next = g;
   at = d.group;
@@ -134,13 +134,15 @@ next_at source marks stream groups g before after change firsts d = record {
 change_is : (source : Source) (marks : List GroupMark) (stream : List ℕ) (groups : List CutGroup) (g : CutGroup) (first before after : Seen) (change : Change) → HasSentSome source marks groups first before → IsFront source.priority stream (groups ++ g ∷ [])
     → Differs source marks (length groups) g before after change → IsChange source marks stream change first after
 change_is source marks stream groups g first before after change h firsts d = record {
-  before = groups;
-  first_groups = front_before source.priority stream groups (g ∷ []) firsts;
+  least = record {
+    before = groups;
+    first_groups = front_before source.priority stream groups (g ∷ []) firsts;
+    agree = subst (AgreeBelow marks groups) (sym d.group) h.agree;
+    first_is = d.first_is ∙ ap (mark_at marks) (sym d.group);
+    second_is = inl (next_at source marks stream groups g before after change firsts d);
+    differ = d.differ;
+  };
   sent = subst (HasSentSome source marks groups first) (sym d.still) h;
-  agree = subst (AgreeBelow marks groups) (sym d.group) h.agree;
-  first_is = d.first_is ∙ ap (mark_at marks) (sym d.group);
-  second_is = inl (next_at source marks stream groups g before after change firsts d);
-  differ = d.differ;
 }
 
 pub change_at : (source : Source) (marks : List GroupMark) (stream : List ℕ) (groups : List CutGroup) (g : CutGroup) (first before after : Seen) (change : Change) → HasSentSome source marks groups first before → AreFirst source.priority stream (groups ++ g ∷ [])
@@ -180,23 +182,25 @@ part_gone source marks stream pass first now h = part_some source marks (AreFirs
 pub part_stands : (source : Source) (marks : List GroupMark) (stream : List ℕ) (change : Option Change) (pass : SecondPass) (first now : Seen) → Stands source marks stream change pass first now → IsPart source marks (AreFirst source.priority stream) first now
 part_stands source marks stream None pass first now h = part_gone source marks stream pass first now h
 part_stands source marks stream (Some change) pass first now h =
-    part_some source marks (AreFirst source.priority stream) h.0.before first now h.0.sent (first_before source.priority stream h.0.before (h.1.next ∷ []) h.2)
+    part_some source marks (AreFirst source.priority stream) h.0.least.before first now h.0.sent (first_before source.priority stream h.0.least.before (h.1.next ∷ []) h.2)
 
 -- a change stays one, however the stream goes on
 pub change_longer : (source : Source) (marks : List GroupMark) (stream portion : List ℕ) (change : Change) (first now : Seen) → HasMetChange source marks stream first now change → HasMetChange source marks (stream ++ portion) first now change
 change_longer source marks stream portion change first now h =
     let priority = source.priority in
-    let firsts : AreFirst priority (stream ++ portion) (h.0.before ++ h.1.next ∷ []) = first_longer priority stream portion (h.0.before ++ h.1.next ∷ []) h.2 in
-    let next : IsNext source (stream ++ portion) h.0.before change.group change.second =
-    record { next = h.1.next; at = h.1.at; first_groups = front_of priority (stream ++ portion) (h.0.before ++ h.1.next ∷ []) firsts; marked = h.1.marked } in (
+    let firsts : AreFirst priority (stream ++ portion) (h.0.least.before ++ h.1.next ∷ []) = first_longer priority stream portion (h.0.least.before ++ h.1.next ∷ []) h.2 in
+    let next : IsNext priority source.tables.items (stream ++ portion) h.0.least.before change.group change.second =
+    record { next = h.1.next; at = h.1.at; first_groups = front_of priority (stream ++ portion) (h.0.least.before ++ h.1.next ∷ []) firsts; marked = h.1.marked } in (
       record {
-        before = h.0.before;
-        first_groups = front_of priority (stream ++ portion) h.0.before (first_before priority (stream ++ portion) h.0.before (h.1.next ∷ []) firsts);
+        least = record {
+          before = h.0.least.before;
+          first_groups = front_of priority (stream ++ portion) h.0.least.before (first_before priority (stream ++ portion) h.0.least.before (h.1.next ∷ []) firsts);
+          agree = h.0.least.agree;
+          first_is = h.0.least.first_is;
+          second_is = inl next;
+          differ = h.0.least.differ;
+        };
         sent = h.0.sent;
-        agree = h.0.agree;
-        first_is = h.0.first_is;
-        second_is = inl next;
-        differ = h.0.differ;
       },
       next,
       firsts,
@@ -258,13 +262,15 @@ agree_past marks groups limit agree none k lt = elim (cases_lt k (length groups)
 pub lost_change : (source : Source) (marks : List GroupMark) (stream : List ℕ) (groups : List CutGroup) (from : ℕ) (first now : Seen) (change : Change) → from ≡ length groups → HasSentSome source marks groups first now → IsFront source.priority stream groups
     → (IsCuttable source.priority stream → cut_groups source.priority stream ≡ groups) → IsFirstLost marks from change → IsChange source marks stream change first now
 lost_change source marks stream groups from first now change at h firsts all lost = record {
-  before = groups;
-  first_groups = firsts;
+  least = record {
+    before = groups;
+    first_groups = firsts;
+    agree = agree_past marks groups change.group h.agree (λ k le lt. lost.before k (omega (arith, at, le)) lt);
+    first_is = lost.first_is;
+    second_is = inr (record { beyond = omega (arith, at, lost.beyond); all = all; none = lost.none });
+    differ = lost.differ;
+  };
   sent = h;
-  agree = agree_past marks groups change.group h.agree (λ k le lt. lost.before k (omega (arith, at, le)) lt);
-  first_is = lost.first_is;
-  second_is = inr (record { beyond = omega (arith, at, lost.beyond); all = all; none = lost.none });
-  differ = lost.differ;
 }
 
 pub all_sent : (source : Source) (marks : List GroupMark) (stream : List ℕ) (groups : List CutGroup) (from : ℕ) (first now : Seen) → from ≡ length groups → HasSentSome source marks groups first now → IsFront source.priority stream groups

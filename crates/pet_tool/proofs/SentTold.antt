@@ -1,6 +1,6 @@
 -- What the second pass answers where the input is the stream of the first pass.
 use Rattle.std.proofs.Common.{◌≡◌, ℕ, zero, suc, ◌+◌, ◌≤◌, List, [], ◌∷◌, ◌++◌, length, map, get_or, Option, Some, None, refl, sym, ◌∙◌, ap, ap₂, subst, arith, inl, inr, append_assoc}
-use Rattle.std.specs.Prelude.{slice_get, All, IfSome, MatchOption, MatchResult, Result, Ok, Err}
+use Rattle.std.specs.Prelude.{slice_get, All, IfSome, IfErr, MatchOption, MatchResult, Result, Ok, Err}
 use Rattle.std.specs.List.{flat_map}
 use Rattle.std.specs.Io.KnownBytes.{prepend_known, IsAtEnd}
 use Rattle.std.proofs.lemmas.List.{append-nil, length-append, length-map, map-append}
@@ -36,7 +36,7 @@ use Rattle.pet_tool.specs.declared.second.SendStop.TheVariants.{Changed}
 use Rattle.pet_tool.specs.declared.sent_group.Change.{Change}
 use Rattle.pet_tool.specs.Packets.{datagrams_text, AreEncoders, group_entries}
 use Rattle.pet_tool.specs.Reading.{IsPrefix, Puts, PutsPart}
-use Rattle.pet_tool.specs.Sending.{encoding_of, encodings_from, sent_text, IsFront, IsNext, IsLost, IsChange, IsAllSent, IsTaken, HasSent, HasChanged, SentPart, IsFirstPass, IsToldStop}
+use Rattle.pet_tool.specs.Sending.{encoding_of, encodings_from, sent_text, IsFront, IsNext, IsLost, IsChange, IsAllSent, IsTaken, HasSent, HasChanged, SentPart, IsFirstPass, IsSendStop, IsToldStop}
 use Rattle.pet_tool.specs.Second.{of_stop}
 use Rattle.pet_tool.proofs.Datagrams.{groups_make_datagrams, part_within}
 use Rattle.pet_tool.proofs.SentReading.{short_stream}
@@ -188,7 +188,7 @@ there_seam : {A B : Type 0} (f : A → B) (xs : List A) (x : A) (ys : List A) �
 there_seam f [] x ys = refl
 there_seam f (y ∷ xs) x ys = there_seam f xs x ys
 
-same_next : (p b : List ℕ) (source : Source) (marks : List GroupMark) (before : List CutGroup) (group : ℕ) (second : GroupMark) → IsFirstPass p b source marks → IsNext source b before group second → mark_at marks group ≡ second
+same_next : (p b : List ℕ) (source : Source) (marks : List GroupMark) (before : List CutGroup) (group : ℕ) (second : GroupMark) → IsFirstPass p b source marks → IsNext source.priority source.tables.items b before group second → mark_at marks group ≡ second
 same_next p b source marks before group second f n =
     let priority = source.priority in
     let later = n.first_groups.0 in
@@ -205,7 +205,7 @@ same_next p b source marks before group second f n =
       | inr other ↦ absurd (other.1 table)
     ]
 
-same_lost : (p b : List ℕ) (source : Source) (marks : List GroupMark) (before : List CutGroup) (group : ℕ) (second : GroupMark) → IsFirstPass p b source marks → IsLost source b before group second → mark_at marks group ≡ second
+same_lost : (p b : List ℕ) (source : Source) (marks : List GroupMark) (before : List CutGroup) (group : ℕ) (second : GroupMark) → IsFirstPass p b source marks → IsLost source.priority b before group second → mark_at marks group ≡ second
 same_lost p b source marks before group second f l =
     let groups = l.all (cuttable_here p b source marks f) in
     ap (λ ms. mark_at ms group) (marks_here p b source marks f ∙ ap group_marks groups) ∙ mark_past before group l.beyond ∙ sym l.none
@@ -213,11 +213,12 @@ same_lost p b source marks before group second f l =
 pub told_changed : (p b : List ℕ) (source : Source) (marks : List GroupMark) (change : Change) (old new : Seen) → IsFirstPass p b source marks → old.rest ≡ Some b → HasChanged source marks change old new → ⊥
 told_changed p b source marks change old new f told h =
     let at = subst (λ s. IsChange source marks s change old new) (taken_told p b h.stream source marks old new f told h.taken) h.change_is in
-    let same : mark_at marks change.group ≡ change.second = elim at.second_is [
-      | inl n ↦ same_next p b source marks at.before change.group change.second f n
-      | inr l ↦ same_lost p b source marks at.before change.group change.second f l
+    let least = at.least in
+    let same : mark_at marks change.group ≡ change.second = elim least.second_is [
+      | inl n ↦ same_next p b source marks least.before change.group change.second f n
+      | inr l ↦ same_lost p b source marks least.before change.group change.second f l
     ] in
-    at.differ (at.first_is ∙ same)
+    least.differ (least.first_is ∙ same)
 
 -- the answers that this makes
 pub told_ok : (p b : List ℕ) (source : Source) (marks : List GroupMark) (old new : Seen) (change : Option Change) (result : Result (Unit {0}) SendStop) → MatchOption change (result ≡ Ok tt) (λ c. result ≡ Err (Changed c.group c.first c.second))
@@ -226,6 +227,11 @@ pub told_ok : (p b : List ℕ) (source : Source) (marks : List GroupMark) (old n
 told_ok p b source marks old new None result is h f told =
     subst (λ r. MatchResult r (λ k. Puts (datagrams_text (session_of p b)) old new) (IsToldStop (datagrams_text (session_of p b)) old new)) (sym is) (told_sent p b source marks old new f told h)
 told_ok p b source marks old new (Some c) result is h f told = absurd (told_changed p b source marks c old new f told h)
+
+pub changed_stop : (source : Source) (marks : List GroupMark) (old new : Seen) (F : Type 0) (change : Option Change) (result : Result (Unit {0}) SendStop) → MatchOption change (result ≡ Ok tt) (λ c. result ≡ Err (Changed c.group c.first c.second))
+    → MatchOption change (HasSent source marks old new) (λ c. HasChanged source marks c old new) → IfErr result (IsSendStop source marks old new F)
+changed_stop source marks old new F None result is h = subst (λ r. IfErr r (IsSendStop source marks old new F)) (sym is) tt
+changed_stop source marks old new F (Some c) result is h = subst (λ r. IfErr r (IsSendStop source marks old new F)) (sym is) h
 
 told_part_stop : (text : List ℕ) (old new : Seen) (stop : Stop) → PutsPart text old new → IsToldStop text old new (of_stop stop)
 told_part_stop text old new stop.Memory part = part

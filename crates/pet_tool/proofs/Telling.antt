@@ -103,14 +103,6 @@ module _ (session from layers : List ℕ) (old new : Seen) (before mid after : O
       at Place printed cause p = (cause, front, Prints-first (fault_text PlaceFault) before mid after fb fm fa printed later p)
       at Out printed cause p = (Rose-before fb fm fa then cause, front, (printed.0, printed.1, Prints-same mid after fm fa p ∙ printed.2))
 
--- what holds of all words of `receive`
-pub for_all : (o : Option Command) (P : List ℕ → List ℕ → List ℕ → Type 0) → ((from session layers : List ℕ) → P from session layers) → ForReceive o P
-for_all None P h = tt
-for_all (Some (Plan stream priority)) P h = tt
-for_all (Some (Check stream priority plan)) P h = tt
-for_all (Some (Send stream priority to)) P h = tt
-for_all (Some (Receive (File from) session layers)) P h = h from session layers
-
 -- what holds of the words that were read
 pub for_these : (o : Option Command) (from session layers : List ℕ) (P : List ℕ → List ℕ → List ℕ → Type 0) → o ≡ Some (Receive (File from) session layers) → P from session layers → ForReceive o P
 for_these o from session layers P e h = subst (λ (c : Option Command). ForReceive c P) (sym e) h

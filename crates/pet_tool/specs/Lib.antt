@@ -19,3 +19,4 @@ pub mod Sending
 pub mod Second
 pub mod Send
 pub mod SendParts
+pub mod Runs

@@ -36,8 +36,8 @@ pub record HasGone (source : Source) (marks : List GroupMark) (stream : List ℕ
 -- the group at which the marks differ has ended
 abbrev pub HasMetChange : Source → List GroupMark → List ℕ → Seen → Seen → Change → Type 0
 HasMetChange source marks stream old new change =
-    (h : IsChange source marks stream change old new) × (next : IsNext source stream h.before change.group change.second)
-    × AreFirst source.priority stream (h.before ++ next.next ∷ [])
+    (h : IsChange source marks stream change old new) × (next : IsNext source.priority source.tables.items stream h.least.before change.group change.second)
+    × AreFirst source.priority stream (h.least.before ++ next.next ∷ [])
 
 -- so far, or to a change
 abbrev pub Stands : Source → List GroupMark → List ℕ → Option Change → SecondPass → Seen → Seen → Type 0

@@ -1,14 +1,14 @@
 -- What `send` does: it writes the packets of the session to a datagram file. This project's own.
-use Rattle.std.specs.Prelude.{◌≡◌, ◌≢◌, ◌⊎◌, ℕ, ◌*◌, List, [], length, take, Option, None, Some, option_map}
+use Rattle.std.specs.Prelude.{◌≡◌, ◌≢◌, ◌⊎◌, ℕ, ◌+◌, ◌*◌, ◌≤◌, List, [], length, take, Option, None, Some, option_map}
+use Rattle.std.specs.List.{sum_by}
 use Rattle.std.specs.Io.KnownBytes.{append_known}
 use Rattle.pet_base.specs.declared.place.Side.TheVariants.{Written}
 use Rattle.pet_base.specs.Causes.{Rose}
 use Rattle.pet_base.specs.Seen.{Seen, HadFault, with_file}
 use Rattle.priority_file.specs.Refusals.{priorities_of}
-use Rattle.stream_session.specs.declared.mark.GroupMark.{GroupMark}
 use Rattle.stream_session.specs.Accepted.{session_of}
 use Rattle.stream_session.specs.Inputs.{IsRead}
-use Rattle.stream_session.specs.Marks.{marks_of, mark_at}
+use Rattle.stream_session.specs.Marks.{marks_of}
 use Rattle.stream_session.specs.Number.{session_number}
 use Rattle.stream_session.specs.Sources.{IsSourceFault}
 use Rattle.pet_text.specs.declared.status.Status.{Status}
@@ -19,9 +19,11 @@ use Rattle.pet_text.specs.declared.words.End.TheVariants.{File}
 use Rattle.pet_text.specs.PlanLines.{send_text}
 use Rattle.pet_tool.specs.declared.send.SendFault.{SendFault}
 use Rattle.pet_tool.specs.declared.send.SendFault.TheVariants as fault
+use Rattle.pet_tool.specs.declared.sent_group.Change.{Change}
 use Rattle.pet_tool.specs.Packets.{datagrams_text}
 use Rattle.pet_tool.specs.Reading.{IsPrefix}
 use Rattle.pet_tool.specs.Reports.{Reports}
+use Rattle.pet_tool.specs.Sending.{words_cost, IsLeastChange}
 use Rattle.pet_tool.specs.Sources.{HasSession, IsGiven, tables_in, status_of_source}
 
 -- the datagram file of the session that the two files are
@@ -47,11 +49,13 @@ LeavesSent stream priority to old new =
 abbrev pub IsOfSent : List ℕ → List ℕ → List ℕ → Seen → Seen → Type 0
 IsOfSent stream priority to old new = HadFault old new (λ b. (IsRead stream b ⊎ IsRead priority b) ⊎ (b ≡ (Written, to)))
 
--- The second reading gave another mark than the first: that happens only where the files are not told.
-pub record HasChanged (old : Seen) (stream priority : List ℕ) (group : ℕ) (first second : GroupMark) : Type 0 where
+-- The stream was another when it was read again, and this is the least group whose marks differ: that happens only where the
+-- files are not told.
+pub record HasChanged (old : Seen) (stream priority : List ℕ) (change : Change) : Type 0 where
   pub session : HasSession old stream priority
-  pub at_first : first ≡ mark_at (marks_of (priorities_of session.priority_bytes) session.stream_bytes) group
-  pub other : first ≢ second
+  pub again : List ℕ
+  pub least : IsLeastChange (priorities_of session.priority_bytes) (tables_in session.priority_bytes session.stream_bytes)
+      (marks_of (priorities_of session.priority_bytes) session.stream_bytes) again change
   pub untold : old.files ≡ None
 
 -- When each fault comes.
@@ -59,7 +63,7 @@ abbrev pub IsSendFault : Seen → Seen → List ℕ → List ℕ → List ℕ �
 IsSendFault old new stream priority to fault.NoMemory = Unit {0}
 IsSendFault old new stream priority to fault.Failed = IsOfSent stream priority to old new
 IsSendFault old new stream priority to (fault.Source refused) = IsSourceFault old new stream priority refused × (new.files ≡ old.files)
-IsSendFault old new stream priority to (fault.Changed group first second) = HasChanged old stream priority group first second
+IsSendFault old new stream priority to (fault.Changed group first second) = HasChanged old stream priority (record { group = group; first = first; second = second })
 
 -- the status of each
 abbrev pub status_of_send : SendFault → Status
@@ -81,6 +85,11 @@ SendTells stream priority to old new status text =
 -- what `send` leaves
 abbrev pub Sends : List ℕ → List ℕ → List ℕ → Seen → Seen → Option (List ℕ) → Option (List ℕ) → ℕ → ℕ → Status → Type 0
 Sends stream priority to old new before after fb fa status = Reports (SendTells stream priority to old new) before after fb fa status
+
+-- No step was counted, or the two files are a session, and each group has taken at most packets times words.
+abbrev pub Costs : List ℕ → List ℕ → Seen → ℕ → ℕ → Type 0
+Costs stream priority old before after =
+    (after ≡ before) ⊎ ((s : HasSession old stream priority) × (after ≤ before + sum_by words_cost (tables_in s.priority_bytes s.stream_bytes)))
 
 -- a fact on the words of `send`
 abbrev pub ForSend : Option Command → (List ℕ → List ℕ → List ℕ → Type 0) → Type 0

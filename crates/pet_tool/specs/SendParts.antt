@@ -1,16 +1,15 @@
 -- What the parts of `send` do: the files are opened again, and the groups of the stream are sent. This project's own.
-use Rattle.std.specs.Prelude.{◌≡◌, ◌≢◌, ◌⊎◌, ℕ, List, [], true, Option, None, option_map}
+use Rattle.std.specs.Prelude.{◌≡◌, ◌⊎◌, ℕ, List, [], true, Option, None, option_map}
 use Rattle.pet_base.specs.declared.place.Side.TheVariants.{Written}
 use Rattle.pet_base.specs.Seen.{Seen, Blame, Names, HadFault, bytes_at, with_file}
 use Rattle.stream_session.specs.declared.mark.GroupMark.{GroupMark}
 use Rattle.stream_session.specs.declared.source.Source.{Source}
 use Rattle.stream_session.specs.Inputs.{IsFile, IsRead}
-use Rattle.stream_session.specs.Marks.{mark_at}
 use Rattle.pet_tool.specs.declared.send.SendFault.{SendFault}
 use Rattle.pet_tool.specs.declared.send.SendFault.TheVariants as fault
 use Rattle.pet_tool.specs.Reading.{IsPrefix}
 use Rattle.pet_tool.specs.Send.{session_datagrams}
-use Rattle.pet_tool.specs.Sending.{IsFirstPass}
+use Rattle.pet_tool.specs.Sending.{IsLeastChange, IsFirstPass}
 
 -- the stream is the input, from its front, and the other file an empty output
 pub record IsReopened (stream to : List ℕ) (old new : Seen) : Type 0 where
@@ -40,10 +39,12 @@ SessionLeft source marks stream to old new =
     (p b : List ℕ) → IsFirstPass p b source marks → IsFile old.files stream b
     → (new.files ≡ old.files) ⊎ ((front : List ℕ) × IsPrefix front (session_datagrams p b) × (new.files ≡ option_map (with_file to front) old.files))
 
--- when the sending stops: a change of the stream comes only where the files are not told
+-- When the sending stops: the least group whose mark is another in a stream that was read again, which happens only where
+-- the files are not told.
 abbrev pub SessionStops : Source → List GroupMark → List ℕ → List ℕ → Seen → Seen → SendFault → Type 0
 SessionStops source marks stream to old new fault.NoMemory = Unit {0}
 SessionStops source marks stream to old new fault.Failed = HadFault old new (IsOfReopened stream to)
 SessionStops source marks stream to old new (fault.Changed group first second) =
-    (first ≡ mark_at marks group) × (first ≢ second) × ((p b : List ℕ) → IsFirstPass p b source marks → IsFile old.files stream b → old.files ≡ None)
+    (again : List ℕ) × IsLeastChange source.priority source.tables.items marks again (record { group = group; first = first; second = second })
+    × ((p b : List ℕ) → IsFirstPass p b source marks → IsFile old.files stream b → old.files ≡ None)
 SessionStops source marks stream to old new (fault.Source refused) = ⊥

@@ -57,18 +57,28 @@ abbrev pub AreFound : Priorities → List ℕ → List CutGroup → Type 0
 AreFound priority stream groups = AreFirst priority stream groups ⊎ (IsCuttable priority stream × IsFront priority stream groups)
 
 -- The group after these in the stream, as the second pass marks it: it has no mark where its table is not the first pass's.
-pub record IsNext (source : Source) (stream : List ℕ) (before : List CutGroup) (group : ℕ) (second : GroupMark) : Type 0 where
+pub record IsNext (priority : Priorities) (tables : List Sizes) (stream : List ℕ) (before : List CutGroup) (group : ℕ) (second : GroupMark) : Type 0 where
   pub next : CutGroup
   pub at : group ≡ length before
-  pub first_groups : IsFront source.priority stream (before ++ next ∷ [])
+  pub first_groups : IsFront priority stream (before ++ next ∷ [])
   pub marked : (second ≡ mark_of next.bytes)
-      ⊎ ((second ≡ no_mark) × (slice_get source.tables.items group ≢ Some (table_of source.priority next.cut)))
+      ⊎ ((second ≡ no_mark) × (slice_get tables group ≢ Some (table_of priority next.cut)))
 
 -- The group was not found: these are all groups of the stream, or it is refused.
-pub record IsLost (source : Source) (stream : List ℕ) (before : List CutGroup) (group : ℕ) (second : GroupMark) : Type 0 where
+pub record IsLost (priority : Priorities) (stream : List ℕ) (before : List CutGroup) (group : ℕ) (second : GroupMark) : Type 0 where
   pub beyond : length before ≤ group
-  pub all : IsCuttable source.priority stream → cut_groups source.priority stream ≡ before
+  pub all : IsCuttable priority stream → cut_groups priority stream ≡ before
   pub none : second ≡ no_mark
+
+-- The least group of the stream whose mark is not that of the first pass, which found these tables and marks: the groups
+-- before it have its marks.
+pub record IsLeastChange (priority : Priorities) (tables : List Sizes) (marks : List GroupMark) (stream : List ℕ) (change : Change) : Type 0 where
+  pub before : List CutGroup
+  pub first_groups : IsFront priority stream before
+  pub agree : AgreeBelow marks before change.group
+  pub first_is : change.first ≡ mark_at marks change.group
+  pub second_is : IsNext priority tables stream before change.group change.second ⊎ IsLost priority stream before change.group change.second
+  pub differ : change.first ≢ change.second
 
 -- the groups so far: each has the mark of the first pass, and the output has grown by their packets
 pub record HasSentSome (source : Source) (marks : List GroupMark) (groups : List CutGroup) (old new : Seen) : Type 0 where
@@ -77,15 +87,10 @@ pub record HasSentSome (source : Source) (marks : List GroupMark) (groups : List
   pub target : new.target ≡ old.target
   pub puts : Puts (sent_text source groups) old new
 
--- The least group whose marks differ: the output has grown by the packets of all groups before it.
+-- The least group whose marks differ: the output has grown by the packets of the groups before it.
 pub record IsChange (source : Source) (marks : List GroupMark) (stream : List ℕ) (change : Change) (old new : Seen) : Type 0 where
-  pub before : List CutGroup
-  pub first_groups : IsFront source.priority stream before
-  pub sent : HasSentSome source marks before old new
-  pub agree : AgreeBelow marks before change.group
-  pub first_is : change.first ≡ mark_at marks change.group
-  pub second_is : IsNext source stream before change.group change.second ⊎ IsLost source stream before change.group change.second
-  pub differ : change.first ≢ change.second
+  pub least : IsLeastChange source.priority source.tables.items marks stream change
+  pub sent : HasSentSome source marks least.before old new
 
 -- All marks agree: the output has grown by the packets of all groups of both passes.
 pub record IsAllSent (source : Source) (marks : List GroupMark) (stream : List ℕ) (old new : Seen) : Type 0 where

@@ -1,5 +1,6 @@
 //! The command `send`.
-ghost use Rattle.std.specs.Prelude.{◌≡◌, ◌≢◌, ◌≤◌, ◌*◌, ℕ, List, true, false, length, OnOk, OnErr, IfOk, IfErr};
+ghost use Rattle.std.specs.Prelude.{◌≡◌, ◌≢◌, ◌+◌, ◌≤◌, ◌*◌, ℕ, List, true, false, length, OnOk, OnErr, IfOk, IfErr};
+ghost use Rattle.std.specs.List.{sum_by};
 ghost use Rattle.std.specs.Io.KnownBytes.{append_known};
 ghost use Rattle.std.specs.Str.{bytes_eq};
 ghost use Rattle.pet_base.specs.declared.limits.TheConstants.{MAX_GROUPS};
@@ -7,8 +8,9 @@ ghost use Rattle.pet_base.specs.Causes.{Rose};
 ghost use Rattle.pet_base.specs.Seen.{Seen, HasBlame};
 ghost use Rattle.priority_file.specs.Priority.{is_priority};
 ghost use Rattle.pet_text.specs.PlanLines.{send_text};
-ghost use Rattle.pet_tool.specs.Send.{SendTells, IsSendFault, LeavesSent, HasSent, sent_line_text, status_of_send};
+ghost use Rattle.pet_tool.specs.Send.{SendTells, Costs, IsSendFault, LeavesSent, HasSent, sent_line_text, status_of_send};
 ghost use Rattle.pet_tool.specs.SendParts.{IsReopened, IsLeftEmpty, IsOfReopened, SessionSent, SessionLeft, SessionStops};
+ghost use Rattle.pet_tool.specs.Sending.{words_cost};
 ghost use Rattle.pet_tool.specs.Sources.{HasSession};
 
 use crate::report::{group_tables, put_text, source_status};
@@ -81,6 +83,7 @@ pub(crate) fn send<P: Place, S: Sink, L: Ledger>(
 ) -> Status
     requires differ { bytes_eq to.now stream.now ≡ false }
     ensures tells { (text : List ℕ) × SendTells stream.now priority.now to.now (P.seen place.old) (P.seen place.new) result text × (S.written out.new ≡ append_known (S.written out.old) text) }
+    ensures costs { Costs stream.now priority.now (P.seen place.old) steps.old steps.new }
     ensures rose { (result ≡ Status.OutFault) → Rose (S.faults out.old) (S.faults out.new) }
     ensures known { result ≢ Status.Usage }
     ensures later { S.faults out.old ≤ S.faults out.new }
@@ -104,6 +107,7 @@ fn sent_line<P: Place, L: Ledger>(
     ensures line { IfOk result (λ line. (s : HasSession (P.seen place.old) stream.now priority.now) × HasSent s to.now (P.seen place.new) × (line.items ≡ sent_line_text s.priority_bytes s.stream_bytes)) }
     ensures cause { IfErr result (IsSendFault (P.seen place.old) (P.seen place.new) stream.now priority.now to.now) }
     ensures left { OnErr result (LeavesSent stream.now priority.now to.now (P.seen place.old) (P.seen place.new)) }
+    ensures costs { Costs stream.now priority.now (P.seen place.old) steps.old steps.new }
 {
     let marked = read_marked(alloc, stream, priority, place)?;
     send_marked(alloc, stream, to, &marked, place, steps)
@@ -126,6 +130,7 @@ fn send_marked<P: Place, L: Ledger>(
         × (line.items ≡ send_text marked.now.source.number (length marked.now.source.tables.items) (length marked.now.source.tables.items * marked.now.source.priority.packets))) }
     ensures left { OnErr result (SessionLeft marked.now.source marked.now.marks.items stream.now to.now (P.seen place.old) (P.seen place.new)) }
     ensures cause { IfErr result (SessionStops marked.now.source marked.now.marks.items stream.now to.now (P.seen place.old) (P.seen place.new)) }
+    ensures cost { steps.new ≤ steps.old + sum_by words_cost marked.now.source.tables.items }
     ensures later { (P.seen place.old).faults ≤ (P.seen place.new).faults }
 {
     let tables = group_tables(&marked.source);
@@ -177,6 +182,7 @@ fn send_session<P: Place, L: Ledger>(
     ensures sent { OnOk result (SessionSent marked.now.source marked.now.marks.items stream.now to.now (P.seen place.old) (P.seen place.new)) }
     ensures left { OnErr result (SessionLeft marked.now.source marked.now.marks.items stream.now to.now (P.seen place.old) (P.seen place.new)) }
     ensures cause { IfErr result (SessionStops marked.now.source marked.now.marks.items stream.now to.now (P.seen place.old) (P.seen place.new)) }
+    ensures cost { steps.new ≤ steps.old + sum_by words_cost marked.now.source.tables.items }
     ensures later { (P.seen place.old).faults ≤ (P.seen place.new).faults }
 {
     match reopen(stream, to, place) {

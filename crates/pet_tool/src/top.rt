@@ -10,7 +10,8 @@ ghost use Rattle.pet_tool.specs.Check.{Checks, ForCheck, CanCheck, ChecksSession
 ghost use Rattle.pet_tool.specs.Finished.{Receives, Prints, ForReceive};
 ghost use Rattle.pet_tool.specs.Plan.{Plans, ForPlan, CanPlan, PlansSession};
 ghost use Rattle.pet_tool.specs.Receive.{AreGiven, ReceivesSession};
-ghost use Rattle.pet_tool.specs.Send.{Sends, ForSend, CanSend, SendsSession};
+ghost use Rattle.pet_tool.specs.Runs.{Runs};
+ghost use Rattle.pet_tool.specs.Send.{Sends, Costs, ForSend, CanSend, SendsSession};
 
 use crate::check::check;
 use crate::plan::plan;
@@ -55,6 +56,9 @@ pub fn run<P: Place, K: Link, S: Sink, L: Ledger>(
         CanSend stream priority to p b (P.seen place.old) (P.seen place.new) (S.faults out.old) (S.faults out.new) result
         → SendsSession to p b (P.seen place.old) (P.seen place.new) (S.written out.old) (S.written out.new) result) }
 
+    // How many field steps `send` may count: for each group packets times words.
+    ensures costs { ForSend (command_of (texts_of words.now)) (λ stream priority to. Costs stream priority (P.seen place.old) steps.old steps.new) }
+
     // What each status of `receive` tells, whatever the datagrams are.
     ensures receive { ForReceive (command_of (texts_of words.now)) (λ from session layers.
         Receives session from layers (P.seen place.old) (P.seen place.new) (S.written out.old) (S.written out.new) (S.faults out.old) (S.faults out.new) steps.old steps.new result) }
@@ -67,6 +71,22 @@ pub fn run<P: Place, K: Link, S: Sink, L: Ledger>(
     ensures later { S.faults out.old ≤ S.faults out.new }
 {
     let _ = link;
+    run_words(alloc, words, place, out, steps)
+}
+
+/// Reads the words, and runs the command that they give.
+fn run_words<P: Place, S: Sink, L: Ledger>(
+    alloc: Global,
+    words: &[String],
+    place: &mut P,
+    out: &mut S,
+    steps: &mut Steps<L>,
+) -> Status
+    ensures usage { (result ≡ Status.Usage) ↔ (command_of (texts_of words.now) ≡ None) }
+    ensures refused { (result ≡ Status.Usage) → ((P.seen place.new) ≡ (P.seen place.old)) × Prints [] (fault_text Status.Usage) (S.written out.old) (S.written out.new) (S.faults out.old) (S.faults out.new) }
+    ensures runs { Runs (command_of (texts_of words.now)) (P.seen place.old) (P.seen place.new) (S.written out.old) (S.written out.new) (S.faults out.old) (S.faults out.new) steps.old steps.new result }
+    ensures later { S.faults out.old ≤ S.faults out.new }
+{
     match read_words(alloc, words) {
         Ok(command) => run_command(alloc, &command, place, out, steps),
         Err(WordsFault::Usage) => tell(Status::Usage, out),
@@ -86,6 +106,7 @@ fn run_command<P: Place, S: Sink, L: Ledger>(
     ensures plan { ForPlan (Some command.now) (λ stream priority. Plans stream priority (P.seen place.old) (P.seen place.new) (S.written out.old) (S.written out.new) (S.faults out.old) (S.faults out.new) result) }
     ensures check { ForCheck (Some command.now) (λ stream priority plan. Checks stream priority plan (P.seen place.old) (P.seen place.new) (S.written out.old) (S.written out.new) (S.faults out.old) (S.faults out.new) result) }
     ensures send { ForSend (Some command.now) (λ stream priority to. Sends stream priority to (P.seen place.old) (P.seen place.new) (S.written out.old) (S.written out.new) (S.faults out.old) (S.faults out.new) result) }
+    ensures costs { ForSend (Some command.now) (λ stream priority to. Costs stream priority (P.seen place.old) steps.old steps.new) }
     ensures receive { ForReceive (Some command.now) (λ from session layers. Receives session from layers (P.seen place.old) (P.seen place.new) (S.written out.old) (S.written out.new) (S.faults out.old) (S.faults out.new) steps.old steps.new result) }
     ensures known { result ≢ Status.Usage }
     ensures later { S.faults out.old ≤ S.faults out.new }
@@ -189,6 +210,7 @@ fn run_send<P: Place, S: Sink, L: Ledger>(
 ) -> Status
     requires differ { bytes_eq to.now stream.now ≡ false }
     ensures send { Sends stream.now priority.now to.now (P.seen place.old) (P.seen place.new) (S.written out.old) (S.written out.new) (S.faults out.old) (S.faults out.new) result }
+    ensures costs { Costs stream.now priority.now (P.seen place.old) steps.old steps.new }
     ensures known { result ≢ Status.Usage }
     ensures later { S.faults out.old ≤ S.faults out.new }
 {
