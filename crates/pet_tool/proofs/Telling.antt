@@ -17,7 +17,7 @@ use Rattle.pet_text.specs.Lines.{fault_text}
 use Rattle.pet_tool.specs.declared.outcome.Stop.{Stop}
 use Rattle.pet_tool.specs.declared.outcome.Stop.TheVariants.{Memory, Place, Out}
 use Rattle.pet_tool.specs.Outcome.{status_of, Licensed, IsOf}
-use Rattle.pet_tool.specs.Finished.{Reads, Ends, Finishes, Receives, LeavesFront, Prints, PrintsAt, ForReceive, numbers_text}
+use Rattle.pet_tool.specs.Finished.{Reads, Ends, Finishes, Receives, StopsAt, Prints, ForReceive, numbers_text}
 
 append_known-twice : (o : Option (List ℕ)) (a b : List ℕ) → append_known (append_known o a) b ≡ append_known o (a ++ b)
 append_known-twice None a b = refl
@@ -92,16 +92,19 @@ module _ (session from layers : List ℕ) (old new : Seen) (before mid after : O
       at (Changed group first second) e p = absurd e.1
 
   -- it stopped before
-  pub tells_stop : (stop : Stop) (told : Status) → told ≡ status_of stop → LeavesFront session from layers old new → PrintsAt session before mid stop
+  pub tells_stop : (stop : Stop) (told : Status) → told ≡ status_of stop → StopsAt session from layers old new before mid so sn stop
       → Licensed (HadFault old new (IsOf from layers)) (Rose fb fm) stop → fb ≤ fm → fm ≤ fa → Prints [] (fault_text (status_of stop)) mid after fm fa
       → Receives session from layers old new before after fb fa so sn told
-  tells_stop stop told same front printed cause later then p = subst (λ (s : Status). Receives session from layers old new before after fb fa so sn s) (sym same) (at stop printed cause p)
+  tells_stop stop told same stopped cause later then p = subst (λ (s : Status). Receives session from layers old new before after fb fa so sn s) (sym same) (at stop stopped cause p)
     where
-      at : (s : Stop) → PrintsAt session before mid s → Licensed (HadFault old new (IsOf from layers)) (Rose fb fm) s → Prints [] (fault_text (status_of s)) mid after fm fa
+      at : (s : Stop) → StopsAt session from layers old new before mid so sn s → Licensed (HadFault old new (IsOf from layers)) (Rose fb fm) s → Prints [] (fault_text (status_of s)) mid after fm fa
           → Receives session from layers old new before after fb fa so sn (status_of s)
-      at Memory printed cause p = (front, Prints-first (fault_text NoMemory) before mid after fb fm fa printed later p)
-      at Place printed cause p = (cause, front, Prints-first (fault_text PlaceFault) before mid after fb fm fa printed later p)
-      at Out printed cause p = (Rose-before fb fm fa then cause, front, (printed.0, printed.1, Prints-same mid after fm fa p ∙ printed.2))
+      at Memory stopped cause p = (stopped.0, Prints-first (fault_text NoMemory) before mid after fb fm fa stopped.1 later p)
+      at Place stopped cause p = (cause, stopped.0, Prints-first (fault_text PlaceFault) before mid after fb fm fa stopped.1 later p)
+      at Out stopped cause p = (
+        Rose-before fb fm fa then cause,
+        record { reads = stopped.reads; printed = (stopped.printed.0, Prints-same mid after fm fa p ∙ stopped.printed.1) },
+      )
 
 -- what holds of the words that were read
 pub for_these : (o : Option Command) (from session layers : List ℕ) (P : List ℕ → List ℕ → List ℕ → Type 0) → o ≡ Some (Receive (File from) session layers) → P from session layers → ForReceive o P

@@ -73,15 +73,17 @@ LeavesFront session from layers old new =
     ⊎ ((read : List (List ℕ)) × (text : List ℕ) × (front : List ℕ) × IsLayersText (nothing_of session) [] 1 read text × IsPrefix front text × (new.files ≡ option_map (with_file layers front) old.files)
     × IfSome (bytes_at old.files from) (λ bytes. (more : List (List ℕ)) × (datagrams bytes ≡ read ++ more)))
 
--- a front of the line of the numbers was printed
-abbrev pub PrintsFront : List ℕ → Option (List ℕ) → Option (List ℕ) → Type 0
-PrintsFront session before after = (read : List (List ℕ)) × (k : ℕ) × (after ≡ append_known before (take k (numbers_text session read)))
+-- all that was read stands in the file of layers, and the line of the numbers was printed up to where the output failed
+pub record FailsToPrint (session from layers : List ℕ) (old new : Seen) (before after : Option (List ℕ)) (steps_old steps_new : ℕ) : Type 0 where
+  pub reads : Reads session from layers old new steps_old steps_new
+  pub printed : (k : ℕ) × (after ≡ append_known before (take k (numbers_text session reads.read)))
 
--- what was printed where the command stopped: nothing, or a front of the line of the numbers where the output failed
-abbrev pub PrintsAt : List ℕ → Option (List ℕ) → Option (List ℕ) → Stop → Type 0
-PrintsAt session before after Memory = after ≡ before
-PrintsAt session before after Place = after ≡ before
-PrintsAt session before after Out = PrintsFront session before after
+-- what the command leaves where it stops: a front of the layers text at most, and nothing was printed; but all of it where
+-- the output failed
+abbrev pub StopsAt : List ℕ → List ℕ → List ℕ → Seen → Seen → Option (List ℕ) → Option (List ℕ) → ℕ → ℕ → Stop → Type 0
+StopsAt session from layers old new before after so sn Memory = LeavesFront session from layers old new × (after ≡ before)
+StopsAt session from layers old new before after so sn Place = LeavesFront session from layers old new × (after ≡ before)
+StopsAt session from layers old new before after so sn Out = FailsToPrint session from layers old new before after so sn
 
 -- what each status of the command tells
 abbrev pub Receives : List ℕ → List ℕ → List ℕ → Seen → Seen → Option (List ℕ) → Option (List ℕ) → ℕ → ℕ → ℕ → ℕ → Status → Type 0
@@ -90,7 +92,7 @@ Receives session from layers old new before after fb fa so sn Incomplete = Finis
 Receives session from layers old new before after fb fa so sn TurnsSpent = Finishes session from layers old new before after fb fa so sn TurnsSpent
 Receives session from layers old new before after fb fa so sn NoMemory = LeavesFront session from layers old new × Prints [] (fault_text NoMemory) before after fb fa
 Receives session from layers old new before after fb fa so sn PlaceFault = HadFault old new (IsOf from layers) × LeavesFront session from layers old new × Prints [] (fault_text PlaceFault) before after fb fa
-Receives session from layers old new before after fb fa so sn OutFault = Rose fb fa × LeavesFront session from layers old new × PrintsFront session before after
+Receives session from layers old new before after fb fa so sn OutFault = Rose fb fa × FailsToPrint session from layers old new before after so sn
 Receives session from layers old new before after fb fa so sn _ = ⊥
 
 -- a fact on the words of `receive`

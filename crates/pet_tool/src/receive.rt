@@ -14,7 +14,7 @@ ghost use Rattle.pet_receive.specs.KeptSet.{IsKeptSet, open_group, kept_in_all};
 ghost use Rattle.pet_receive.specs.ShownBytes.{IsShown, IsComplete, shown_in_all};
 ghost use Rattle.pet_receive.specs.Verdicts.{verdict_of, is_kept, after};
 ghost use Rattle.pet_text.specs.Lines.{receive_text};
-ghost use Rattle.pet_tool.specs.Finished.{nothing_of, numbers_text, Reads, Ends, Tells, LeavesFront, PrintsAt};
+ghost use Rattle.pet_tool.specs.Finished.{nothing_of, numbers_text, Reads, Ends, Tells, LeavesFront, StopsAt};
 ghost use Rattle.pet_tool.specs.Gf16.{HasKeptIn};
 ghost use Rattle.pet_tool.specs.LayersText.{AreRecords, order_after};
 ghost use Rattle.pet_tool.specs.Outcome.{Licensed, IsOf, Opened};
@@ -61,8 +61,7 @@ pub fn receive<P: Place, S: Sink, L: Ledger>(
 ) -> Result<Status, Stop>
     ensures finished { IfOk result (λ status. (r : Reads session from.now layers.now (P.seen place.old) (P.seen place.new) steps.old steps.new) × Ends session r.read status
         × (S.written out.new ≡ append_known (S.written out.old) (numbers_text session r.read))) }
-    ensures front { OnErr result (LeavesFront session from.now layers.now (P.seen place.old) (P.seen place.new)) }
-    ensures printed { IfErr result (PrintsAt session (S.written out.old) (S.written out.new)) }
+    ensures stopped { IfErr result (StopsAt session from.now layers.now (P.seen place.old) (P.seen place.new) (S.written out.old) (S.written out.new) steps.old steps.new) }
     ensures later { S.faults out.old ≤ S.faults out.new }
     ensures cause { IfErr result (Licensed (HadFault (P.seen place.old) (P.seen place.new) (IsOf from.now layers.now)) (Rose (S.faults out.old) (S.faults out.new))) }
 {

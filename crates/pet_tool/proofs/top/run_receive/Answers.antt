@@ -20,7 +20,7 @@ returns-in-Err-clause-receive g c =
     tells_stop c.args.session c.args.from.now c.args.layers.now (g.P.Place.seen c.args.place.now) (g.P.Place.seen c.receive.new.place)
     (g.S.Sink.written c.args.out.now) before after
     (g.S.Sink.faults c.args.out.now) (g.S.Sink.faults c.receive.new.out) (g.S.Sink.faults c.tell-in-Err.new.out) c.args.steps.now c.receive.new.steps
-    c.in-Err.stop c.tell-in-Err.result (c.tell-in-Err.ensures.status ∙ c.status.ensures) c.in-Err.ensures.front c.in-Err.ensures.printed c.in-Err.ensures.cause c.receive.ensures.later c.tell-in-Err.ensures.later prints
+    c.in-Err.stop c.tell-in-Err.result (c.tell-in-Err.ensures.status ∙ c.status.ensures) c.in-Err.ensures.stopped c.in-Err.ensures.cause c.receive.ensures.later c.tell-in-Err.ensures.later prints
 
 pub returns-in-Ok-clause-known : goal.returns-in-Ok-clause-known
 returns-in-Ok-clause-known g c =
