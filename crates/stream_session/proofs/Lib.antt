@@ -9,4 +9,3 @@ pub mod Sourced
 pub mod Ending
 pub mod Looking
 pub mod Reading
-pub mod MarkedSources

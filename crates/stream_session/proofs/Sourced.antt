@@ -5,7 +5,6 @@ use Rattle.std.proofs.lemmas.List.{append-nil, length-append}
 use Rattle.std.specs.Prelude.{nat_lt}
 use Rattle.pet_base.specs.declared.limits.TheConstants.{MAX_STREAM, MAX_PRIORITY_FILE}
 use Rattle.pet_base.specs.Seen.{Seen, Files}
-use Rattle.pet_base.specs.SeenLaws.{HadFault-since}
 use Rattle.mpeg_scan.specs.declared.refusal.Scan.{Scan}
 use Rattle.mpeg_scan.specs.declared.refusal.Scan.TheVariants.{TooLong}
 use Rattle.mpeg_scan.specs.Refusals.{Refuses, IsAccepted, max_stream}
@@ -14,31 +13,24 @@ use Rattle.priority_file.specs.declared.fault.PriorityFault.{PriorityFault}
 use Rattle.priority_file.specs.declared.fault.PriorityFault.TheVariants as rules
 use Rattle.priority_file.specs.Priority.{Priorities}
 use Rattle.priority_file.specs.Refusals.{Row, first_of, rows, refusal_of, priorities_of}
-use Rattle.stream_session.specs.declared.pass.SessionPlan.{SessionPlan}
 use Rattle.stream_session.specs.declared.pass.StreamFault.{StreamFault}
 use Rattle.stream_session.specs.declared.pass.StreamFault.TheVariants as pass
-use Rattle.stream_session.specs.declared.source.SourceFault.{SourceFault}
 use Rattle.stream_session.specs.declared.source.SourceFault.TheVariants as source
 use Rattle.stream_session.specs.Refusals.{session_fault}
 use Rattle.stream_session.specs.Inputs.{IsFile, IsFrontOf}
-use Rattle.stream_session.specs.Passing.{IsPlanOf, IsStreamFault}
-use Rattle.stream_session.specs.Sources.{of_stream, of_priority, HasPlanAt, IsFaultAt, IsSource, IsSourceFault}
+use Rattle.stream_session.specs.Passing.{IsStreamFault}
+use Rattle.stream_session.specs.Sources.{of_stream, of_priority, BothFiles, IsSourceFault}
 
 -- all of the file was read
-pub whole_file : (limit : ℕ) (bytes name : List ℕ) (files : Option Files) → length bytes ≤ limit → IsFrontOf limit bytes files name → IsFile files name bytes
+whole_file : (limit : ℕ) (bytes name : List ℕ) (files : Option Files) → length bytes ≤ limit → IsFrontOf limit bytes files name → IsFile files name bytes
 whole_file limit bytes name files few front =
     subst (λ (b : List ℕ). IsFile files name b) (ap (λ (m : List ℕ). bytes ++ m) (front.whole few) ∙ append-nil bytes) front.told
 
 short_by : (a b : ℕ) → nat_lt a b ≡ false → b ≤ a
 short_by a b e = ltb-false a b e
 
-pub short_stream : (stream : List ℕ) → IsAccepted stream → length stream ≤ MAX_STREAM
+short_stream : (stream : List ℕ) → IsAccepted stream → length stream ≤ MAX_STREAM
 short_stream stream accepted = short_by MAX_STREAM (length stream) (accepted TooLong)
-
-pub plan_at : (name file stream : List ℕ) (priority : Priorities) (plan : SessionPlan) (files : Option Files) → IsFrontOf MAX_STREAM stream files name
-    → IsPlanOf plan priority file stream → HasPlanAt files name priority file plan
-plan_at name file stream priority plan files front of =
-    record { bytes = stream; stream_is = whole_file MAX_STREAM stream name files (short_stream stream of.accepted) front; plan_is = of }
 
 refuses_file : (stream more : List ℕ) (scan : Scan) → (length stream ≤ MAX_STREAM → more ≡ []) → Refuses stream scan
     → (max_stream < length stream → (rest : List ℕ) → Refuses (stream ++ rest) scan) → Refuses (stream ++ more) scan
@@ -47,14 +39,6 @@ refuses_file stream more scan whole refuses long =
       | inl lt ↦ long lt more
       | inr le ↦ subst (λ (s : List ℕ). Refuses s scan) (sym (ap (λ (m : List ℕ). stream ++ m) (whole (omega (arith, le))) ∙ append-nil stream)) refuses
     ]
-
-pub fault_at : (name stream : List ℕ) (priority : Priorities) (old new : Seen) (fault : StreamFault) → IsFrontOf MAX_STREAM stream old.files name
-    → IsStreamFault priority stream fault → IsFaultAt old new name priority (of_stream fault)
-fault_at name stream priority old new (pass.Stream scan) front why =
-    (stream ++ front.more, front.told, refuses_file stream front.more scan front.whole why.0 why.1)
-fault_at name stream priority old new (pass.Plan fault) front why =
-    (stream, whole_file MAX_STREAM stream name old.files (short_stream stream why.0) front, why.0, why.1, why.2)
-fault_at name stream priority old new pass.NoMemory front why = tt
 
 first_true : (b : Bool) (fault : PriorityFault) (rest : List Row) → b ≡ true → first_of ((b, fault) ∷ rest) ≡ Some fault
 first_true true fault rest e = refl
@@ -67,7 +51,7 @@ long_refused bytes lt = first_true (nat_lt MAX_PRIORITY_FILE (length bytes)) rul
 none_some : {A : Type 0} (x : A) → None ≡ Some x → ⊥
 none_some x e = cc
 
-pub short_priority : (bytes : List ℕ) → refusal_of bytes ≡ None → length bytes ≤ MAX_PRIORITY_FILE
+short_priority : (bytes : List ℕ) → refusal_of bytes ≡ None → length bytes ≤ MAX_PRIORITY_FILE
 short_priority bytes e =
     elim (cases_lt MAX_PRIORITY_FILE (length bytes)) [ inl lt ↦ absurd (none_some _ (sym e ∙ long_refused bytes lt)) | inr le ↦ le ]
 
@@ -100,43 +84,48 @@ priority_at stream priority bytes old new rules.NeedsFall front why = refused_at
 priority_at stream priority bytes old new rules.TooManyLayers front why = refused_at stream priority bytes old new rules.TooManyLayers front (why (λ e. cc))
 priority_at stream priority bytes old new rules.NoMemory front why = tt
 
--- a cause of the stream, after a priority file that is accepted
-pub stream_at : (stream priority file : List ℕ) (read : Priorities) (old between new : Seen) (fault : SourceFault) → IsFrontOf MAX_PRIORITY_FILE file old.files priority
-    → refusal_of file ≡ None → read ≡ priorities_of file → between.files ≡ old.files → old.faults ≤ between.faults
-    → IsFaultAt between new stream read fault → IsSourceFault old new stream priority fault
-stream_at stream priority file read old between new source.NoMemory front accepted is same later why = tt
-stream_at stream priority file read old between new source.Failed front accepted is same later why = HadFault-since old between new _ _ later (λ b e. inl e) why
-stream_at stream priority file read old between new (source.Priority fault) front accepted is same later why = absurd why
-stream_at stream priority file read old between new (source.Stream scan) front accepted is same later why = record {
+-- a priority file that was read whole and is accepted, and its priority
+pub record IsJudged (files : Option Files) (name file : List ℕ) (read : Priorities) : Type 0 where
+  pub file_is : IsFile files name file
+  pub accepted : refusal_of file ≡ None
+  pub rules : read ≡ priorities_of file
+
+pub judged : (name given file : List ℕ) (limit : ℕ) (read : Priorities) (files : Option Files) → limit ≡ MAX_PRIORITY_FILE → given ≡ file → IsFrontOf limit file files name
+    → refusal_of given ≡ None → read ≡ priorities_of given → IsJudged files name file read
+judged name given file limit read files most same front accepted is =
+    let none : refusal_of file ≡ None = ap refusal_of (sym same) ∙ accepted in
+    record {
+      file_is = whole_file limit file name files (subst (λ (m : ℕ). length file ≤ m) (sym most) (short_priority file none)) front;
+      accepted = none;
+      rules = is ∙ ap priorities_of same;
+    }
+
+-- what is read of the stream after it is read of both files
+both_files : (stream priority file bytes : List ℕ) (read : Priorities) (old between : Seen) (P : List ℕ → List ℕ → Type 0) → IsJudged old.files priority file read
+    → between.files ≡ old.files → IsFile between.files stream bytes → P file bytes → BothFiles old.files stream priority P
+both_files stream priority file bytes read old between P judged same is holds = record {
   file = file;
-  bytes = why.0;
-  priority_is = whole_file MAX_PRIORITY_FILE file priority old.files (short_priority file accepted) front;
-  stream_is = subst (λ (f : Option Files). IsFile f stream why.0) same why.1;
-  accepted = accepted;
-  holds = why.2;
-}
-stream_at stream priority file read old between new (source.Plan fault) front accepted is same later why = record {
-  file = file;
-  bytes = why.0;
-  priority_is = whole_file MAX_PRIORITY_FILE file priority old.files (short_priority file accepted) front;
-  stream_is = subst (λ (f : Option Files). IsFile f stream why.0) same why.1;
-  accepted = accepted;
-  holds = (why.2, why.3, subst (λ (p : Priorities). session_fault p (pieces_of why.0) ≡ Some fault) is why.4);
+  bytes = bytes;
+  priority_is = judged.file_is;
+  stream_is = subst (λ (f : Option Files). IsFile f stream bytes) same is;
+  accepted = judged.accepted;
+  holds = holds;
 }
 
--- the session of both files
-unfoldable pub source_at : (stream priority file : List ℕ) (read : Priorities) (plan : SessionPlan) (old between : Seen) → IsFrontOf MAX_PRIORITY_FILE file old.files priority
-    → refusal_of file ≡ None → read ≡ priorities_of file → between.files ≡ old.files → HasPlanAt between.files stream read file plan
-    → IsSource old.files stream priority (record { priority = read; number = plan.number; tables = plan.tables })
-source_at stream priority file read plan old between front accepted is same at =
-    let of = subst (λ (p : Priorities). IsPlanOf plan p file at.bytes) is at.plan_is in
-    record {
-      file = file;
-      bytes = at.bytes;
-      priority_is = whole_file MAX_PRIORITY_FILE file priority old.files (short_priority file accepted) front;
-      stream_is = subst (λ (f : Option Files). IsFile f stream at.bytes) same at.stream_is;
-      accepted = record { priority_read = accepted; stream_read = of.accepted; fits = of.fits };
-      rules = is;
-      number = of.number;
-      tables = of.tables;
-    }
+-- it is refused, or its plan
+pub stream_at : (stream priority file bytes : List ℕ) (read : Priorities) (old between new : Seen) (fault : StreamFault) → IsJudged old.files priority file read
+    → between.files ≡ old.files → IsFrontOf MAX_STREAM bytes between.files stream → IsStreamFault read bytes fault → IsSourceFault old new stream priority (of_stream fault)
+stream_at stream priority file bytes read old between new (pass.Stream scan) judged same front why =
+    both_files stream priority file (bytes ++ front.more) read old between _ judged same front.told (refuses_file bytes front.more scan front.whole why.0 why.1)
+stream_at stream priority file bytes read old between new (pass.Plan fault) judged same front why =
+    both_files stream priority file bytes read old between _ judged same (whole_file MAX_STREAM bytes stream between.files (short_stream bytes why.0) front)
+    (why.0, why.1, subst (λ (p : Priorities). session_fault p (pieces_of bytes) ≡ Some fault) judged.rules why.2)
+stream_at stream priority file bytes read old between new pass.NoMemory judged same front why = tt
+
+-- it is accepted, and answered
+pub answer_at : (stream priority given file bytes : List ℕ) (read : Priorities) (old between : Seen) (P : Priorities → List ℕ → List ℕ → Type 0) → IsJudged old.files priority file read
+    → between.files ≡ old.files → given ≡ file → IsFrontOf MAX_STREAM bytes between.files stream → IsAccepted bytes × P read given bytes
+    → BothFiles old.files stream priority (λ f b. (read ≡ priorities_of f) × P (priorities_of f) f b)
+answer_at stream priority given file bytes read old between P judged same is front holds =
+    both_files stream priority file bytes read old between _ judged same (whole_file MAX_STREAM bytes stream between.files (short_stream bytes holds.0) front)
+    (judged.rules, subst (λ (f : List ℕ). P (priorities_of file) f bytes) is (subst (λ (p : Priorities). P p given bytes) judged.rules holds.1))

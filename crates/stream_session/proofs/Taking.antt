@@ -1,7 +1,7 @@
 -- What is taken from an input portion by portion, and what it is of the file.
 use Rattle.std.proofs.Common.{◌≡◌, ℕ, ◌+◌, ◌-◌, ◌≤◌, List, [], ◌++◌, length, take, Option, None, Some, refl, sym, ap, subst, ◌∙◌, arith}
 use Rattle.std.proofs.lemmas.List.{append-nil, length-append}
-use Rattle.std.specs.Prelude.{IfSome, IsSome, Result, Ok, Err, OnOk, IfOk, IfErr}
+use Rattle.std.specs.Prelude.{IfSome, IsSome, Result, Ok, Err, IfOk}
 use Rattle.std.specs.Io.KnownBytes.{prepend_known, IsAtEnd}
 use Rattle.pet_base.proofs.Filled.{prepend-prepend}
 use Rattle.pet_base.specs.declared.place.Side.TheVariants.{Read}
@@ -81,23 +81,11 @@ pub front_ok : {A E : Type 0} (items : A → List ℕ) (result : Result A E) (li
 front_ok items (Ok bytes) limit name old entered new rest found all = front_of limit (items bytes) name old entered new rest found all
 front_ok items (Err e) limit name old entered new rest found all = tt
 
--- what was taken of it, and what holds of that besides
-pub through_ok : {A E : Type 0} (result : Result A E) (limit : ℕ) (name : List ℕ) (old entered new : Seen) (P : List ℕ → Type 0) → entered.rest ≡ bytes_at old.files name
-    → IfSome old.files (λ f. IsSome (f name)) → OnOk result ((bytes : List ℕ) × HasTakenAll limit bytes entered new × P bytes)
-    → OnOk result ((bytes : List ℕ) × IsFrontOf limit bytes old.files name × P bytes)
-through_ok (Ok x) limit name old entered new P rest found all = (all.0, front_of limit all.0 name old entered new rest found all.1, all.2)
-through_ok (Err e) limit name old entered new P rest found all = tt
-
-failed_at : (name : List ℕ) (fault : InputFault) (old entered new : Seen) → Names old.files entered.source name → old.faults ≤ entered.faults
+-- a fault of the reading is one at the file that was entered
+pub failed_at : (name : List ℕ) (fault : InputFault) (old entered new : Seen) → Names old.files entered.source name → old.faults ≤ entered.faults
     → InputFailed (HadFault entered new (Blames Read entered.source)) fault → InputFailed (HadFault old new (IsRead name)) fault
 failed_at name NoMemory old entered new is later failed = tt
 failed_at name Failed old entered new is later failed = HadFault-since old entered new _ _ later (λ b. Blames-named old.files entered.source name Read b is) failed
-
--- a fault of the reading is one at the file that was entered
-pub failed_of : {A : Type 0} (result : Result A InputFault) (name : List ℕ) (old entered new : Seen) → Names old.files entered.source name → old.faults ≤ entered.faults
-    → IfErr result (InputFailed (HadFault entered new (Blames Read entered.source))) → IfErr result (InputFailed (HadFault old new (IsRead name)))
-failed_of (Ok x) name old entered new is later failed = tt
-failed_of (Err fault) name old entered new is later failed = failed_at name fault old entered new is later failed
 
 -- a portion without a byte, which comes only at the end
 pub taken_end : (limit n : ℕ) (bytes buffer : List ℕ) (first before after : Seen) → HasTaken limit bytes first before

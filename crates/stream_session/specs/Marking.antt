@@ -1,12 +1,10 @@
 -- Where a pass stands that marks the groups of a stream as they end, and what it answers at the end. This project's own.
-use Rattle.std.specs.Prelude.{◌≡◌, ℕ, List, Option}
-use Rattle.pet_base.specs.Seen.{Files}
+use Rattle.std.specs.Prelude.{◌≡◌, ℕ, List}
 use Rattle.priority_file.specs.Priority.{Priorities}
 use Rattle.stream_session.specs.declared.groups.GroupCutter.{GroupCutter}
 use Rattle.stream_session.specs.declared.mark.GroupMark.{GroupMark}
 use Rattle.stream_session.specs.declared.marking.MarkedPass.{MarkedPass}
 use Rattle.stream_session.specs.declared.marking.MarkedPlan.{MarkedPlan}
-use Rattle.stream_session.specs.Inputs.{IsFile}
 use Rattle.stream_session.specs.Passing.{HasPassed, IsPlanOf}
 use Rattle.stream_session.specs.CutGroups.{CutGroup}
 use Rattle.stream_session.specs.Cutting.{HasCut}
@@ -28,9 +26,3 @@ pub record HasMarked (marked : MarkedPass) (priority : Priorities) (file stream 
 pub record IsMarkedPlanOf (marked : MarkedPlan) (priority : Priorities) (file stream : List ℕ) : Type 0 where
   pub plan : IsPlanOf marked.plan priority file stream
   pub marks : marked.marks.items ≡ marks_of priority stream
-
--- the file of this name is a stream, and these are its session and marks
-pub record HasMarkedPlanAt (files : Option Files) (name : List ℕ) (priority : Priorities) (file : List ℕ) (marked : MarkedPlan) : Type 0 where
-  pub bytes : List ℕ
-  pub stream_is : IsFile files name bytes
-  pub plan_is : IsMarkedPlanOf marked priority file bytes

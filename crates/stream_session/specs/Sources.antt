@@ -5,12 +5,10 @@ use Rattle.mpeg_scan.specs.Refusals.{Refuses, IsAccepted}
 use Rattle.mpeg_scan.specs.Pieces.{pieces_of}
 use Rattle.priority_file.specs.declared.fault.PriorityFault.{PriorityFault}
 use Rattle.priority_file.specs.declared.fault.PriorityFault.TheVariants as rules
-use Rattle.priority_file.specs.Priority.{Priorities}
 use Rattle.priority_file.specs.Refusals.{refusal_of, priorities_of}
 use Rattle.stream_session.specs.declared.fault.SessionFault.TheVariants as session
 use Rattle.stream_session.specs.declared.input.InputFault.{InputFault}
 use Rattle.stream_session.specs.declared.input.InputFault.TheVariants as input
-use Rattle.stream_session.specs.declared.pass.SessionPlan.{SessionPlan}
 use Rattle.stream_session.specs.declared.pass.StreamFault.{StreamFault}
 use Rattle.stream_session.specs.declared.pass.StreamFault.TheVariants as pass
 use Rattle.stream_session.specs.declared.source.Source.{Source}
@@ -21,7 +19,6 @@ use Rattle.stream_session.specs.Refusals.{session_fault}
 use Rattle.stream_session.specs.Number.{session_number}
 use Rattle.stream_session.specs.Accepted.{IsAcceptedSession}
 use Rattle.stream_session.specs.Inputs.{IsFile, IsRead}
-use Rattle.stream_session.specs.Passing.{IsPlanOf}
 
 -- each cause as one of both files
 abbrev pub of_input : InputFault → SourceFault
@@ -68,18 +65,3 @@ IsSourceFault old new stream priority (Stream scan) = BothFiles old.files stream
 IsSourceFault old new stream priority (Plan fault) =
     BothFiles old.files stream priority (λ file bytes.
     IsAccepted bytes × (fault ≢ session.NoMemory) × (session_fault (priorities_of file) (pieces_of bytes) ≡ Some fault))
-
--- the file of this name is a stream, and this is its session
-pub record HasPlanAt (files : Option Files) (name : List ℕ) (priority : Priorities) (file : List ℕ) (plan : SessionPlan) : Type 0 where
-  pub bytes : List ℕ
-  pub stream_is : IsFile files name bytes
-  pub plan_is : IsPlanOf plan priority file bytes
-
--- when each fault comes of a stream alone
-abbrev pub IsFaultAt : Seen → Seen → List ℕ → Priorities → SourceFault → Type 0
-IsFaultAt old new name priority NoMemory = Unit {0}
-IsFaultAt old new name priority Failed = HadFault old new (IsRead name)
-IsFaultAt old new name priority (Priority fault) = ⊥
-IsFaultAt old new name priority (Stream scan) = (bytes : List ℕ) × IsFile old.files name bytes × Refuses bytes scan
-IsFaultAt old new name priority (Plan fault) =
-    (bytes : List ℕ) × IsFile old.files name bytes × IsAccepted bytes × (fault ≢ session.NoMemory) × (session_fault priority (pieces_of bytes) ≡ Some fault)

@@ -8,6 +8,7 @@
 //! reads as `read_source` does, and gives each group's mark too, by which a later reading can be compared.
 #![tactic(auto)]
 
+mod both;
 mod fault;
 mod groups;
 mod input;

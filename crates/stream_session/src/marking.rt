@@ -1,14 +1,14 @@
 //! The first pass over a stream whose groups are marked.
-ghost use Rattle.std.specs.Prelude.{◌≡◌, ◌<◌, ◌^◌, ◌++◌, ℕ, List, [], length, OnOk, IfOk, IfErr};
+ghost use Rattle.std.specs.Prelude.{◌≡◌, ◌++◌, ℕ, List, OnOk};
 ghost use Rattle.priority_file.specs.Priority.{Priorities};
 ghost use Rattle.stream_session.specs.Cutting.{IsCuttable};
-ghost use Rattle.stream_session.specs.Passing.{IsStreamFault};
 ghost use Rattle.stream_session.specs.Marks.{group_marks, marks_of};
 ghost use Rattle.stream_session.specs.Marking.{AreMarked, HasMarked, IsMarkedPlanOf};
 
 use crate::groups::{Group, GroupCutter};
 use crate::mark::GroupMark;
 use crate::pass::{Pass, SessionPlan, StreamFault};
+use crate::reader::StreamReader;
 use pet_base::NoMemory;
 use priority_file::Priority;
 use std::alloc::Global;
@@ -29,12 +29,14 @@ pub(crate) struct MarkedPass {
     marks: Vec<GroupMark>,
 }
 
-impl MarkedPass {
-    /// A pass that has read nothing. `file` has the bytes of the priority file.
-    pub fn new(alloc: Global, priority: &Priority, file: &[u8]) -> Result<MarkedPass, NoMemory>
-        requires { length file.now < 2 ^ 32 }
-        ensures { IfOk result (λ marked. HasMarked marked priority.now file.now []) }
-    {
+impl StreamReader for MarkedPass {
+    type Answer = MarkedPlan;
+
+    ghost has_read = { HasMarked };
+
+    ghost answers = { IsMarkedPlanOf };
+
+    fn begin(alloc: Global, priority: &Priority, file: &[u8]) -> Result<MarkedPass, NoMemory> {
         Ok(MarkedPass {
             pass: Pass::new(alloc, priority, file)?,
             cutter: GroupCutter::new(alloc, priority)?,
@@ -42,27 +44,13 @@ impl MarkedPass {
         })
     }
 
-    /// Reads the next portion of the stream. A refusal of the stream or its groups is kept until the end.
-    pub fn add(&mut self, portion: &[u8]) -> Result<(), NoMemory>
-        ensures { OnOk result ((priority : Priorities) (file stream : List ℕ) → HasMarked self.old priority file stream
-            → HasMarked self.new priority file (stream ++ portion.now)) }
-    {
+    fn read(&mut self, portion: &[u8]) -> Result<(), NoMemory> {
         self.pass.add(portion)?;
         self.cutter.feed(portion)?;
         mark_ended(&mut self.cutter, &mut self.marks)
     }
 
-    /// Ends the stream, and answers its session and the marks of its groups.
-    ///
-    /// # Errors
-    ///
-    /// The refusal of the stream, or else that of its plan.
-    pub fn finish(self) -> Result<MarkedPlan, StreamFault>
-        ensures plan { IfOk result (λ marked. (priority : Priorities) (file stream : List ℕ) → HasMarked self priority file stream
-            → IsMarkedPlanOf marked priority file stream) }
-        ensures refused { IfErr result (λ fault. (priority : Priorities) (file stream : List ℕ) → HasMarked self priority file stream
-            → IsStreamFault priority stream fault) }
-    {
+    fn end(self) -> Result<MarkedPlan, StreamFault> {
         let plan = self.pass.finish()?;
         let mut cutter = self.cutter;
         let mut marks = self.marks;

@@ -9,6 +9,7 @@ ghost use Rattle.stream_session.specs.Passing.{HasPassed, IsPlanOf, IsStreamFaul
 
 use crate::fault::SessionFault;
 use crate::planner::Planner;
+use crate::reader::StreamReader;
 use mpeg_scan::{Piece, Scan, Scanner};
 use pet_base::NoMemory;
 use priority_file::Priority;
@@ -119,6 +120,26 @@ impl Pass {
             Err(Scan::NoMemory) => Err(StreamFault::NoMemory),
             Err(scan) => Err(StreamFault::Stream(scan)),
         }
+    }
+}
+
+impl StreamReader for Pass {
+    type Answer = SessionPlan;
+
+    ghost has_read = { HasPassed };
+
+    ghost answers = { IsPlanOf };
+
+    fn begin(alloc: Global, priority: &Priority, file: &[u8]) -> Result<Pass, NoMemory> {
+        Pass::new(alloc, priority, file)
+    }
+
+    fn read(&mut self, portion: &[u8]) -> Result<(), NoMemory> {
+        self.add(portion)
+    }
+
+    fn end(self) -> Result<SessionPlan, StreamFault> {
+        self.finish()
     }
 }
 

@@ -1,16 +1,16 @@
 //! The session of a stream and a priority file that a place holds.
-ghost use Rattle.std.specs.Prelude.{◌≡◌, ◌<◌, ◌≤◌, ◌^◌, length, IfOk, IfErr};
+ghost use Rattle.std.specs.Prelude.{◌≡◌, ◌≤◌, IfOk, IfErr};
 ghost use Rattle.pet_base.specs.Seen.{Seen, KeepsOutput};
-ghost use Rattle.stream_session.specs.Sources.{IsSource, IsSourceFault, HasPlanAt, IsFaultAt};
+ghost use Rattle.stream_session.specs.Sources.{IsSource, IsSourceFault};
 
+use crate::both::read_both;
 use crate::fault::SessionFault;
-use crate::input::{InputFault, read_file};
+use crate::input::InputFault;
 use crate::pass::{Pass, SessionPlan, StreamFault};
-use crate::reader::read_through;
 use mpeg_scan::Scan;
-use pet_base::{Failed, MAX_PRIORITY_FILE, NoMemory, Place};
-use priority_file::{Priority, PriorityFault, read_priority};
-use std::alloc::{AllocError, Global};
+use pet_base::Place;
+use priority_file::{Priority, PriorityFault};
+use std::alloc::Global;
 use stripe_plan::Table;
 
 /// The session that a stream and a priority file are.
@@ -21,6 +21,20 @@ pub struct Source {
     pub number: [u8; 8],
     /// One for each group, in order.
     pub tables: Vec<Table>,
+}
+
+impl Source {
+    /// The session of this priority and plan.
+    pub(crate) fn of(priority: Priority, plan: SessionPlan) -> Source
+        ensures { result ≡ record { priority = priority; number = plan.number; tables = plan.tables } }
+    {
+        let number = plan.number;
+        Source {
+            priority,
+            number,
+            tables: plan.tables,
+        }
+    }
 }
 
 /// Why two files are no session: the first that holds of the priority file, the stream and the plan, in this order.
@@ -36,36 +50,6 @@ pub enum SourceFault {
     Stream(Scan),
     /// There is no plan of the stream. `SessionFault::NoMemory` never stands here.
     Plan(SessionFault),
-}
-
-impl From<AllocError> for SourceFault {
-    ghost use Rattle.stream_session.specs.declared.source.SourceFault.TheVariants.{NoMemory};
-
-    ghost from_gives = { λ _ fault. fault ≡ NoMemory };
-
-    fn from(_e: AllocError) -> SourceFault {
-        SourceFault::NoMemory
-    }
-}
-
-impl From<NoMemory> for SourceFault {
-    ghost use Rattle.stream_session.specs.declared.source.SourceFault.TheVariants.{NoMemory};
-
-    ghost from_gives = { λ _ fault. fault ≡ NoMemory };
-
-    fn from(_e: NoMemory) -> SourceFault {
-        SourceFault::NoMemory
-    }
-}
-
-impl From<Failed> for SourceFault {
-    ghost use Rattle.stream_session.specs.declared.source.SourceFault.TheVariants.{Failed};
-
-    ghost from_gives = { λ _ fault. fault ≡ Failed };
-
-    fn from(_e: Failed) -> SourceFault {
-        SourceFault::Failed
-    }
 }
 
 impl From<InputFault> for SourceFault {
@@ -126,32 +110,6 @@ pub fn read_source<P: Place>(
     ensures later { (P.seen place.old).faults ≤ (P.seen place.new).faults }
     ensures cause { IfErr result (IsSourceFault (P.seen place.old) (P.seen place.new) stream.now priority.now) }
 {
-    let file = read_file(alloc, priority, u64::from(MAX_PRIORITY_FILE), place)?;
-    let rules = read_priority(alloc, &file)?;
-    let plan = read_stream(alloc, stream, &rules, &file, place)?;
-    let number = plan.number;
-    Ok(Source {
-        priority: rules,
-        number,
-        tables: plan.tables,
-    })
-}
-
-/// Reads the stream, and answers its session under this priority, whose file has these bytes.
-fn read_stream<P: Place>(
-    alloc: Global,
-    name: &str,
-    priority: &Priority,
-    file: &[u8],
-    place: &mut P,
-) -> Result<SessionPlan, SourceFault>
-    requires { length file.now < 2 ^ 32 }
-    ensures plan { IfOk result (HasPlanAt (P.seen place.old).files name.now priority.now file.now) }
-    ensures others { KeepsOutput (P.seen place.old) (P.seen place.new) }
-    ensures later { (P.seen place.old).faults ≤ (P.seen place.new).faults }
-    ensures cause { IfErr result (IsFaultAt (P.seen place.old) (P.seen place.new) name.now priority.now) }
-{
-    let mut pass = Pass::new(alloc, priority, file)?;
-    read_through(alloc, name, place, &mut pass)?;
-    Ok(pass.finish()?)
+    let (rules, plan) = read_both::<P, Pass>(alloc, stream, priority, place)?;
+    Ok(Source::of(rules, plan))
 }
