@@ -43,14 +43,14 @@ pub struct GroupCutter {
     alloc: Global,
     scanner: Scanner,
     splitter: Splitter,
-    // the pieces of the last portion, and how many of them were looked at
+    /// The pieces of the last portion, and how many of them were looked at.
     pieces: Vec<Piece>,
     looked: usize,
-    // the bytes of the stream from the first byte of the current group on
+    /// The bytes of the stream from the first byte of the current group on.
     held: Vec<u8>,
-    // where in the stream they begin
+    /// Where in the stream they begin.
     from: u64,
-    // the stream or its groups are refused, and no more of it is read
+    /// The stream or its groups are refused, and no more of it is read.
     refused: bool,
 }
 
@@ -133,7 +133,7 @@ impl GroupCutter {
         }
     }
 
-    // Lets go of the pieces, once all were looked at.
+    /// Lets go of the pieces, once all were looked at.
     fn forget_looked(&mut self)
         ensures { KeepsPending self.old self.new }
     {
@@ -143,7 +143,7 @@ impl GroupCutter {
         }
     }
 
-    // Reads no more, and holds nothing.
+    /// Reads no more, and holds nothing.
     fn stop(&mut self)
         ensures { (self.new.refused ≡ true) × (pieces_left self.new ≡ 0) }
     {
@@ -153,7 +153,7 @@ impl GroupCutter {
         self.refused = true;
     }
 
-    // Looks at pieces until a group has ended, or none is left.
+    /// Looks at pieces until a group has ended, or none is left.
     fn look_on(&mut self) -> Result<Option<Group>, SplitFault>
         ensures looked { IfOk result (λ group. (priority : Priorities) (seen : List ℕ) (pieces : List Piece) (given : List CutGroup)
             → HasLooked self.old priority seen pieces given → HasLooked self.new priority seen pieces (given ++ groups_in group)) }
@@ -173,7 +173,7 @@ impl GroupCutter {
         Ok(None)
     }
 
-    // Looks at the next piece.
+    /// Looks at the next piece.
     fn look(&mut self) -> Result<Option<Group>, SplitFault>
         requires { 0 < pieces_left self.old }
         ensures looked { IfOk result (λ group. (priority : Priorities) (seen : List ℕ) (pieces : List Piece) (given : List CutGroup)
@@ -190,7 +190,7 @@ impl GroupCutter {
         self.end_group(cut, piece.at)
     }
 
-    // Ends the stream's groups: those that are left, or `None` where the groups are refused.
+    /// Ends the stream's groups: those that are left, or `None` where the groups are refused.
     fn last_groups(&mut self) -> Result<Option<Vec<Group>>, NoMemory>
         ensures whole { IfOk result (λ groups. IfSome groups (λ left. (priority : Priorities) (stream : List ℕ) (given : List CutGroup)
             → HasEnded self.old priority stream given → (given ++ left.items ≡ cut_groups priority stream)
@@ -209,7 +209,7 @@ impl GroupCutter {
         }
     }
 
-    // Appends the groups that are left.
+    /// Appends the groups that are left.
     fn end_groups(&mut self, groups: &mut Vec<Group>) -> Result<(), SplitFault>
         ensures whole { OnOk result ((priority : Priorities) (stream : List ℕ) (given : List CutGroup)
             → HasEnded self.old priority stream (given ++ groups.old.items) → (given ++ groups.new.items ≡ cut_groups priority stream)
@@ -226,7 +226,7 @@ impl GroupCutter {
         keep(groups, last)
     }
 
-    // The last group, where all pieces of the stream were looked at.
+    /// The last group, where all pieces of the stream were looked at.
     fn last_group(&mut self) -> Result<Option<Group>, SplitFault>
         ensures whole { IfOk result (λ group. (priority : Priorities) (stream : List ℕ) (given : List CutGroup)
             → HasEnded self.old priority stream given → pieces_left self.old ≡ 0 → (given ++ groups_in group ≡ cut_groups priority stream)
@@ -240,7 +240,7 @@ impl GroupCutter {
         self.end_group(cut, end)
     }
 
-    // The group of this cut, where there is one: it ends before this byte of the stream.
+    /// The group of this cut, where there is one: it ends before this byte of the stream.
     fn end_group(&mut self, cut: Option<GroupCut>, end: u64) -> Result<Option<Group>, SplitFault>
         ensures ends { IfOk result (λ group. Ends self.old self.new cut end group) }
         ensures fault { IfErr result (λ fault. fault ≡ SplitFault.NoMemory) }
@@ -255,7 +255,7 @@ impl GroupCutter {
         }
     }
 
-    // Takes the bytes before this byte of the stream out of what is held: they are those of the group of this cut.
+    /// Takes the bytes before this byte of the stream out of what is held: they are those of the group of this cut.
     fn take_group(&mut self, mut cut: GroupCut, end: u64) -> Result<Group, NoMemory>
         ensures group { IfOk result (λ group. All (λ run. self.old.from ≤ run.at) cut.runs
             → group ≡ group_from self.old.from cut (take (end - self.old.from) self.old.held.items)) }
@@ -272,7 +272,7 @@ impl GroupCutter {
     }
 }
 
-// Counts the places of the runs from this byte of the stream on, before which none begins.
+/// Counts the places of the runs from this byte of the stream on, before which none begins.
 fn rebase(cut: &mut GroupCut, from: u64)
     ensures { All (λ run. from ≤ run.at) cut.old.runs → cut.new ≡ record { runs = map (rebased from) cut.old.runs; lengths = cut.old.lengths } }
 {
@@ -281,7 +281,7 @@ fn rebase(cut: &mut GroupCut, from: u64)
     }
 }
 
-// Passes want of memory on: any other answer is a refusal of the stream.
+/// Passes want of memory on: any other answer is a refusal of the stream.
 fn pass_on_scan(scan: Scan) -> Result<(), NoMemory>
     ensures { OnOk result (scan ≢ Scan.NoMemory) }
 {
@@ -291,7 +291,7 @@ fn pass_on_scan(scan: Scan) -> Result<(), NoMemory>
     }
 }
 
-// The same of a fault of the groups.
+/// The same of a fault of the groups.
 fn pass_on_fault(fault: SplitFault) -> Result<(), NoMemory>
     ensures { OnOk result (fault ≢ SplitFault.NoMemory) }
 {
@@ -301,7 +301,7 @@ fn pass_on_fault(fault: SplitFault) -> Result<(), NoMemory>
     }
 }
 
-// Keeps a group, where there is one.
+/// Keeps a group, where there is one.
 fn keep(groups: &mut Vec<Group>, group: Option<Group>) -> Result<(), SplitFault>
     ensures ok { OnOk result (groups.new.items ≡ groups.old.items ++ groups_in group) }
     ensures fault { IfErr result (λ fault. fault ≡ SplitFault.NoMemory) }

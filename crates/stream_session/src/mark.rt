@@ -1,8 +1,8 @@
 //! The mark of a group, by which two readings of a stream are compared.
-ghost use Rattle.std.specs.Prelude.{◌≡◌, take};
-ghost use Rattle.sha2.specs.Sha256.{sha256};
+ghost use Rattle.std.specs.Prelude.{◌≡◌};
 ghost use Rattle.stream_session.specs.Marks.{mark_of, no_mark};
 
+use crate::pass::first_eight;
 use sha2::{Digest, Sha256};
 
 /// The length of a group in the stream, and the first 8 bytes of its SHA-256 digest (FIPS 180-4). A group that a reading
@@ -22,7 +22,7 @@ impl GroupMark {
     {
         GroupMark {
             length: bytes.len().min(u32::MAX as usize) as u32,
-            digest: digest_front(bytes),
+            digest: first_eight(Sha256::digest(bytes)),
         }
     }
 
@@ -35,14 +35,4 @@ impl GroupMark {
             digest: [0; 8],
         }
     }
-}
-
-/// The first eight bytes of the digest of these bytes.
-fn digest_front(bytes: &[u8]) -> [u8; 8]
-    ensures { result ≡ take 8 (sha256 bytes.now) }
-{
-    let digest = Sha256::digest(bytes);
-    let mut front = [0u8; 8];
-    front.copy_from_slice(&digest[..8]);
-    front
 }

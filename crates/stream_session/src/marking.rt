@@ -17,7 +17,7 @@ use std::alloc::Global;
 #[derive(Drop)]
 pub(crate) struct MarkedPlan {
     pub plan: SessionPlan,
-    // one for each group, in order
+    /// One for each group, in order.
     pub marks: Vec<GroupMark>,
 }
 

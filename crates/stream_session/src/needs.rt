@@ -1,5 +1,6 @@
 //! What a priority needs of each layer, and the table that it gives a cut.
 ghost use Rattle.std.specs.Prelude.{◌≡◌, ◌≤◌, length, Some, None, if◌then◌else◌};
+ghost use Rattle.pet_base.specs.declared.limits.TheConstants.{MAX_LAYERS};
 ghost use Rattle.priority_file.specs.Priority.{Priorities};
 ghost use Rattle.stream_session.specs.Tables.{table_of};
 ghost use Rattle.stream_session.specs.Refusals.{is_wide};
@@ -48,9 +49,9 @@ impl LayerNeeds {
     }
 }
 
-// Layers of these lengths, each with its need.
+/// Layers of these lengths, each with its need.
 fn sizes_of(lengths: &[u32], needs: &[u16]) -> ArrayVec<LayerSize, MAX_LAYERS>
-    requires { length needs.now ≤ 16 }
+    requires { length needs.now ≤ MAX_LAYERS }
     ensures { result.items ≡ sizes_by lengths.now needs.now }
 {
     let mut sizes = ArrayVec::new();

@@ -53,7 +53,7 @@ pub struct Pass {
     scanner: Scanner,
     planner: Planner,
     hasher: Sha256,
-    // those that the last portion gave; none between calls
+    /// Those that the last portion gave; none between calls.
     pieces: Vec<Piece>,
     refused: Option<Scan>,
 }
@@ -184,7 +184,7 @@ fn hasher_of(file: &[u8]) -> Sha256
 }
 
 /// The first eight bytes of a digest.
-fn first_eight(digest: [u8; 32]) -> [u8; 8]
+pub(crate) fn first_eight(digest: [u8; 32]) -> [u8; 8]
     ensures { result ≡ take 8 digest }
 {
     let mut first = [0u8; 8];

@@ -28,16 +28,16 @@ use stripe_plan::Table;
 pub struct Planner {
     needs: LayerNeeds,
     splitter: Splitter,
-    // the tables of the groups that have ended, up to the first that is too wide
+    /// The tables of the groups that have ended, up to the first that is too wide.
     tables: Vec<Table>,
-    // the first group that is too wide
+    /// The first group that is too wide.
     wide: Option<u32>,
-    // why the splitter has refused
+    /// Why the splitter has refused.
     refused: Option<SessionFault>,
 }
 
 impl Planner {
-    /// A planner for this priority, to which no piece was added. It takes no memory.
+    /// A planner for this priority, to which no piece was added.
     pub fn new(alloc: Global, priority: &Priority) -> Result<Planner, NoMemory>
         ensures { IfOk result (λ planner. HasPlanned planner priority.now []) }
     {
@@ -80,7 +80,7 @@ impl Planner {
         }
     }
 
-    // The tables with that of the last group, or the first cause that holds against the groups.
+    /// The tables with that of the last group, or the first cause that holds against the groups.
     fn end(mut self, cut: Option<GroupCut>) -> Result<Vec<Table>, SessionFault>
         ensures tables { IfOk result (λ tables. (priority : Priorities) (cuts : List Cut) → length cuts < MAX_GROUPS → All (IsFit priority) (cuts_in cut)
             → HasTables self priority cuts
@@ -95,7 +95,7 @@ impl Planner {
         }
     }
 
-    // The tables, or the first cause that holds against the groups that have ended.
+    /// The tables, or the first cause that holds against the groups that have ended.
     fn judged(self) -> Result<Vec<Table>, SessionFault>
         ensures tables { IfOk result (λ tables. (priority : Priorities) (cuts : List Cut) → HasTables self priority cuts
             → (fault_of_cuts priority cuts ≡ None) × (tables.items ≡ tables_of priority cuts)) }
@@ -111,7 +111,7 @@ impl Planner {
         }
     }
 
-    // Keeps why the splitter has refused.
+    /// Keeps why the splitter has refused.
     fn refuse(&mut self, fault: SplitFault) -> Result<(), NoMemory>
         ensures { OnOk result (HasRefused self.new fault) }
     {
@@ -122,7 +122,7 @@ impl Planner {
         Ok(())
     }
 
-    // Keeps the table of the next group, where there is one.
+    /// Keeps the table of the next group, where there is one.
     fn keep(&mut self, cut: Option<GroupCut>) -> Result<(), NoMemory>
         ensures kept { OnOk result ((priority : Priorities) (cuts : List Cut) → length cuts < MAX_GROUPS → All (IsFit priority) (cuts_in cut)
             → HasTables self.old priority cuts → HasTables self.new priority (cuts ++ cuts_in cut)) }
@@ -134,7 +134,7 @@ impl Planner {
         }
     }
 
-    // Keeps the table of the next group, or its number where it is the first that is too wide.
+    /// Keeps the table of the next group, or its number where it is the first that is too wide.
     fn keep_table(&mut self, cut: &GroupCut) -> Result<(), NoMemory>
         ensures kept { OnOk result ((priority : Priorities) (cuts : List Cut) → length cuts < MAX_GROUPS → IsFit priority cut.now
             → HasTables self.old priority cuts → HasTables self.new priority (cuts ++ cut.now ∷ [])) }
@@ -156,7 +156,7 @@ impl Planner {
     }
 }
 
-// The same cause, as one against a session.
+/// The same cause, as one against a session.
 fn refusal_of(fault: SplitFault) -> SessionFault
     ensures { (later : Option SessionFault) → fault_after (Some fault) later ≡ Some result }
 {

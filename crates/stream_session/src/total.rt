@@ -21,7 +21,7 @@ pub fn first_too_large(tables: &[Table]) -> Option<u32>
     None
 }
 
-// The bytes of a group's packets.
+/// The bytes of a group's packets.
 fn cost(table: &Table) -> u64
     ensures cost { result ≡ table_cost table.now }
     ensures some { 0 < result }
