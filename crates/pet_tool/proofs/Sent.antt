@@ -1,11 +1,10 @@
 -- What `send` tells at its end, and that it is done wherever no cause of another status holds.
-use Rattle.std.proofs.Common.{◌≡◌, ◌≢◌, ℕ, ◌*◌, ◌≤◌, false, List, [], ◌++◌, length, take, Option, Some, None, refl, sym, ap, subst, ◌∙◌, arith, inl, inr}
+use Rattle.std.proofs.Common.{◌≡◌, ℕ, ◌*◌, ◌≤◌, false, List, [], ◌++◌, length, Option, Some, None, refl, sym, ap, subst, ◌∙◌, arith, inl, inr}
 use Rattle.std.proofs.lemmas.List.{append-nil}
 use Rattle.std.specs.Prelude.{◌⊎◌, option_map, Result, Ok, Err, OnErr}
 use Rattle.std.specs.Str.{bytes_eq}
 use Rattle.std.specs.Io.KnownBytes.{append_known}
-use Rattle.pet_base.specs.declared.place.Side.TheVariants.{Written}
-use Rattle.pet_base.specs.Seen.{Seen, Files, HadFault, with_file}
+use Rattle.pet_base.specs.Seen.{Seen, Files, with_file}
 use Rattle.pet_base.specs.SeenLaws.{HadFault-since}
 use Rattle.stripe_plan.specs.Sizes.{Sizes}
 use Rattle.priority_file.specs.Priority.{Priorities}
@@ -14,10 +13,10 @@ use Rattle.stream_session.specs.declared.fault.SessionFault.TheVariants as sessi
 use Rattle.stream_session.specs.declared.mark.GroupMark.{GroupMark}
 use Rattle.stream_session.specs.declared.source.Source.{Source}
 use Rattle.stream_session.specs.declared.source.SourceFault.TheVariants as source
-use Rattle.stream_session.specs.Inputs.{IsFile, IsRead}
+use Rattle.stream_session.specs.Inputs.{IsFile}
 use Rattle.stream_session.specs.Marks.{marks_of, mark_at}
 use Rattle.stream_session.specs.Number.{session_number}
-use Rattle.stream_session.specs.Sources.{IsSource, IsSourceFault}
+use Rattle.stream_session.specs.Sources.{IsSource}
 use Rattle.pet_text.specs.declared.status.Status.{Status}
 use Rattle.pet_text.specs.declared.status.Status.TheVariants.{Done, Usage, NoMemory, PlaceFault, OutFault, BadStream, BadPriority, BadPlan, Incomplete, TurnsSpent, NotLeast, Changed}
 use Rattle.pet_text.specs.declared.words.Command.{Command}
@@ -32,13 +31,12 @@ use Rattle.pet_tool.specs.declared.send.SendFault.{SendFault}
 use Rattle.pet_tool.specs.declared.send.SendFault.TheVariants as fault
 use Rattle.pet_tool.specs.Finished.{Prints}
 use Rattle.pet_tool.specs.Reading.{IsPrefix, PutsPart}
-use Rattle.pet_tool.specs.Reports.{Reports}
-use Rattle.pet_tool.specs.Send.{session_datagrams, sent_line_text, HasSent, LeavesSent, IsOfSent, HasChanged, IsSendFault, status_of_send, SendTells, Sends, ForSend, CanSend, SendsSession}
+use Rattle.pet_tool.specs.Send.{session_datagrams, sent_line_text, HasSent, LeavesSent, IsSendFault, status_of_send, SendTells, Sends, ForSend, CanSend, SendsSession}
 use Rattle.pet_tool.specs.declared.second.SendStop.{SendStop}
 use Rattle.pet_tool.specs.declared.second.SendStop.TheVariants as stopped
 use Rattle.pet_tool.specs.Sending.{IsFirstPass, IsSendStop, IsToldStop, SentPart}
-use Rattle.pet_tool.specs.SendParts.{IsOfReopened, SessionSent, SessionLeft, SessionStops}
-use Rattle.pet_tool.specs.Sources.{HasSession, tables_in, status_of_source}
+use Rattle.pet_tool.specs.SendParts.{SessionSent, SessionLeft, SessionStops}
+use Rattle.pet_tool.specs.Sources.{HasSession, status_of_source}
 use Rattle.pet_tool.proofs.Reporting.{priority_is, stream_is, no_fault}
 
 -- the first pass of a session that was read
