@@ -1,11 +1,11 @@
 -- What is held of a group, after one packet more.
 use Rattle.std.specs.Prelude.{cond, false, true, IsSome, is_some, count_by, map, unwrap_or, Contains}
-use Rattle.std.proofs.Common.{◌≡◌, ◌≢◌, ◌↔◌, ℕ, zero, suc, ◌+◌, ◌*◌, ◌<◌, ◌≤◌, List, [], ◌∷◌, ◌++◌, Option, None, Some, length, get_or, take, drop, set, replicate, All, refl, sym, ap, ap₂, ◌∙◌, arith, subst, inl, inr}
+use Rattle.std.proofs.Common.{◌≡◌, ◌≢◌, ◌↔◌, ℕ, zero, suc, ◌+◌, ◌*◌, ◌<◌, ◌≤◌, List, [], ◌∷◌, ◌++◌, Option, None, Some, length, get_or, take, drop, replicate, All, refl, sym, ap, ap₂, ◌∙◌, arith, subst, inl, inr}
 use Rattle.std.proofs.lemmas.Bool.{cases_eq, cases_lt}
 use Rattle.std.proofs.Math.ListN as M
 use Rattle.std.proofs.lemmas.List.{length-map, length_push, map_push, get_or-set_same, get_or-set_other, get_or_past, get_or_push, take-append-le, get_or-replicate, length-replicate, nil_from_length}
 use Rattle.std.proofs.lemmas.List.Elements.{All-nil, All-head, All-tail, All-map, Contains-get_or, Contains-push, Contains-push_cases, Contains-append_left}
-use Rattle.std.proofs.lemmas.List.Sums.{sum_by-set, sum_by-cons}
+use Rattle.std.proofs.lemmas.List.Sums.{sum_by-cons}
 use Rattle.pet_field.specs.Field.{Operations, ArePoints}
 use Rattle.pet_poly.specs.Value.{AreDistinct}
 use Rattle.pet_interp.specs.Points.{IsOnlyThrough}
@@ -17,6 +17,7 @@ use Rattle.packet_set.specs.declared.set.Put.{Put}
 use Rattle.pet_encode.specs.Payload.{stripes_in}
 use Rattle.pet_receive.specs.Arrivals.{GroupState, HoldsAfter, points_of, layers_of, stripe_lengths}
 use Rattle.pet_receive.proofs.Cuts.{sizes_are, cut_at}
+use Rattle.pet_receive.specs.KeptSetLaws.{count_set}
 
 -- ---- lists
 
@@ -33,11 +34,6 @@ distinct_push (x ∷ xs) y h other = (
       ],
   distinct_push xs y h.1 (λ k d l. other (suc k) d (omega arith)),
 )
-
-count_set : (A : Type 0) (xs : List (Option A)) (i : ℕ) (v : A) → i < length xs → get_or xs i None ≡ None → count_by is_some (set xs i (Some v)) ≡ count_by is_some xs + 1
-count_set A xs i v l e =
-    let one : Option A → ℕ = λ x. cond (is_some x) 1 0 in
-    omega (arith, sum_by-set one xs i (Some v) None l, ap one e)
 
 pub some_inside : {A : Type 0} (xs : List (Option A)) (i : ℕ) → IsSome (get_or xs i None) → i < length xs
 some_inside xs i h =

@@ -9,3 +9,4 @@ pub mod Agreement
 pub mod Sums
 pub mod Grown
 pub mod Accepted
+pub mod Named

@@ -7,10 +7,10 @@ use Rattle.std.specs.Option.{option_map_or}
 use Rattle.std.specs.Map.{lookup, keys_of}
 use Rattle.std.specs.List.Sorted.{IsStrictlySortedBy}
 use Rattle.std.specs.BTreeMap.{is_at, insert_entry}
-use Rattle.std.proofs.lemmas.Bool.{cases_eq, eq-eqb}
-use Rattle.std.proofs.lemmas.Map.Views.{exact_unsigned_eq}
+use Rattle.std.proofs.lemmas.Bool.{cases_eq, eq-eqb, ne_eqb}
 use Rattle.std.proofs.lemmas.List.{map-append, append-nil}
-use Rattle.std.proofs.lemmas.List.Elements.{filter-append, All-head, All-tail}
+use Rattle.std.proofs.lemmas.List.Elements.{filter-append, All-head}
+use Rattle.std.proofs.lemmas.List.Folds.{list_any_none}
 use Rattle.pet_field.specs.Field.{Operations}
 use Rattle.stripe_plan.specs.Same.{same_table}
 use Rattle.packet_frame.specs.Frame.{Fields, IsFrame}
@@ -37,13 +37,9 @@ first_tells set sound group p opened (e ∷ es) is =
 pub tells : (set : KeptSet) → IsKeptSet set → (group : ℕ) (p : Packets) → open_group set group ≡ Some p → told_by set ≡ Some p.header.groups
 tells set sound group p opened = first_tells set sound group p opened set.groups refl
 
-any_false : {A : Type 0} (test : A → Bool) (xs : List A) → All (λ x. test x ≡ false) xs → list_any test xs ≡ false
-any_false test [] h = refl
-any_false test (x ∷ xs) h = ap₂ (λ a b. a || b) (All-head (λ t. test t ≡ false) x xs h) (any_false test xs (All-tail (λ t. test t ≡ false) x xs h))
-
 any_by : {A : Type 0} (test : A → Bool) (x : A) (xs : List A) (b : Bool) → All (λ t. test t ≡ b) (x ∷ xs) → list_any test (x ∷ xs) ≡ b
 any_by test x xs true h = ap (λ a. a || list_any test xs) (All-head (λ t. test t ≡ true) x xs h)
-any_by test x xs false h = any_false test (x ∷ xs) h
+any_by test x xs false h = list_any_none test (x ∷ xs) h
 
 count_by_first : (set : KeptSet) → IsKeptSet set → (f : Fields) (es : List (ℕ × Packets)) → set.groups ≡ es
     → list_any (λ (e : ℕ × Packets). not (e.1.header.groups == f.groups)) es ≡ option_map_or (λ n. not (n == f.groups)) (option_map (λ (e : ℕ × Packets). e.1.header.groups) (slice_get es 0)) false
@@ -124,18 +120,11 @@ numbers_by order group number at b e =
     last true = refl
     last false = refl
 
-differ : (a b : ℕ) → a ≢ b → (a == b) ≡ false
-differ a b ne = by (a == b) refl
-  where
-    by : (t : Bool) → (a == b) ≡ t → t ≡ false
-    by true e = absurd (ne (exact_unsigned_eq a b e))
-    by false e = refl
-
 pub numbers_here : (order : Order) (group number : ℕ) → numbers_of (order ++ ((group, number) ∷ [])) group ≡ numbers_of order group ++ (number ∷ [])
 numbers_here order group number = numbers_by order group number group true (eq-eqb group group refl)
 
 pub numbers_other : (order : Order) (group number at : ℕ) → group ≢ at → numbers_of (order ++ ((group, number) ∷ [])) at ≡ numbers_of order at
-numbers_other order group number at ne = numbers_by order group number at false (differ group at ne) ∙ append-nil (numbers_of order at)
+numbers_other order group number at ne = numbers_by order group number at false (ne_eqb group at ne) ∙ append-nil (numbers_of order at)
 
 -- ---- the receiver
 
@@ -155,10 +144,6 @@ count_is r group =
 pub is_some_of : {A : Type 0} (o : Option A) → is_some o ≡ true → (x : A) × (o ≡ Some x)
 is_some_of None e = absurd (cc)
 is_some_of (Some x) e = (x, refl)
-
-pub is_none_of : {A : Type 0} (o : Option A) → is_some o ≡ false → o ≡ None
-is_none_of None e = refl
-is_none_of (Some x) e = absurd (cc)
 
 module _ {E : Type 0} (P : E → Type 0) (o : Operations E) (spelt : List ℕ → E) (w : ℕ) (point_of : ℕ → E) (count : ℕ) (r : ReceiverState E) (told : Option ℕ) (cost : ℕ)
     (h : IsReceiver P o spelt w point_of count r told cost) (f : Fields) (frame : IsFrame f) (k : IsKeepable (kept_set r) f) where

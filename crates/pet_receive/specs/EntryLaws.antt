@@ -49,6 +49,10 @@ cmp_says_greater q k p =
       ]
     ]
 
+-- what a value weighs, and 0 where there is none
+abbrev pub weight : {X : Type 0} → (X → ℕ) → Option X → ℕ
+weight f o = unwrap_or (option_map f o) 0
+
 module _ {X : Type 0} where
   here_by : (e : ℕ × X) (es : List (ℕ × X)) (k : ℕ) (v : X) (r : Ordering) → nat_cmp k e.0 ≡ r → lookup (is_at (nat_cmp k)) (insert_entry nat_cmp es k v) ≡ Some v
       → lookup (is_at (nat_cmp k)) (match_ordering r ((k, v) ∷ e ∷ es) ((e.0, v) ∷ es) (e ∷ insert_entry nat_cmp es k v)) ≡ Some v
@@ -125,12 +129,13 @@ module _ {X : Type 0} where
   all_found es s i d l =
       lookup_from_place (eq_by_cmp_equiv nat_cmp_total) es i (get_or es i d).0 (get_or es i d).1 (IsDistinct-from_sorted nat_cmp (keys_of es) s) (slice_get-get_or es i d l)
 
-  values_sum : (f : X → ℕ) (es : List (ℕ × X)) → sum_by f (values_of es) ≡ sum_by (λ e. f e.1) es
+  -- a sum over the values is one over the entries that looks at their values alone
+  pub values_sum : (f : X → ℕ) (es : List (ℕ × X)) → sum_by f (values_of es) ≡ sum_by (λ e. f e.1) es
   values_sum f [] = refl
   values_sum f (e ∷ es) = omega (arith, sum_by-cons f e.1 (values_of es), sum_by-cons (λ (t : ℕ × X). f t.1) e es, values_sum f es)
 
   pub sum_insert : (f : X → ℕ) (es : List (ℕ × X)) (k : ℕ) (v : X) → IsStrictlySortedBy nat_cmp (keys_of es)
-      → sum_by (λ e. f e.1) (insert_entry nat_cmp es k v) + unwrap_or (option_map f (lookup (is_at (nat_cmp k)) es)) 0 ≡ sum_by (λ e. f e.1) es + f v
+      → sum_by (λ e. f e.1) (insert_entry nat_cmp es k v) + weight f (lookup (is_at (nat_cmp k)) es) ≡ sum_by (λ e. f e.1) es + f v
   sum_insert f es k v s = omega (arith, sum_by-insert_entry f nat_cmp_total es k v s, values_sum f (insert_entry nat_cmp es k v), values_sum f es)
 
 -- ---- with a function of the values

@@ -62,7 +62,7 @@ not_false : (b : Bool) → not b ≡ false → b ≡ true
 not_false true e = refl
 not_false false e = absurd (cc)
 
-none_from : {A : Type 0} (o : Option A) → is_some o ≡ false → o ≡ None
+pub none_from : {A : Type 0} (o : Option A) → is_some o ≡ false → o ≡ None
 none_from None e = refl
 none_from (Some x) e = absurd (cc)
 
@@ -105,7 +105,7 @@ pub keep_limit : (set : KeptSet) (f : Fields) → (keep set f).limit ≡ set.lim
 unfolding keep
 keep_limit set f = refl
 
-count_set : (A : Type 0) (xs : List (Option A)) (i : ℕ) (v : A) → i < length xs → get_or xs i None ≡ None → count_by is_some (set xs i (Some v)) ≡ count_by is_some xs + 1
+pub count_set : (A : Type 0) (xs : List (Option A)) (i : ℕ) (v : A) → i < length xs → get_or xs i None ≡ None → count_by is_some (set xs i (Some v)) ≡ count_by is_some xs + 1
 count_set A xs i v l e =
     let one : Option A → ℕ = λ x. cond (is_some x) 1 0 in
     omega (arith, sum_by-set one xs i (Some v) None l, ap one e)

@@ -19,6 +19,10 @@ pub range_more : (n : ℕ) → range_with_len 0 (n + 1) ≡ range_with_len 0 n +
 range_more n =
     sym (map-id (range_with_len 0 (n + 1))) ∙ map-range_with_len_more (λ (x : ℕ). x) 0 n n (omega arith) ∙ ap (λ t. t ++ (n ∷ [])) (map-id (range_with_len 0 n))
 
+-- and the numbers that pass, up to one more
+pub filter_more : (p : ℕ → Bool) (n : ℕ) → filter p (range_with_len 0 (n + 1)) ≡ filter p (range_with_len 0 n) ++ cond (p n) (n ∷ []) []
+filter_more p n = ap (filter p) (range_more n) ∙ filter-append p (range_with_len 0 n) (n ∷ [])
+
 -- the sum of the powers of two at the numbers below n that pass
 abbrev pub bits_below : (ℕ → Bool) → ℕ → ℕ
 bits_below p n = sum_by (λ j. 2 ^ j) (filter p (range_with_len 0 n))
@@ -29,7 +33,7 @@ one_bit n false = refl
 
 pub bits_more : (p : ℕ → Bool) (n : ℕ) → bits_below p (n + 1) ≡ bits_below p n + cond (p n) (2 ^ n) 0
 bits_more p n =
-    ap (λ t. sum_by (λ j. 2 ^ j) (filter p t)) (range_more n) ∙ ap (sum_by (λ j. 2 ^ j)) (filter-append p (range_with_len 0 n) (n ∷ []))
+    ap (sum_by (λ j. 2 ^ j)) (filter_more p n)
     ∙ sum_by-append (λ j. 2 ^ j) (filter p (range_with_len 0 n)) (cond (p n) (n ∷ []) []) ∙ ap (λ t. bits_below p n + t) (one_bit n (p n))
 
 bits_by : (p : ℕ → Bool) (n : ℕ) (b : Bool) → bits_below p (n + 1) ≡ bits_below p n + cond b (2 ^ n) 0 → bits_below p n < 2 ^ n → bits_below p (suc n) < 2 ^ suc n
@@ -81,7 +85,7 @@ passed p zero j l h = absurd (omega arith)
 passed p (suc n) j l h =
     let s : suc n ≡ n + 1 = omega arith in
     let is : filter p (range_with_len 0 (suc n)) ≡ filter p (range_with_len 0 n) ++ cond (p n) (n ∷ []) [] =
-    ap (λ k. filter p (range_with_len 0 k)) s ∙ ap (filter p) (range_more n) ∙ filter-append p (range_with_len 0 n) (n ∷ []) in
+    ap (λ k. filter p (range_with_len 0 k)) s ∙ filter_more p n in
     subst (λ t. Contains t j) (sym is)
     (elim (cases_eq j n) [
       | inl here ↦

@@ -6,3 +6,4 @@ pub mod Receiving
 pub mod EntryLaws
 pub mod KeptSetLaws
 pub mod LayerSetLaws
+pub mod Group

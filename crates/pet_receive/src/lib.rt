@@ -7,6 +7,7 @@
 //! the message's. Memory is taken only where a datagram opens a group.
 #![tactic(auto)]
 
+mod datagram;
 mod group;
 mod judge;
 mod keeping;
@@ -15,6 +16,7 @@ mod totals;
 mod verdict;
 mod write;
 
+pub use datagram::group_of;
 pub use receiver::Receiver;
 pub use verdict::{LayerSet, Verdict};
 

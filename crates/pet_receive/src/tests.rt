@@ -1,7 +1,8 @@
 //! Frames made outside, and what a receiver answers to them.
 ghost use Rattle.std.specs.Prelude.{◌≡◌, ◌<◌};
 
-use crate::{LayerSet, Receiver, Verdict};
+use crate::{LayerSet, Receiver, Verdict, group_of};
+use packet_frame::read_frame;
 use pet_base::{NoMemory, Steps};
 use pet_field::Gf16Plain;
 use std::alloc::Global;
@@ -55,6 +56,13 @@ const TWO_GROUPS: [u8; 81] = [
     0x01, 0x00, 0x07, 0x00, 0x00, 0x00, 0x00, 0x00, 0x00, 0x11, 0x22, 0x01, 0xB8, 0x00, 0x01, 0x08,
     0x44, 0x01, 0xB7, 0x01, 0x00, 0x00, 0x00, 0x00, 0x00, 0xC9, 0xAA, 0x24, 0xED, 0xCE, 0x25, 0xFD,
     0x85,
+];
+
+/// Packet 1 of 4 of the words 5 and 7, of group 258 of 515.
+const IN_GROUP_258: [u8; 41] = [
+    0x50, 0x45, 0x54, 0x31, 0x00, 0x01, 0x02, 0x03, 0x04, 0x05, 0x06, 0x07, 0x00, 0x00, 0x02, 0x03,
+    0x00, 0x00, 0x01, 0x02, 0x00, 0x04, 0x00, 0x01, 0x01, 0x00, 0x00, 0x00, 0x04, 0x00, 0x02, 0x00,
+    0x02, 0xC9, 0x8D, 0xBB, 0x7E, 0x18, 0x5D, 0x8B, 0x92,
 ];
 
 /// Packets 0 to 9 of 20 of two layers: 20 bytes of need 10, and 6 bytes of need 20.
@@ -256,5 +264,13 @@ fn shows_the_later_layer_first(rt: HostRuntime) -> Result<(), Fail> {
         assert_eq!(rt; got.layer.as_slice(), bytes);
         assert_eq!(rt; got.totals, totals);
     }
+    Ok(())
+}
+
+#[test]
+fn names_the_group_of_a_frame(rt: HostRuntime) -> Result<(), Fail> {
+    let frame = read_frame(&IN_GROUP_258)?;
+    assert_eq!(rt; frame.header.group, 258);
+    assert_eq!(rt; group_of(&IN_GROUP_258), 258);
     Ok(())
 }

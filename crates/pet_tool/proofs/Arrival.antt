@@ -7,6 +7,7 @@ use Rattle.std.specs.Str.{bytes_eq}
 use Rattle.std.proofs.lemmas.Bool.{cases_Bool}
 use Rattle.std.proofs.lemmas.Slice.Eq.{bytes_eq-Decides}
 use Rattle.std.proofs.lemmas.List.Elements.{All-get_or}
+use Rattle.std.proofs.lemmas.Option.{same_Some}
 use Rattle.pet_field.specs.Gf16.{gf16}
 use Rattle.packet_frame.specs.Frame.{Fields}
 use Rattle.packet_frame.specs.Refusals.{first_fault, fields_of}
@@ -30,9 +31,6 @@ use Rattle.pet_tool.proofs.Keeping.{IsMade, with_pair, follows_keep}
 use Rattle.pet_tool.proofs.Judged.{verdict_is}
 use Rattle.pet_tool.proofs.Told.{shows_nothing, records_are, newly_shown_is, has_after}
 use Rattle.std.proofs.lemmas.Bool.{cases_eq}
-
-some_same : {A : Type 0} (x y : A) → Some x ≡ Some y → x ≡ y
-some_same x y e = cc
 
 -- the payload of a packet of the session
 unfoldable pub made : SessionGroup → ℕ → List ℕ
@@ -61,7 +59,7 @@ agrees s pairs group g p has number payload at = by (has_pair pairs group number
     layers = ap (λ (h : Header). h.table.layers) has.header
 
     by : (b : Bool) → cond b (Some (made g number)) None ≡ Some payload → payload ≡ payload_at gf16 (from_be_bytes w16) (to_be_bytes w16) 2 (layers_of p) g.message number
-    by true e = sym (some_same (made g number) payload e) ∙ ap (λ (l : List LayerSize). payload_at gf16 (from_be_bytes w16) (to_be_bytes w16) 2 l g.message number) (sym layers)
+    by true e = sym (same_Some (made g number) payload e) ∙ ap (λ (l : List LayerSize). payload_at gf16 (from_be_bytes w16) (to_be_bytes w16) 2 l g.message number) (sym layers)
     by false e = absurd cc
 
 -- what one datagram leaves and writes
@@ -93,7 +91,7 @@ module _ (s : Session) (limit : ℕ) (pairs : List Pair) (kept : KeptSet) (d : L
     where
       all_at : (gs : List SessionGroup) (i : ℕ) (g : SessionGroup) → slice_get gs i ≡ Some g → All (IsSessionGroup 2) gs → IsSessionGroup 2 g
       all_at [] i g e all = absurd cc
-      all_at (x ∷ gs) zero g e all = subst (IsSessionGroup 2) (some_same x g e) (Rattle.std.proofs.lemmas.List.Elements.All-head (IsSessionGroup 2) x gs all)
+      all_at (x ∷ gs) zero g e all = subst (IsSessionGroup 2) (same_Some x g e) (Rattle.std.proofs.lemmas.List.Elements.All-head (IsSessionGroup 2) x gs all)
       all_at (x ∷ gs) (suc i) g e all = all_at gs i g e (Rattle.std.proofs.lemmas.List.Elements.All-tail (IsSessionGroup 2) x gs all)
 
   -- a packet of the session

@@ -3,7 +3,7 @@ use Rattle.std.proofs.Common.{◌≡◌, ◌≢◌, ℕ, ◌+◌, ◌<◌, ◌�
 use Rattle.std.specs.Prelude.{IsTrue, ◌↔◌, slice_get, option_map, Result, Ok, Err, IfOk, IfErr, IsErrAnd}
 use Rattle.std.proofs.Common.{get_or}
 use Rattle.std.proofs.lemmas.Bool.{cases_lt}
-use Rattle.std.proofs.lemmas.Option.{slice_get-map, slice_get_read}
+use Rattle.std.proofs.lemmas.Option.{slice_get-map, slice_get_read, same_Some}
 use Rattle.pet_base.specs.Seen.{Seen, Files}
 use Rattle.pet_base.specs.SeenLaws.{HadFault-since}
 use Rattle.stripe_plan.specs.Sizes.{Sizes}
@@ -22,9 +22,6 @@ use Rattle.pet_tool.specs.Check.{IsLeastAt, AreLeast, IsFirstNotLeast, HasPlanFi
 use Rattle.pet_tool.specs.Checking.{HasLists, HasNoLists, AreNotLeast}
 use Rattle.pet_tool.specs.Least.{IsLeast}
 use Rattle.pet_tool.specs.Sources.{HasSession, tables_in}
-
-some_same : {A : Type 0} (x y : A) → Some x ≡ Some y → x ≡ y
-some_same x y e = cc
 
 -- one group's table and list, and those of the groups before it
 module _ {A : Type 0} (items : A → List Repeat) (tables : List Sizes) (lists : List A) (g : ℕ) (t : Sizes) (v : A) (within : g < length tables) (many : length lists ≡ length tables)
@@ -46,8 +43,8 @@ module _ {A : Type 0} (items : A → List Repeat) (tables : List Sizes) (lists :
 
   not_least_at : (l : List Repeat) → l ≡ items v → (IsLeast t.layers l → ⊥) → IsLeastAt tables (map items lists) g → ⊥
   not_least_at l is never at =
-      let table : at.table ≡ t = some_same at.table t (sym at.table_there ∙ table_there) in
-      let list : at.list ≡ l = some_same at.list (items v) (sym at.list_there ∙ list_there) ∙ sym is in
+      let table : at.table ≡ t = same_Some at.table t (sym at.table_there ∙ table_there) in
+      let list : at.list ≡ l = same_Some at.list (items v) (sym at.list_there ∙ list_there) ∙ sym is in
       never (subst (λ (s : Sizes). IsLeast s.layers l) table (subst (IsLeast at.table.layers) list at.least))
 
   pub least_up_to : (l : List Repeat) → l ≡ items v → IsLeast t.layers l → ((earlier : ℕ) → earlier < g → IsLeastAt tables (map items lists) earlier)

@@ -5,7 +5,7 @@ use Rattle.std.specs.Int.{w16, from_be_bytes, to_be_bytes}
 use Rattle.std.specs.List.{flat_map, range_with_len}
 use Rattle.std.proofs.lemmas.List.{append-nil, take-append-drop, take_all, map-id}
 use Rattle.std.proofs.lemmas.List.Folds.{flat_map-map}
-use Rattle.std.proofs.lemmas.List.FromFn.{map-range_with_len_more, take-map-range_with_len}
+use Rattle.std.proofs.lemmas.List.FromFn.{take-map-range_with_len}
 use Rattle.std.proofs.lemmas.Grind.{flat_map-append}
 use Rattle.pet_base.specs.Seen.{Seen}
 use Rattle.pet_field.specs.Gf16.{gf16}
@@ -14,14 +14,10 @@ use Rattle.packet_frame.specs.Frame.{Fields, IsFrame, text}
 use Rattle.packet_frame.proofs.Laws.{texts_have_length}
 use Rattle.pet_encode.specs.Encoding.{Encoding, IsGroupOf}
 use Rattle.pet_encode.specs.Session.{Session, SessionGroup, packet_of, packets_of_group, packets_from}
+use Rattle.pet_receive.specs.LayerSetLaws.{range_more}
 use Rattle.pet_tool.specs.Packets.{entry_text, entries_text, packet_in, packet_entry, first_entries, group_entries, datagrams_text, first_groups_text, AreEncoders, GroupsMakeDatagrams}
 use Rattle.pet_tool.specs.Reading.{IsPrefix, Puts, PutsPart}
 use Rattle.pet_tool.proofs.Fronts.{puts_then, puts_nothing}
-
-range_more : (n : ℕ) → range_with_len 0 (n + 1) ≡ range_with_len 0 n ++ n ∷ []
-range_more n =
-    sym (map-id (range_with_len 0 (n + 1))) ∙ map-range_with_len_more (λ (x : ℕ). x) 0 n n (omega arith)
-    ∙ ap (λ (t : List ℕ). t ++ n ∷ []) (map-id (range_with_len 0 n))
 
 range_front : (n m : ℕ) → n ≤ m → take n (range_with_len 0 m) ≡ range_with_len 0 n
 range_front n m le =

@@ -2,23 +2,21 @@
 use Rattle.std.proofs.Common.{◌≡◌, ℕ, zero, suc, Bool, true, false, cond, List, [], ◌∷◌, length, get_or, Option, None, Some, All, refl, sym, ap, subst, ◌∙◌, arith}
 use Rattle.std.specs.Prelude.{sum_by, count_by, slice_get, is_some, unwrap_or, replicate}
 use Rattle.std.specs.List.{enumerate_from, range_with_len}
-use Rattle.std.specs.Map.{values_of}
+use Rattle.std.specs.Ordering.{nat_cmp}
+use Rattle.std.specs.List.Sorted.{IsStrictlySortedBy}
+use Rattle.std.specs.Map.{keys_of, values_of}
 use Rattle.std.proofs.lemmas.List.{get_or-set_same, get_or-set_other, length-set, get_or_past}
 use Rattle.std.proofs.lemmas.List.Elements.{All-nil}
+use Rattle.std.proofs.lemmas.Option.{none-some, same_Some}
 use Rattle.packet_frame.specs.Frame.{Fields}
 use Rattle.packet_frame.specs.declared.frame.Header.{Header}
 use Rattle.packet_set.specs.Packets.{Packets, slot_at}
 use Rattle.pet_encode.specs.Session.{Session, SessionGroup}
 use Rattle.pet_receive.specs.KeptSet.{KeptSet, open_group, empty_set, header_of, no_packets, count_in}
+use Rattle.pet_receive.specs.EntryLaws.{weight}
+use Rattle.pet_receive.specs.KeptSetLaws.{empty_sound}
 use Rattle.pet_tool.specs.Met.{Pair, has_pair, distinct_met}
 use Rattle.pet_tool.proofs.Sums.{count_slots}
-use Rattle.pet_tool.proofs.Entries.{Rising, weight}
-
-none_some : {A : Type 0} (x : A) → None ≡ Some x → ⊥
-none_some x e = cc
-
-some_same : {A : Type 0} (x y : A) → Some x ≡ Some y → x ≡ y
-some_same x y e = cc
 
 -- what the frames of a group of a session share
 abbrev pub header_in : Session → ℕ → SessionGroup → Header
@@ -40,7 +38,7 @@ module _ (made : SessionGroup → ℕ → List ℕ) where
   pub record Follows (s : Session) (limit : ℕ) (pairs : List Pair) (kept : KeptSet) : Type 0 where
     pub session : kept.session ≡ s.number
     pub limit_is : kept.limit ≡ limit
-    pub rising : Rising 0 kept.groups
+    pub rising : IsStrictlySortedBy nat_cmp (keys_of kept.groups)
     pub opened : (group : ℕ) (p : Packets) → open_group kept group ≡ Some p → (g : SessionGroup) × (slice_get s.groups group ≡ Some g) × HasMet s pairs group g p
     pub closed : (group : ℕ) → open_group kept group ≡ None → (number : ℕ) → has_pair pairs group number ≡ false
     pub told : All (λ p. p.header.groups ≡ length s.groups) (values_of kept.groups)
@@ -51,8 +49,8 @@ module _ (made : SessionGroup → ℕ → List ℕ) where
   follows_nothing s limit = record {
     session = refl;
     limit_is = refl;
-    rising = tt;
-    opened = λ group p e. absurd (none_some p e);
+    rising = (empty_sound s.number limit).rising;
+    opened = λ group p e. absurd (none-some p e);
     closed = λ group e number. refl;
     told = All-nil (λ (p : Packets). p.header.groups ≡ length s.groups);
     spread = λ w. sym (nothing w 0 s.groups);
@@ -105,5 +103,5 @@ module _ (made : SessionGroup → ℕ → List ℕ) where
           empty o none (suc n) (suc i) = empty o none n i
       by (Some p) e =
           let has = follows.opened f.group p e in
-          let same : has.0 ≡ g = some_same has.0 g (sym has.1 ∙ at) in
+          let same : has.0 ≡ g = same_Some has.0 g (sym has.1 ∙ at) in
           subst (λ (x : SessionGroup). HasMet s pairs f.group x p) same has.2

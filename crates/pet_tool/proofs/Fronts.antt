@@ -1,13 +1,13 @@
 -- What is put piece after piece.
-use Rattle.std.proofs.Common.{◌≡◌, ℕ, ◌+◌, ◌<◌, Bool, true, false, cond, take, drop, List, [], ◌∷◌, ◌++◌, length, get_or, map, Option, append_assoc, sym, ap, subst, ◌∙◌, arith, eqb}
+use Rattle.std.proofs.Common.{◌≡◌, ℕ, ◌+◌, ◌<◌, Bool, true, false, cond, take, drop, List, [], ◌∷◌, ◌++◌, length, get_or, map, Option, append_assoc, sym, ap, subst, ◌∙◌, eqb}
 use Rattle.std.specs.Prelude.{Result, Ok, Err, OnOk, OnErr, filter}
 use Rattle.std.specs.List.{flat_map, range_with_len}
 use Rattle.std.specs.Int.{bit_at}
-use Rattle.std.proofs.lemmas.List.{append-nil, take-append-drop, take_more, map_push, map-id}
-use Rattle.std.proofs.lemmas.List.FromFn.{filter_of_map_range_with_len_more}
+use Rattle.std.proofs.lemmas.List.{append-nil, take-append-drop, take_more, map_push}
 use Rattle.std.proofs.lemmas.Grind.{flat_map-append}
 use Rattle.pet_base.specs.Seen.{Seen, Files, Grows}
 use Rattle.pet_base.specs.SeenLaws.{Grows-nil, Grows-then}
+use Rattle.pet_receive.specs.LayerSetLaws.{filter_more}
 use Rattle.pet_tool.specs.LayersText.{record_text}
 use Rattle.pet_tool.specs.Records.{records_text}
 use Rattle.pet_tool.specs.Reading.{Puts, PutsPart}
@@ -58,11 +58,6 @@ text_split arrival group shown i =
     ap (flat_map f) (sym (take-append-drop i shown)) ∙ flat_map-append f (take i shown) (drop i shown)
 
 -- the layers of a set, up to one more
-pub filter_more : (p : ℕ → Bool) (n : ℕ) → filter p (range_with_len 0 (n + 1)) ≡ filter p (range_with_len 0 n) ++ cond (p n) (n ∷ []) []
-filter_more p n =
-    ap (filter p) (sym (map-id (range_with_len 0 (n + 1)))) ∙ filter_of_map_range_with_len_more p (λ (x : ℕ). x) 0 n n (omega arith)
-    ∙ ap (λ (t : List ℕ). filter p t ++ cond (p n) (n ∷ []) []) (map-id (range_with_len 0 n))
-
 pub layers_more : (bits n : ℕ) (shown : List ShownLayer) (e : ShownLayer) → map (λ x. x.layer) shown ≡ filter (λ j. eqb (bit_at bits j) 1) (range_with_len 0 n) → eqb (bit_at bits n) 1 ≡ true → e.layer ≡ n
     → map (λ x. x.layer) (shown ++ e ∷ []) ≡ filter (λ j. eqb (bit_at bits j) 1) (range_with_len 0 (n + 1))
 layers_more bits n shown e so_far has is =

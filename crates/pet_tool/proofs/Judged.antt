@@ -5,9 +5,12 @@ use Rattle.std.specs.List.{list_any}
 use Rattle.std.specs.Option.{option_map_or, option_and_then}
 use Rattle.std.specs.Map.{values_of}
 use Rattle.std.specs.Str.{bytes_eq}
+use Rattle.std.specs.Cmp.{nat_cmp_total}
+use Rattle.std.proofs.lemmas.Map.Entries.{sum_by-insert_entry}
 use Rattle.std.proofs.lemmas.Bool.{le-ltb, eq-eqb}
 use Rattle.std.proofs.lemmas.List.Elements.{All-head, All-tail}
 use Rattle.std.proofs.lemmas.Slice.Eq.{bytes_eq-Decides}
+use Rattle.std.proofs.lemmas.Option.{same_Some}
 use Rattle.packet_frame.specs.Frame.{Fields}
 use Rattle.packet_frame.specs.declared.frame.Header.{Header}
 use Rattle.packet_set.specs.Packets.{Packets, slot_at}
@@ -17,14 +20,11 @@ use Rattle.pet_encode.specs.Session.{Session, SessionGroup, Fits, cost_of}
 use Rattle.pet_receive.specs.declared.verdict.Verdict.TheVariants.{Foreign, Clash, Repeated, Full, Kept}
 use Rattle.pet_receive.specs.KeptSet.{KeptSet, open_group, payload_of, header_of, no_packets, group_with, keep, cost_in, cost_kept}
 use Rattle.pet_receive.specs.Verdicts.{tells_other_count, tells_other_table, tells_other_payload, clashes, is_too_much, newly_shown, layer_set, frame_verdict}
+use Rattle.pet_receive.specs.EntryLaws.{weight, values_sum}
 use Rattle.pet_tool.specs.Met.{Pair, has_pair}
 use Rattle.pet_tool.proofs.Sums.{sum_below, sum_plain}
-use Rattle.pet_tool.proofs.Entries.{weight, sum_put, sum_values}
 use Rattle.pet_tool.proofs.Following.{HasMet, Follows}
 use Rattle.pet_tool.proofs.Keeping.{IsMade, with_pair, follows_keep}
-
-some_same : {A : Type 0} (x y : A) → Some x ≡ Some y → x ≡ y
-some_same x y e = cc
 
 same_bytes : (x : List ℕ) → not (bytes_eq x x) ≡ false
 same_bytes x = ap not ((bytes_eq-Decides x x).1 refl)
@@ -40,7 +40,7 @@ module _ (made : SessionGroup → ℕ → List ℕ) (s : Session) (limit : ℕ) 
   open_is : (p : Packets) → open_group kept f.group ≡ Some p → HasMet made s pairs f.group g p
   open_is p e =
       let has = follows.opened f.group p e in
-      subst (λ (x : SessionGroup). HasMet made s pairs f.group x p) (some_same has.0 g (sym has.1 ∙ is.at)) has.2
+      subst (λ (x : SessionGroup). HasMet made s pairs f.group x p) (same_Some has.0 g (sym has.1 ∙ is.at)) has.2
 
   count_told : tells_other_count kept f ≡ false
   count_told = subst (λ (n : ℕ). list_any (λ e. not (eqb e.1.header.groups n)) kept.groups ≡ false) (sym (ap (λ (h : Header). h.groups) is.header)) (same_count kept.groups (length s.groups) follows.told)
@@ -89,7 +89,7 @@ module _ (made : SessionGroup → ℕ → List ℕ) (s : Session) (limit : ℕ) 
       by i n x at has (Some p) e =
           let opened = after.opened n p e in
           let n_is : n ≡ i = omega arith in
-          let same : opened.0 ≡ x = some_same opened.0 x (sym opened.1 ∙ ap (slice_get s.groups) n_is ∙ has) in
+          let same : opened.0 ≡ x = same_Some opened.0 x (sym opened.1 ∙ ap (slice_get s.groups) n_is ∙ has) in
           let cost : cost_in p ≡ cost_of opened.0.packets opened.0.layers = ap (λ (h : Header). cost_of h.table.packets h.table.layers) opened.2.header in
           let cost_is : cost_in p ≡ cost_of x.packets x.layers = cost ∙ ap (λ (y : SessionGroup). cost_of y.packets y.layers) same in
           omega (arith, cost_is)
@@ -102,10 +102,10 @@ module _ (made : SessionGroup → ℕ → List ℕ) (s : Session) (limit : ℕ) 
       by None e =
           let v = group_with kept f in
           let within = cost_within (keep kept f) (with_pair made pairs f) (follows_keep made s limit pairs kept f g follows is) in
-          let grown = sum_put cost_in kept.groups 0 f.group v follows.rising in
+          let grown = sum_by-insert_entry cost_in nat_cmp_total kept.groups f.group v follows.rising in
           let nothing : weight cost_in (open_group kept f.group) ≡ 0 = ap (weight cost_in) e in
           let cost : cost_in v ≡ cost_of f.packets f.layers = ap (λ (o : Option Packets). cost_in (unwrap_or o (no_packets (header_of f)))) e in
-          let values = sum_values cost_in kept.groups in
+          let values = values_sum cost_in kept.groups in
           le-ltb kept.limit (cost_kept kept + cost_of f.packets f.layers) (omega (arith, within, grown, nothing, cost, values, fits, follows.limit_is))
       by (Some p) e = refl
 

@@ -2,23 +2,23 @@
 use Rattle.std.proofs.Common.{◌≡◌, ℕ, ◌<◌, Bool, cond, List, [], ◌∷◌, ◌++◌, length, get_or, set, None, Some, sym, ap, subst, ◌∙◌, arith, inl, inr}
 use Rattle.std.specs.Prelude.{slice_get}
 use Rattle.std.specs.Ordering.{nat_cmp}
-use Rattle.std.specs.BTreeMap.{insert_entry}
 use Rattle.std.proofs.lemmas.Bool.{cases_eq}
 use Rattle.std.proofs.lemmas.List.{get_or-set_same, get_or-set_other, length-set}
+use Rattle.std.specs.Cmp.{nat_cmp_total}
+use Rattle.std.proofs.lemmas.Map.Entries.{sum_by-insert_entry}
 use Rattle.std.proofs.lemmas.Map.Views.{All-values-insert_entry}
+use Rattle.std.proofs.lemmas.Option.{same_Some}
 use Rattle.packet_frame.specs.Frame.{Fields}
 use Rattle.packet_frame.specs.declared.frame.Header.{Header}
 use Rattle.packet_set.specs.Packets.{Packets, with_packet}
 use Rattle.pet_encode.specs.Session.{Session, SessionGroup}
 use Rattle.pet_receive.specs.KeptSet.{KeptSet, open_group, header_of, group_with, keep}
+use Rattle.pet_receive.specs.EntryLaws.{weight, rises_insert}
+use Rattle.pet_receive.specs.KeptSetLaws.{open_here, open_other}
 use Rattle.pet_tool.specs.Met.{Pair, has_pair}
 use Rattle.pet_tool.proofs.Sums.{sum_changed}
-use Rattle.pet_tool.proofs.Entries.{weight, found_put, found_other, rising_put, sum_put}
 use Rattle.pet_tool.proofs.Pairs.{met_here, met_other_group, met_other_number}
 use Rattle.pet_tool.proofs.Following.{header_in, HasMet, Follows, met_same, group_before, has_met_before}
-
-some_same : {A : Type 0} (x y : A) → Some x ≡ Some y → x ≡ y
-some_same x y e = cc
 
 module _ (made : SessionGroup → ℕ → List ℕ) where
   -- the frame is the packet of its number of this group of the session
@@ -60,40 +60,39 @@ module _ (made : SessionGroup → ℕ → List ℕ) where
   follows_keep s limit pairs kept f g follows is =
       let now = with_pair pairs f in
       let v = group_with kept f in
-      let put = insert_entry nat_cmp kept.groups f.group v in
       let has : HasMet made s now f.group g v = has_met_with s pairs f g (group_before made kept f) is (has_met_before made s limit pairs kept f g follows is.at is.header) in
       record {
         session = follows.session;
         limit_is = follows.limit_is;
-        rising = rising_put kept.groups 0 f.group v (omega arith) follows.rising;
+        rising = rises_insert kept.groups f.group v follows.rising;
         opened =
             λ group p e.
             elim (cases_eq group f.group) [
               | inl same ↦
-                  let at : Some v ≡ Some p = sym (found_put kept.groups f.group v) ∙ ap (λ (q : ℕ). Rattle.pet_tool.proofs.Entries.entry_at q put) (sym same) ∙ e in
-                  let found : HasMet made s now f.group g p = subst (HasMet made s now f.group g) (some_same v p at) has in
+                  let at : Some v ≡ Some p = sym (open_here kept f) ∙ ap (open_group (keep kept f)) (sym same) ∙ e in
+                  let found : HasMet made s now f.group g p = subst (HasMet made s now f.group g) (same_Some v p at) has in
                   (g, ap (slice_get s.groups) same ∙ is.at, subst (λ (q : ℕ). HasMet made s now q g p) (sym same) found)
               | inr other ↦
-                  let before = follows.opened group p (sym (found_other kept.groups f.group group v other) ∙ e) in
+                  let before = follows.opened group p (sym (open_other kept f group other) ∙ e) in
                   (before.0, before.1, met_same made s pairs now group before.0 p (λ m. met_other_group pairs f.group f.number group m (λ t. other (sym t))) before.2)
             ];
         closed =
             λ group e m.
             elim (cases_eq group f.group) [
               | inl same ↦
-                  let at : Some v ≡ None = sym (found_put kept.groups f.group v) ∙ ap (λ (q : ℕ). Rattle.pet_tool.proofs.Entries.entry_at q put) (sym same) ∙ e in
+                  let at : Some v ≡ None = sym (open_here kept f) ∙ ap (open_group (keep kept f)) (sym same) ∙ e in
                   absurd cc
               | inr other ↦
-                  met_other_group pairs f.group f.number group m (λ t. other (sym t)) ∙ follows.closed group (sym (found_other kept.groups f.group group v other) ∙ e) m
+                  met_other_group pairs f.group f.number group m (λ t. other (sym t)) ∙ follows.closed group (sym (open_other kept f group other) ∙ e) m
             ];
         told = All-values-insert_entry nat_cmp f.group v (λ (p : Packets). p.header.groups ≡ length s.groups) kept.groups follows.told (ap (λ (h : Header). h.groups) has.header);
         spread =
             λ w.
             let F = λ (e : ℕ × SessionGroup). weight w (open_group (keep kept f) e.0) in
             let G = λ (e : ℕ × SessionGroup). weight w (open_group kept e.0) in
-            let moved = sum_changed F G s.groups 0 f.group f.group g (omega arith) is.at (λ j y apart. ap (weight w) (found_other kept.groups f.group j v apart)) in
-            let here : F (f.group, g) ≡ w v = ap (weight w) (found_put kept.groups f.group v) in
-            let grown = sum_put w kept.groups 0 f.group v follows.rising in
+            let moved = sum_changed F G s.groups 0 f.group f.group g (omega arith) is.at (λ j y apart. ap (weight w) (open_other kept f j apart)) in
+            let here : F (f.group, g) ≡ w v = ap (weight w) (open_here kept f) in
+            let grown = sum_by-insert_entry w nat_cmp_total kept.groups f.group v follows.rising in
             let before = follows.spread w in
             omega (arith, moved, here, grown, before);
       }

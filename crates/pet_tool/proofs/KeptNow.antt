@@ -23,12 +23,11 @@ use Rattle.pet_tool.specs.LayersText.{AreRecords, IsArrivalText}
 use Rattle.pet_tool.specs.Reading.{IsTextAt}
 use Rattle.pet_receive.specs.KeptSet.{KeptSet, IsKeptSet, open_group, group_with, count_kept, count_in}
 use Rattle.pet_receive.specs.KeptSetLaws.{keepable, open_here, header_with, count_with, verdict_read, verdict_damaged, after_kept}
-use Rattle.pet_receive.specs.LayerSetLaws.{newly_shown-is, layer_set-has, bit_inside, bit_outside}
+use Rattle.pet_receive.specs.Group.{group_in}
+use Rattle.pet_receive.specs.LayerSetLaws.{filter_more, newly_shown-is, layer_set-has, bit_inside, bit_outside}
 use Rattle.pet_receive.specs.ShownBytes.{IsShown, IsShownIn}
 use Rattle.pet_receive.specs.Verdicts.{verdict_of, frame_verdict, is_kept, newly_shown, layer_set, after}
-use Rattle.pet_tool.specs.Group.{group_in}
 use Rattle.pet_tool.specs.Records.{layers_in, AreShownText}
-use Rattle.pet_tool.proofs.Fronts.{filter_more}
 
 same_set : (a b : LayerSet) → Kept a ≡ Kept b → a ≡ b
 same_set a b e = cc

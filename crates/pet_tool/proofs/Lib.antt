@@ -1,5 +1,4 @@
 pub mod Sums
-pub mod Entries
 pub mod Pairs
 pub mod Following
 pub mod Keeping

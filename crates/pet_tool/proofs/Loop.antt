@@ -9,13 +9,14 @@ use Rattle.pet_base.specs.Entries.{HasRead, TakesEntry}
 use Rattle.pet_base.specs.EntriesLaws.{HasRead-nil, HasRead-datagram, HasRead-end, HasRead-front}
 use Rattle.pet_receive.specs.Arrivals.{Order, ReceiverState, kept_set}
 use Rattle.pet_receive.specs.KeptSet.{KeptSet}
+use Rattle.pet_receive.specs.KeptSetLaws.{after_more}
 use Rattle.pet_receive.specs.Verdicts.{after, after_all}
 use Rattle.pet_tool.specs.Gf16.{HasKeptIn}
 use Rattle.pet_tool.specs.LayersText.{IsArrivalText, IsLayersText, order_after, order_after_all}
 use Rattle.pet_tool.specs.Reading.{Puts, IsTextAt, SoFar, HasReceived, PartSoFar, PartOfOne}
 use Rattle.pet_tool.specs.Steps.{steps_of, steps_of_all}
 use Rattle.pet_tool.proofs.Fronts.{puts_nothing}
-use Rattle.pet_tool.proofs.LoopLaws.{after_push, order_push, steps_push, text_nothing, text_push}
+use Rattle.pet_tool.proofs.LoopLaws.{order_push, steps_push, text_nothing, text_push}
 
 pub so_far_start : (s : Seen) (r : ReceiverState ℕ) (steps : ℕ) → HasKeptIn r [] → SoFar (kept_set r) 0 s s r steps steps
 unfolding after_all order_after_all steps_of_all
@@ -48,7 +49,7 @@ pub so_far_more : (set : KeptSet) (n n1 len : ℕ) (into : List ℕ) (first befo
 so_far_more set n n1 len into first before between now r next a b c s at names step reads writes puts kept held cost =
     let d = take len into in
     let same : between.target ≡ first.target = reads.target ∙ names.target in
-    let kept_all : after_all set (s.read ++ d ∷ []) ≡ after (kept_set r) d = after_push set s.read d ∙ ap (λ (k : KeptSet). after k d) (sym s.kept) in
+    let kept_all : after_all set (s.read ++ d ∷ []) ≡ after (kept_set r) d = after_more set s.read d ∙ ap (λ (k : KeptSet). after k d) (sym s.kept) in
     let order_all : order_after_all set [] (s.read ++ d ∷ []) ≡ order_after (kept_set r) (order_after_all set [] s.read) d =
     order_push set [] s.read d ∙ ap (λ (k : KeptSet). order_after k (order_after_all set [] s.read) d) (sym s.kept) in
     let spent : steps_of (after_all set s.read) d ≡ steps_of (kept_set r) d = ap (λ (k : KeptSet). steps_of k d) (sym s.kept) in

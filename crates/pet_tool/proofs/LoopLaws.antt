@@ -7,11 +7,6 @@ use Rattle.pet_receive.specs.Verdicts.{after, after_all}
 use Rattle.pet_tool.specs.LayersText.{IsArrivalText, IsLayersText, order_after, order_after_all}
 use Rattle.pet_tool.specs.Steps.{steps_of, steps_of_all}
 
-pub after_push : (set : KeptSet) (ds : List (List ℕ)) (d : List ℕ) → after_all set (ds ++ d ∷ []) ≡ after (after_all set ds) d
-unfolding after_all
-after_push set [] d = refl
-after_push set (e ∷ ds) d = after_push (after set e) ds d
-
 pub order_push : (set : KeptSet) (order : Order) (ds : List (List ℕ)) (d : List ℕ) → order_after_all set order (ds ++ d ∷ []) ≡ order_after (after_all set ds) (order_after_all set order ds) d
 unfolding after_all order_after_all
 order_push set order [] d = refl

@@ -2,8 +2,12 @@
 use Rattle.std.proofs.Common.{◌≡◌, ◌↔◌, ℕ, zero, suc, ◌+◌, ◌<◌, ◌≤◌, Bool, true, List, [], ◌∷◌, length, Option, None, Some, refl, sym, ap, subst, ◌∙◌, arith, leb}
 use Rattle.std.specs.Prelude.{slice_get, count_by, All, unwrap_or, option_map, MatchOption}
 use Rattle.std.specs.List.{enumerate_from, range_with_len, list_all}
+use Rattle.std.specs.Ordering.{nat_cmp}
+use Rattle.std.specs.BTreeMap.{is_at}
+use Rattle.std.specs.Map.{lookup}
 use Rattle.std.proofs.lemmas.Bool.{leb-true, le-leb, lt-leb, and_parts, and_from}
 use Rattle.std.proofs.lemmas.List.Elements.{All-head, All-tail}
+use Rattle.std.proofs.lemmas.Option.{same_Some}
 use Rattle.stripe_plan.specs.declared.layer.LayerSize.{LayerSize}
 use Rattle.stripe_plan.specs.Layers.{count_of, plan_stripes}
 use Rattle.stripe_plan.specs.Counts.{longest_meeting}
@@ -13,14 +17,11 @@ use Rattle.pet_encode.specs.Session.{Session, SessionGroup, IsSession, IsSession
 use Rattle.pet_receive.specs.Arrivals.{layers_of}
 use Rattle.pet_receive.specs.KeptSet.{KeptSet, open_group, count_in, kept_in_all}
 use Rattle.pet_receive.specs.ShownBytes.{IsShownIn, shown_in, shown_in_all, IsComplete, groups_told}
+use Rattle.pet_receive.specs.EntryLaws.{weight, values_sum}
 use Rattle.pet_tool.specs.Met.{Pair, distinct_met, shows, count_met, count_shown, all_shown}
 use Rattle.pet_tool.proofs.Sums.{sum_same, count_nothing}
-use Rattle.pet_tool.proofs.Entries.{weight, sum_values}
 use Rattle.pet_tool.proofs.Following.{Follows}
 use Rattle.pet_tool.proofs.Told.{count_kept_is}
-
-some_same : {A : Type 0} (x y : A) → Some x ≡ Some y → x ≡ y
-some_same x y e = cc
 
 some_count : (first last : ℕ) (stripes : List (ℕ × ℕ)) → 0 < longest_meeting first last stripes
 some_count first last [] = omega arith
@@ -34,7 +35,7 @@ none_shown layers n none =
 
 group_at : (gs : List SessionGroup) (i : ℕ) (g : SessionGroup) → slice_get gs i ≡ Some g → All (IsSessionGroup 2) gs → IsSessionGroup 2 g
 group_at [] i g e all = absurd cc
-group_at (x ∷ gs) zero g e all = subst (IsSessionGroup 2) (some_same x g e) (All-head (IsSessionGroup 2) x gs all)
+group_at (x ∷ gs) zero g e all = subst (IsSessionGroup 2) (same_Some x g e) (All-head (IsSessionGroup 2) x gs all)
 group_at (x ∷ gs) (suc i) g e all = group_at gs i g e (All-tail (IsSessionGroup 2) x gs all)
 
 get_below : (gs : List SessionGroup) (i : ℕ) → i < length gs → (g : SessionGroup) × (slice_get gs i ≡ Some g)
@@ -64,7 +65,7 @@ all_groups : (p : ℕ × SessionGroup → Bool) (gs : List SessionGroup) (k i n 
 all_groups p [] k i n g all at e = absurd cc
 all_groups p (x ∷ gs) k zero n g all at e =
     let n_is : n ≡ k = omega arith in
-    let x_is : g ≡ x = sym (some_same x g e) in
+    let x_is : g ≡ x = sym (same_Some x g e) in
     ap (λ (m : ℕ). p (m, g)) n_is ∙ ap (λ (y : SessionGroup). p (k, y)) x_is ∙ (and_parts (p (k, x)) (list_all p (enumerate_from (k + 1) gs)) all).0
 all_groups p (x ∷ gs) k (suc i) n g all at e = all_groups p gs (k + 1) i n g (and_parts (p (k, x)) (list_all p (enumerate_from (k + 1) gs)) all).1 (omega arith) e
 
@@ -76,13 +77,13 @@ groups_all p (x ∷ gs) k each =
 module _ (made : SessionGroup → ℕ → List ℕ) (s : Session) (limit : ℕ) (pairs : List Pair) (kept : KeptSet) (is_session : IsSession 2 s) (follows : Follows made s limit pairs kept) where
   pub kept_is : kept_in_all kept ≡ count_met s pairs
   kept_is =
-      sum_values count_in kept.groups ∙ follows.spread count_in
+      sym (values_sum count_in kept.groups) ∙ follows.spread count_in
       ∙ sum_same (λ (e : ℕ × SessionGroup). weight count_in (open_group kept e.0)) (λ (e : ℕ × SessionGroup). distinct_met pairs e.0 e.1.packets) s.groups 0
       (λ i n x at is. let n_is : n ≡ i = omega arith in count_kept_is made s limit pairs kept n x follows (ap (slice_get s.groups) n_is ∙ is))
 
   pub shown_is : shown_in_all kept ≡ count_shown s pairs
   shown_is =
-      sum_values shown_in kept.groups ∙ follows.spread shown_in
+      sym (values_sum shown_in kept.groups) ∙ follows.spread shown_in
       ∙ sum_same (λ (e : ℕ × SessionGroup). weight shown_in (open_group kept e.0)) (λ (e : ℕ × SessionGroup). count_by (λ layer. shows pairs e.0 e.1 layer) (range_with_len 0 (length e.1.layers))) s.groups 0
       (λ i n x at is. let n_is : n ≡ i = omega arith in by n x (ap (slice_get s.groups) n_is ∙ is) (open_group kept n) refl)
     where
@@ -91,7 +92,7 @@ module _ (made : SessionGroup → ℕ → List ℕ) (s : Session) (limit : ℕ) 
       by n x at None e = sym (none_shown x.layers (distinct_met pairs n x.packets) (sym (count_kept_is made s limit pairs kept n x follows at) ∙ ap (weight count_in) e))
       by n x at (Some p) e =
           let has = follows.opened n p e in
-          let same : has.0 ≡ x = some_same has.0 x (sym has.1 ∙ at) in
+          let same : has.0 ≡ x = same_Some has.0 x (sym has.1 ∙ at) in
           let layers : layers_of p ≡ x.layers = ap (λ (h : Header). h.table.layers) has.2.header ∙ ap (λ (y : SessionGroup). y.layers) same in
           let count : count_in p ≡ distinct_met pairs n x.packets = sym (ap (weight count_in) e) ∙ count_kept_is made s limit pairs kept n x follows at in
           ap (λ (l : List LayerSize). count_by (λ layer. leb (count_of l layer) (count_in p)) (range_with_len 0 (length l))) layers
@@ -109,7 +110,7 @@ module _ (made : SessionGroup → ℕ → List ℕ) (s : Session) (limit : ℕ) 
   shown_group : (n : ℕ) (x : SessionGroup) → slice_get s.groups n ≡ Some x → (p : Packets) → open_group kept n ≡ Some p → (layers_of p ≡ x.layers) × (count_in p ≡ distinct_met pairs n x.packets)
   shown_group n x at p e =
       let has = follows.opened n p e in
-      let same : has.0 ≡ x = some_same has.0 x (sym has.1 ∙ at) in (
+      let same : has.0 ≡ x = same_Some has.0 x (sym has.1 ∙ at) in (
         ap (λ (h : Header). h.table.layers) has.2.header ∙ ap (λ (y : SessionGroup). y.layers) same,
         sym (ap (weight count_in) e) ∙ count_kept_is made s limit pairs kept n x follows at,
       )
@@ -140,7 +141,7 @@ module _ (made : SessionGroup → ℕ → List ℕ) (s : Session) (limit : ℕ) 
       let some = open_at 0 (is_session.some) in
       record { some = some_entry kept.groups 0 some.0 some.1; shown = λ group lt. by group (omega (arith, told_is (some_entry kept.groups 0 some.0 some.1))) }
     where
-      some_entry : (es : List (ℕ × Packets)) (n : ℕ) (p : Packets) → Rattle.pet_tool.proofs.Entries.entry_at n es ≡ Some p → 0 < length es
+      some_entry : (es : List (ℕ × Packets)) (n : ℕ) (p : Packets) → lookup (is_at (nat_cmp n)) es ≡ Some p → 0 < length es
       some_entry [] n p e = absurd cc
       some_entry (x ∷ es) n p e = omega arith
 

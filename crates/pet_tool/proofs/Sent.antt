@@ -5,8 +5,7 @@ use Rattle.std.specs.Prelude.{◌⊎◌, option_map, Result, Ok, Err, OnErr}
 use Rattle.std.specs.List.{sum_by}
 use Rattle.std.specs.Str.{bytes_eq}
 use Rattle.std.specs.Io.KnownBytes.{append_known}
-use Rattle.pet_base.specs.declared.place.Side.TheVariants.{Written}
-use Rattle.pet_base.specs.Seen.{Seen, Files, HadFault, with_file}
+use Rattle.pet_base.specs.Seen.{Seen, Files, with_file}
 use Rattle.pet_base.specs.SeenLaws.{HadFault-since}
 use Rattle.stripe_plan.specs.Sizes.{Sizes}
 use Rattle.priority_file.specs.Priority.{Priorities}
@@ -18,7 +17,7 @@ use Rattle.stream_session.specs.declared.source.SourceFault.TheVariants as sourc
 use Rattle.stream_session.specs.Inputs.{IsFile, IsRead}
 use Rattle.stream_session.specs.Marks.{marks_of}
 use Rattle.stream_session.specs.Number.{session_number}
-use Rattle.stream_session.specs.Sources.{IsSource, IsSourceFault}
+use Rattle.stream_session.specs.Sources.{IsSource}
 use Rattle.pet_text.specs.declared.status.Status.{Status}
 use Rattle.pet_text.specs.declared.status.Status.TheVariants.{Done, Usage, NoMemory, PlaceFault, OutFault, BadStream, BadPriority, BadPlan, Incomplete, TurnsSpent, NotLeast, Changed}
 use Rattle.pet_text.specs.declared.words.Command.{Command}

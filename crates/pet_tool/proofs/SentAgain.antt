@@ -1,13 +1,11 @@
 -- The files are opened again, and the stream's groups are sent, seen from before.
-use Rattle.std.proofs.Common.{◌≡◌, ◌≢◌, ℕ, ◌≤◌, Bool, true, false, cond, List, [], ◌++◌, Option, None, Some, refl, sym, ap, subst, ◌∙◌, arith, inl, inr}
-use Rattle.std.specs.Prelude.{IfSome, option_map, ◌⊎◌}
+use Rattle.std.proofs.Common.{◌≡◌, ℕ, ◌≤◌, Bool, true, false, cond, List, [], Option, None, Some, refl, sym, ap, subst, ◌∙◌, inl, inr}
+use Rattle.std.specs.Prelude.{option_map, ◌⊎◌}
 use Rattle.std.specs.Str.{bytes_eq}
 use Rattle.pet_base.specs.declared.place.Side.TheVariants.{Read, Written}
 use Rattle.pet_base.specs.Causes.{Blames}
-use Rattle.pet_base.specs.Seen.{Seen, Files, Blame, Grows, appended, Names, KeepsInput, KeepsOutput, HadFault, bytes_at, with_file}
+use Rattle.pet_base.specs.Seen.{Seen, Files, Blame, Grows, appended, Names, KeepsOutput, HadFault, bytes_at, with_file}
 use Rattle.pet_base.specs.SeenLaws.{Grows-named, Blames-named, HadFault-since}
-use Rattle.stream_session.specs.declared.mark.GroupMark.{GroupMark}
-use Rattle.stream_session.specs.declared.source.Source.{Source}
 use Rattle.stream_session.specs.Inputs.{IsFile}
 use Rattle.pet_tool.specs.Reading.{IsPrefix, Puts, PutsPart}
 use Rattle.pet_tool.specs.SendParts.{IsReopened, IsLeftEmpty, IsOfReopened}

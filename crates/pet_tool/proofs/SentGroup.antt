@@ -8,6 +8,7 @@ use Rattle.std.proofs.lemmas.Bool.Decides.{nat_tests}
 use Rattle.std.proofs.lemmas.List.{length-append, length-replicate, drop_all}
 use Rattle.std.specs.Prelude.{IsTrue}
 use Rattle.std.specs.Bool.{Decides}
+use Rattle.std.proofs.lemmas.Option.{same_Some}
 use Rattle.stripe_plan.specs.declared.layer.LayerSize.{LayerSize}
 use Rattle.stripe_plan.specs.Sizes.{Sizes}
 use Rattle.stripe_plan.specs.Layers.{needs_of}
@@ -66,16 +67,13 @@ message_words priority g whole =
     ap (λ n. length (message g.bytes g.cut.runs n)) whole.count ∙ words_from g.bytes g.cut.runs whole.inside priority.layers 0
     ∙ ap (λ l. length (needs_of (sizes_with l priority.layers)) * 2) (ap (lengths_of g.cut.runs) (sym whole.count) ∙ sym whole.lengths)
 
-pub some_same : {A : Type 0} (x y : A) → Some x ≡ Some y → x ≡ y
-some_same x y e = cc
-
 no_some : {A : Type 0} (x : A) → None ≡ Some x → ⊥
 no_some x e = cc
 
 -- what stands at a place
 pub there_at : {A : Type 0} (xs : List A) (k : ℕ) (d x : A) → slice_get xs k ≡ Some x → get_or xs k d ≡ x
 there_at [] k d x e = absurd (no_some x e)
-there_at (y ∷ ys) zero d x e = some_same y x e
+there_at (y ∷ ys) zero d x e = same_Some y x e
 there_at (y ∷ ys) (suc k) d x e = there_at ys k d x e
 
 -- an encoder of this header and this message

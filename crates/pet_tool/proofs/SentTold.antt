@@ -4,6 +4,7 @@ use Rattle.std.specs.Prelude.{slice_get, All, IfSome, IfErr, MatchOption, MatchR
 use Rattle.std.specs.List.{flat_map}
 use Rattle.std.specs.Io.KnownBytes.{prepend_known, IsAtEnd}
 use Rattle.std.proofs.lemmas.List.{append-nil, length-append, length-map, map-append}
+use Rattle.std.proofs.lemmas.Option.{none-some, same_Some}
 use lib.Seq.{get_or-append_seam}
 use Rattle.pet_base.specs.declared.limits.TheConstants.{MAX_STREAM}
 use Rattle.pet_base.specs.Seen.{Seen}
@@ -42,16 +43,10 @@ use Rattle.pet_tool.proofs.Datagrams.{groups_make_datagrams, part_within}
 use Rattle.pet_tool.proofs.SentReading.{short_stream}
 use Rattle.pet_tool.proofs.SentSoFar.{text_append, mark_past}
 
-some_same : {A : Type 0} (x y : A) → Some x ≡ Some y → x ≡ y
-some_same x y e = cc
-
-none_some : {A : Type 0} (x : A) → None ≡ Some x → ⊥
-none_some x e = cc
-
 -- what stands at a place of the encodings
 encoding_there : (source : Source) (first : ℕ) (groups : List CutGroup) (k : ℕ) (e : Encoding) → slice_get (encodings_from source first groups) k ≡ Some e → (g : CutGroup) × (slice_get groups k ≡ Some g) × (e ≡ encoding_of source (first + k) g)
-encoding_there source first [] k e is = absurd (none_some e is)
-encoding_there source first (g ∷ groups) zero e is = (g, refl, sym (some_same (encoding_of source first g) e is) ∙ ap (λ n. encoding_of source n g) (let z : first ≡ first + 0 = omega arith in z))
+encoding_there source first [] k e is = absurd (none-some e is)
+encoding_there source first (g ∷ groups) zero e is = (g, refl, sym (same_Some (encoding_of source first g) e is) ∙ ap (λ n. encoding_of source n g) (let z : first ≡ first + 0 = omega arith in z))
 encoding_there source first (g ∷ groups) (suc k) e is =
     let later = encoding_there source (first + 1) groups k e is in
     (later.0, later.1, later.2 ∙ ap (λ n. encoding_of source n later.0) (let z : first + 1 + k ≡ first + suc k = omega arith in z))
@@ -63,10 +58,10 @@ encodings_length source first (g ∷ groups) = ap suc (encodings_length source (
 -- what stands at a place of the groups, and what is made of it in the session
 group_there : (priority : Priorities) (s : List ℕ) (groups : List (List Piece)) → All (StandsIn (length s)) groups → (k : ℕ) (g : CutGroup) → slice_get (map (cut_group priority s) groups) k ≡ Some g
     → slice_get (map (group_of priority s) (cuts_of priority groups)) k ≡ Some (record { packets = priority.packets; layers = sizes_of priority g.cut; message = message g.bytes g.cut.runs (length priority.layers) })
-group_there priority s [] stand k g is = absurd (none_some g is)
+group_there priority s [] stand k g is = absurd (none-some g is)
 group_there priority s (ps ∷ groups) stand zero g is =
     let here = stand 0 ps (omega arith) in
-    let same : cut_group priority s ps ≡ g = some_same (cut_group priority s ps) g is in
+    let same : cut_group priority s ps ≡ g = same_Some (cut_group priority s ps) g is in
     subst (λ (x : CutGroup). Some (group_of priority s (cut_of (layer_of priority) (length priority.layers) ps)) ≡ Some (of_cut x)) same
     (ap (λ (m : List ℕ). Some (with_message m)) (sym (message_rebased priority s (length priority.layers) here.from here.to ps here.stand here.within)))
   where
@@ -137,9 +132,9 @@ text_front p b source marks f groups front =
     (flat_map group_entries (encodings_from source (length groups) front.0), sym (text_all p b source marks f) ∙ ap (sent_text source) front.1 ∙ text_append source groups front.0)
 
 taken_some : (stream b : List ℕ) (now : Option (List ℕ)) → Some b ≡ prepend_known stream now → length b ≤ MAX_STREAM → (length stream ≤ MAX_STREAM → IsAtEnd now) → stream ≡ b
-taken_some stream b None e short whole = absurd (none_some b (sym e))
+taken_some stream b None e short whole = absurd (none-some b (sym e))
 taken_some stream b (Some more) e short whole =
-    let is : b ≡ stream ++ more = some_same b (stream ++ more) e in
+    let is : b ≡ stream ++ more = same_Some b (stream ++ more) e in
     let none : more ≡ [] = whole (omega (arith, short, ap length is, length-append stream more)) in
     sym (append-nil stream) ∙ ap (λ (m : List ℕ). stream ++ m) (sym none) ∙ sym is
 

@@ -3,12 +3,7 @@ use Rattle.std.proofs.Common.{◌≡◌, ◌≢◌, ℕ, zero, suc, ◌+◌, ◌
 use Rattle.std.specs.Prelude.{sum_by, count_by, slice_get, is_some, filter}
 use Rattle.std.specs.List.{enumerate_from, range_with_len}
 use Rattle.std.proofs.lemmas.List.Sums.{sum_by-cons}
-
-none_some : {A : Type 0} (x : A) → None ≡ Some x → ⊥
-none_some x e = cc
-
-some_same : {A : Type 0} (x y : A) → Some x ≡ Some y → x ≡ y
-some_same x y e = cc
+use Rattle.std.proofs.lemmas.Option.{none-some, same_Some}
 
 module _ {A : Type 0} where
   -- equal at each number
@@ -32,9 +27,9 @@ module _ {A : Type 0} where
   -- equal at each number but one
   pub sum_changed : (F G : ℕ × A → ℕ) (xs : List A) (k i n : ℕ) (x : A) → k + i ≡ n → slice_get xs i ≡ Some x → ((j : ℕ) (y : A) → j ≢ n → F (j, y) ≡ G (j, y))
       → sum_by F (enumerate_from k xs) + G (n, x) ≡ sum_by G (enumerate_from k xs) + F (n, x)
-  sum_changed F G [] k i n x at is same = absurd (none_some x is)
+  sum_changed F G [] k i n x at is same = absurd (none-some x is)
   sum_changed F G (y ∷ xs) k zero n x at is same =
-      let e : y ≡ x = some_same y x is in
+      let e : y ≡ x = same_Some y x is in
       let k_is : k ≡ n = omega arith in
       let f : F (k, y) ≡ F (n, x) = cc in
       let g : G (k, y) ≡ G (n, x) = cc in

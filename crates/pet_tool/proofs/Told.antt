@@ -1,9 +1,9 @@
 -- What the arrival of a packet of a session writes.
-use Rattle.std.proofs.Common.{◌≡◌, ℕ, ◌+◌, ◌<◌, Bool, true, false, cond, List, [], ◌∷◌, ◌++◌, length, get_or, set, Option, None, Some, refl, sym, ap, subst, ◌∙◌, arith, inl, inr, ltb, leb}
-use Rattle.std.specs.Prelude.{count_by, slice_get, not, ◌&&◌, is_some, filter}
+use Rattle.std.proofs.Common.{◌≡◌, ℕ, ◌+◌, Bool, true, false, cond, List, [], ◌∷◌, ◌++◌, length, Option, None, Some, refl, sym, ap, subst, ◌∙◌, arith, inl, inr, ltb, leb}
+use Rattle.std.specs.Prelude.{slice_get, not, ◌&&◌, filter}
 use Rattle.std.specs.List.{range_with_len}
 use Rattle.std.proofs.lemmas.Bool.{cases_lt, lt-ltb, le-ltb, le-leb, lt-leb}
-use Rattle.std.proofs.lemmas.List.Sums.{sum_by-set}
+use Rattle.std.proofs.lemmas.Option.{same_Some}
 use Rattle.stripe_plan.specs.Layers.{count_of}
 use Rattle.stripe_plan.specs.declared.layer.LayerSize.{LayerSize}
 use Rattle.packet_frame.specs.Frame.{Fields}
@@ -13,16 +13,14 @@ use Rattle.pet_encode.specs.Session.{Session, SessionGroup, IsMessage, bytes_of_
 use Rattle.pet_receive.specs.Arrivals.{layers_of}
 use Rattle.pet_receive.specs.KeptSet.{KeptSet, open_group, group_with, count_in, count_kept}
 use Rattle.pet_receive.specs.Verdicts.{newly_shown, shown_between}
+use Rattle.pet_receive.specs.EntryLaws.{weight}
+use Rattle.pet_receive.specs.KeptSetLaws.{count_set}
 use Rattle.pet_tool.specs.Gf16.{AgreesWith}
 use Rattle.pet_tool.specs.LayersText.{record_text, AreRecords}
 use Rattle.pet_tool.specs.Met.{Pair, has_pair, distinct_met, shows, newly_shown_by, group_text}
 use Rattle.pet_tool.proofs.Sums.{count_nothing, count_same, filter_same}
-use Rattle.pet_tool.proofs.Entries.{weight}
 use Rattle.pet_tool.proofs.Following.{HasMet, Follows, count_met_in, group_before, has_met_before}
 use Rattle.pet_tool.proofs.Keeping.{IsMade, with_pair, has_met_with}
-
-some_same : {A : Type 0} (x y : A) → Some x ≡ Some y → x ≡ y
-some_same x y e = cc
 
 -- newly shown, by the counts before and after
 between_is : (before now c : ℕ) → (ltb before c && leb c now) ≡ (leb c now && not (leb c before))
@@ -47,11 +45,6 @@ nothing_new false = refl
 filter_nothing : {A : Type 0} (p : A → Bool) (xs : List A) → ((x : A) → p x ≡ false) → filter p xs ≡ []
 filter_nothing p [] none = refl
 filter_nothing p (x ∷ xs) none = ap (λ (b : Bool). cond b (x ∷ filter p xs) (filter p xs)) (none x) ∙ filter_nothing p xs none
-
-count_set : {A : Type 0} (xs : List (Option A)) (i : ℕ) (v : A) → i < length xs → get_or xs i None ≡ None → count_by is_some (set xs i (Some v)) ≡ count_by is_some xs + 1
-count_set {A} xs i v l e =
-    let one = λ (x : Option A). cond {A = ℕ} (is_some x) 1 0 in
-    omega (arith, sum_by-set one xs i (Some v) None l, ap one e)
 
 -- where the same was met, nothing is newly shown
 pub shows_nothing : (before now : List Pair) (group : ℕ) (g : SessionGroup) → ((n : ℕ) → has_pair now group n ≡ has_pair before group n) → newly_shown_by before now group g ≡ []
@@ -82,7 +75,7 @@ module _ (made : SessionGroup → ℕ → List ℕ) (s : Session) (limit : ℕ) 
       by None e = sym (count_nothing (has_pair pairs group) (range_with_len 0 x.packets) (follows.closed group e))
       by (Some p) e =
           let has = follows.opened group p e in
-          let same : has.0 ≡ x = some_same has.0 x (sym has.1 ∙ at) in
+          let same : has.0 ≡ x = same_Some has.0 x (sym has.1 ∙ at) in
           count_met_in made s pairs group has.0 p has.2 ∙ ap (λ (y : SessionGroup). distinct_met pairs group y.packets) same
 
   module _ (f : Fields) (g : SessionGroup) (follows : Follows made s limit pairs kept) (is : IsMade made s f g) where
@@ -96,7 +89,7 @@ module _ (made : SessionGroup → ℕ → List ℕ) (s : Session) (limit : ℕ) 
         let has = has_met_before made s limit pairs kept f g follows is.at is.header in
         let layers : f.layers ≡ g.layers = ap (λ (h : Header). h.table.layers) is.header in
         let empty : slot_at base f.number ≡ None = has.each f.number ∙ ap (λ (b : Bool). cond b (Some (made g f.number)) None) new in
-        let more = count_set base.slots f.number f.payload (omega (arith, has.slots, is.number)) empty in
+        let more = count_set (List ℕ) base.slots f.number f.payload (omega (arith, has.slots, is.number)) empty in
         let was : count_kept kept f.group ≡ distinct_met pairs f.group g.packets = count_kept_is f.group g follows is.at in
         let was_in = count_met_in made s pairs f.group g base has in
         let now_in = count_met_in made s (with_pair made pairs f) f.group g (group_with kept f) has_after in

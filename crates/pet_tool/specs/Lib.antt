@@ -1,7 +1,6 @@
 pub mod Gf16
 pub mod LayersText
 pub mod Reading
-pub mod Group
 pub mod Records
 pub mod Steps
 pub mod Met

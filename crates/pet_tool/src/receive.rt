@@ -7,7 +7,7 @@ ghost use Rattle.pet_base.specs.declared.place.Side.TheVariants.{Read, Written};
 ghost use Rattle.pet_base.specs.Causes.{Blames, HasCause, Rose};
 ghost use Rattle.pet_base.specs.Seen.{Seen, OnlyWrites, KeepsNames, HasBlame, HadFault};
 ghost use Rattle.stripe_plan.specs.Sizes.{bytes_of};
-ghost use Rattle.packet_frame.specs.Refusals.{fields_of, first_fault};
+ghost use Rattle.packet_frame.specs.Refusals.{fields_of};
 ghost use Rattle.packet_set.specs.Packets.{Packets};
 ghost use Rattle.pet_receive.specs.Arrivals.{Order, ReceiverState, kept_set, numbers_of, layers_of};
 ghost use Rattle.pet_receive.specs.KeptSet.{IsKeptSet, open_group, kept_in_all};
@@ -19,18 +19,16 @@ ghost use Rattle.pet_tool.specs.Gf16.{HasKeptIn};
 ghost use Rattle.pet_tool.specs.LayersText.{AreRecords, order_after};
 ghost use Rattle.pet_tool.specs.Outcome.{Licensed, IsOf, Opened};
 ghost use Rattle.pet_tool.specs.Reading.{IsTextAt, Puts, PutsPart, SoFar, HasReceived, PartSoFar, PartOfOne};
-ghost use Rattle.pet_tool.specs.Group.{group_in};
 ghost use Rattle.pet_tool.specs.Records.{layers_in, AreShownText};
 ghost use Rattle.pet_tool.specs.Steps.{steps_of};
 
 use crate::outcome::Stop;
 use crate::records::{put_records, shown_layers};
-use packet_frame::read_frame;
 use pet_base::{
     Entry, Failed, MAX_DATAGRAMS, MAX_SESSION, NoMemory, Place, Sink, Steps, next_entry,
 };
 use pet_field::Gf16Plain;
-use pet_receive::{LayerSet, Receiver, Verdict};
+use pet_receive::{LayerSet, Receiver, Verdict, group_of};
 use pet_text::{Status, receive_line};
 use std::alloc::{AllocError, Global};
 use std::sync::ledger::Ledger;
@@ -188,17 +186,6 @@ fn receive_one<P: Place, L: Ledger>(
         return put_shown(place, receiver, arrival, group, shown).map_err(|_| Stop::Place);
     }
     Ok(())
-}
-
-/// The group of a frame.
-fn group_of(datagram: &[u8]) -> u32
-    requires { first_fault datagram.now ≡ None }
-    ensures { result ≡ group_in datagram.now }
-{
-    match read_frame(datagram) {
-        Ok(frame) => frame.header.group,
-        Err(_) => 0,
-    }
 }
 
 /// Puts the layers of a set that the receiver shows of a group.

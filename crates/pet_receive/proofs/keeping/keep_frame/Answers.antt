@@ -9,7 +9,8 @@ use Rattle.pet_receive.specs.Arrivals.{GroupState, stripe_lengths}
 use Rattle.pet_receive.specs.EntryLaws.{lookup_here}
 use Rattle.pet_receive.specs.KeptSetLaws.{count_none}
 use Rattle.pet_receive.proofs.Grown.{grown_open, grown_new, ready_new}
-use Rattle.pet_receive.proofs.Received.{is_some_of, is_none_of}
+use Rattle.pet_receive.specs.KeptSetLaws.{none_from}
+use Rattle.pet_receive.proofs.Received.{is_some_of}
 use Rattle.pet_receive.proofs.keeping.keep_frame.Goals as goal
 
 pub returns-then-contains_key-clause-grown : goal.returns-then-contains_key-clause-grown
@@ -39,7 +40,7 @@ returns-clause-grown g c =
     let es = c.args.groups.now.entries in
     let f = view c.args.frame.now in
     let made = c.in_ok-open_group.ensures.opened in
-    let none = is_none_of (lookup (is_at (nat_cmp f.group)) es) (sym c.contains_key.ensures ∙ c.if-contains_key.false) in
+    let none = none_from (lookup (is_at (nat_cmp f.group)) es) (sym c.contains_key.ensures ∙ c.if-contains_key.false) in
     let found = ap (lookup (is_at (nat_cmp f.group))) made.1 ∙ lookup_here es f.group made.0 in
     let kept = c.keep_in-2.ensures.kept made.0 found in
     grown_new F.is_element F.ops F.spelt F.WIDTH F.point_of es f made.0 c.open_group.new.groups.entries c.keep_in-2.new.groups.entries none made.1 made.2 made.3
@@ -50,7 +51,7 @@ returns-clause-cost g c =
     let es = c.args.groups.now.entries in
     let f = view c.args.frame.now in
     let made = c.in_ok-open_group.ensures.opened in
-    let none = is_none_of (lookup (is_at (nat_cmp f.group)) es) (sym c.contains_key.ensures ∙ c.if-contains_key.false) in
+    let none = none_from (lookup (is_at (nat_cmp f.group)) es) (sym c.contains_key.ensures ∙ c.if-contains_key.false) in
     let found = ap (lookup (is_at (nat_cmp f.group))) made.1 ∙ lookup_here es f.group made.0 in
     let count : Option (GroupState g.row.F-Elem.Denot) → ℕ = λ o. unwrap_or (option_map (λ (s : GroupState g.row.F-Elem.Denot). count_in s.packets) o) 0 in
     let zero_is : count_in made.0.packets ≡ count (lookup (is_at (nat_cmp f.group)) es) = ap count_in made.2 ∙ count_none (List ℕ) f.packets ∙ sym (ap count none) in

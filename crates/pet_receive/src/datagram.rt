@@ -1,0 +1,14 @@
+//! What a datagram names.
+ghost use Rattle.std.specs.Prelude.{◌≡◌, None};
+ghost use Rattle.packet_frame.specs.Refusals.{first_fault};
+ghost use Rattle.pet_receive.specs.Group.{group_in};
+
+/// The group of a datagram that is known to be a frame, as one is that was kept: read at its place, with nothing checked
+/// again.
+#[tactic(auto, unfolding(crate::specs::Group::group_in), using(crate::proofs::Named::has_group))]
+pub fn group_of(datagram: &[u8]) -> u32
+    requires { first_fault datagram.now ≡ None }
+    ensures { result ≡ group_in datagram.now }
+{
+    u32::from_be_bytes([datagram[16], datagram[17], datagram[18], datagram[19]])
+}
