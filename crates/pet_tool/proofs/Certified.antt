@@ -14,7 +14,7 @@ use Rattle.pet_text.specs.declared.status.Status.TheVariants.{NoMemory}
 use Rattle.pet_text.specs.declared.words.Command.{Command}
 use Rattle.pet_text.specs.declared.words.Command.TheVariants.{Plan, Check, Send, Receive}
 use Rattle.pet_text.specs.Lines.{fault_text}
-use Rattle.pet_tool.specs.Finished.{Prints}
+use Rattle.pet_tool.specs.Reports.{Prints}
 use Rattle.pet_text.specs.declared.plan_file.Repeat.{Repeat}
 use Rattle.pet_tool.specs.declared.check.CheckFault.{CheckFault}
 use Rattle.pet_tool.specs.declared.check.CheckFault.TheVariants as check

@@ -15,7 +15,7 @@ use Rattle.pet_text.specs.Lines.{receive_text, fault_text}
 use Rattle.pet_text.specs.declared.words.Command.{Command}
 use Rattle.pet_text.specs.declared.words.Command.TheVariants.{Plan, Check, Send, Receive}
 use Rattle.pet_text.specs.declared.words.End.TheVariants.{File}
-use Rattle.pet_tool.specs.Finished.{Finishes, Receives, ForReceive, AreRead, Ends, kept_of}
+use Rattle.pet_tool.specs.Finished.{Finishes, ReceiveTells, Receives, ForReceive, AreRead, Ends, kept_of}
 use Rattle.pet_tool.specs.Met.{met_in, all_shown, count_met, layers_text}
 use Rattle.pet_tool.specs.Receive.{AreGiven, ReceivesSession}
 use Rattle.pet_tool.proofs.Arrival.{made, IsPlain}
@@ -39,9 +39,9 @@ module _ (s : Session) (from layers : List ℕ) (files : Files) (bytes : List �
   ended_is (NotLeast group) read all few there back ends = absurd ends
   ended_is (Changed group first second) read all few there back ends = absurd ends
 
-  from_finish : (status : Status) → Finishes s.number from layers old new before after fb fa so sn status → AreGiven s from layers files bytes old new fb fa status
+  from_finish : (status : Status) (text : List ℕ) → Finishes s.number from layers old new so sn status text → after ≡ append_known before (text ++ fault_text status) → AreGiven s from layers files bytes old new fb fa status
       → ReceivesSession s layers files (datagrams bytes) new before after status
-  from_finish status fin given =
+  from_finish status text fin printed given =
       let r = fin.reads in
       let found : bytes_at old.files from ≡ Some bytes = ap (λ (o : Option Files). bytes_at o from) given.told ∙ given.found in
       let input : AreRead r.read bytes = subst (λ (o : Option (List ℕ)). IfSome o (AreRead r.read)) found r.input in
@@ -58,25 +58,31 @@ module _ (s : Session) (from layers : List ℕ) (files : Files) (bytes : List �
         file = r.file ∙ ap (λ (o : Option Files). option_map (with_file layers r.text) o) given.told ∙ ap (λ (t : List ℕ). Some (with_file layers t files)) text;
         ended = ended_is status r.read (all_shown s pairs) few complete.0 complete.1 fin.ends;
         printed =
-            fin.prints.1 given.out_well
+            printed
+            ∙ ap (λ (t : List ℕ). append_known before (t ++ fault_text status)) fin.text_is
             ∙ ap (λ (n : ℕ). append_known before (receive_text (length r.read) n (shown_in_all kept) ++ fault_text status)) (kept_is made s MAX_SESSION pairs kept given.session follows)
             ∙ ap (λ (n : ℕ). append_known before (receive_text (length r.read) (count_met s pairs) n ++ fault_text status)) (shown_is made s MAX_SESSION pairs kept given.session follows);
       })
 
+  -- all was read, where no cause of another status holds
+  finishes : (status : Status) (text : List ℕ) → ReceiveTells s.number from layers old new so sn status text → (status ≡ OutFault → ⊥) → AreGiven s from layers files bytes old new fb fa status
+      → Finishes s.number from layers old new so sn status text
+  finishes Done text tells well given = tells
+  finishes Incomplete text tells well given = tells
+  finishes TurnsSpent text tells well given = tells
+  finishes NoMemory text tells well given = absurd (given.memory refl)
+  finishes PlaceFault text tells well given = absurd (given.place_well tells.0)
+  finishes OutFault text tells well given = absurd (well refl)
+  finishes Usage text tells well given = absurd tells
+  finishes (BadStream scan) text tells well given = absurd tells
+  finishes (BadPriority fault) text tells well given = absurd tells
+  finishes (BadPlan kind number) text tells well given = absurd tells
+  finishes (NotLeast group) text tells well given = absurd tells
+  finishes (Changed group first second) text tells well given = absurd tells
+
   pub headline : (status : Status) → Receives s.number from layers old new before after fb fa so sn status → AreGiven s from layers files bytes old new fb fa status
       → ReceivesSession s layers files (datagrams bytes) new before after status
-  headline Done tells given = from_finish Done tells given
-  headline Incomplete tells given = from_finish Incomplete tells given
-  headline TurnsSpent tells given = from_finish TurnsSpent tells given
-  headline NoMemory tells given = absurd (given.memory refl)
-  headline PlaceFault tells given = absurd (given.place_well tells.0)
-  headline OutFault tells given = absurd (given.out_well tells.0)
-  headline Usage tells given = absurd tells
-  headline (BadStream scan) tells given = absurd tells
-  headline (BadPriority fault) tells given = absurd tells
-  headline (BadPlan kind number) tells given = absurd tells
-  headline (NotLeast group) tells given = absurd tells
-  headline (Changed group first second) tells given = absurd tells
+  headline status r given = from_finish status r.text (finishes status r.text r.tells (λ is. given.out_well (r.rose is)) given) (r.prints.1 given.out_well) given
 
 -- the headline, of the words that were read
 pub headline_for : (o : Option Command) (old new : Seen) (before after : Option (List ℕ)) (fb fa so sn : ℕ) (status : Status)

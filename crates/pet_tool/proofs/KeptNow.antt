@@ -129,13 +129,3 @@ nothing_at r arrival d out order held =
     let S = kept_set r in
     let f = fields_of d in
     subst (λ (b : Bool). AreRecords arrival f.group (group_with S f) (numbers_of (cond b (order ++ (f.group, f.number) ∷ []) order) f.group) (cond b (newly_shown S f) []) []) (sym out) refl
-
-pub ok_through : {A E D : Type 0} (P : Type 0) (Q : E → D → Type 0) (r : Result A E) (mapped : Result A D) → MatchResult r (λ x. mapped ≡ Ok x) (λ e. IsErrAnd mapped (Q e)) → OnOk r P → OnOk mapped P
-ok_through P Q r (Err e) cases p = tt
-ok_through P Q (Ok x) (Ok y) cases p = p
-ok_through P Q (Err e) (Ok y) cases p = absurd cases
-
-pub err_through : {A E D : Type 0} (P : Type 0) (Q : E → D → Type 0) (r : Result A E) (mapped : Result A D) → MatchResult r (λ x. mapped ≡ Ok x) (λ e. IsErrAnd mapped (Q e)) → OnErr r P → OnErr mapped P
-err_through P Q r (Ok y) cases p = tt
-err_through P Q (Err e) (Err f) cases p = p
-err_through P Q (Ok x) (Err f) cases p = absurd cc

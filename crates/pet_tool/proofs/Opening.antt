@@ -1,9 +1,8 @@
 -- What was read of the one file and put into the other, seen from before they were opened.
-use Rattle.std.proofs.Common.{◌≡◌, ◌≢◌, ℕ, ◌<◌, ◌≤◌, Bool, true, false, List, [], ◌++◌, length, take, Option, None, Some, refl, sym, ap, subst, ◌∙◌, arith, inl, inr}
+use Rattle.std.proofs.Common.{◌≡◌, ◌≢◌, ℕ, ◌<◌, ◌≤◌, Bool, true, false, List, [], ◌++◌, length, Option, None, Some, refl, sym, ap, subst, ◌∙◌, arith, inl, inr}
 use Rattle.std.proofs.lemmas.Bool.{cases_lt}
 use Rattle.std.proofs.lemmas.List.{append-nil}
 use Rattle.std.specs.Prelude.{Result, Ok, Err, OnErr, IfOk, IfSome, IsTrue, ◌⊎◌, ◌↔◌}
-use Rattle.std.specs.Io.KnownBytes.{append_known}
 use Rattle.pet_base.specs.declared.limits.TheConstants.{MAX_DATAGRAMS}
 use Rattle.pet_base.specs.declared.place.Side.TheVariants.{Read, Written}
 use Rattle.pet_base.specs.Causes.{Blames}
@@ -18,9 +17,8 @@ use Rattle.pet_text.specs.declared.status.Status.{Status}
 use Rattle.pet_text.specs.declared.status.Status.TheVariants.{Done, Usage, NoMemory, PlaceFault, OutFault, BadStream, BadPriority, BadPlan, Incomplete, TurnsSpent, NotLeast, Changed}
 use Rattle.pet_text.specs.Lines.{receive_text}
 use Rattle.pet_tool.specs.declared.outcome.Stop.{Stop}
-use Rattle.pet_tool.specs.declared.outcome.Stop.TheVariants.{Out}
 use Rattle.pet_tool.specs.declared.receive.Totals.{Totals}
-use Rattle.pet_tool.specs.Finished.{nothing_of, kept_of, numbers_text, AreRead, Reads, Ends, Tells, LeavesFront, StopsAt}
+use Rattle.pet_tool.specs.Finished.{nothing_of, kept_of, numbers_text, AreRead, Reads, Ends, Tells, LeavesFront}
 use Rattle.pet_tool.specs.Outcome.{IsOf, Opened}
 use Rattle.pet_tool.specs.Reading.{HasReceived, PartSoFar}
 
@@ -133,11 +131,3 @@ ends_by session read totals (BadPriority fault) t few done incomplete turns one 
 ends_by session read totals (BadPlan kind number) t few done incomplete turns one = elim one [ inl e ↦ absurd (cc) | inr f ↦ elim f [ inl e ↦ absurd (cc) | inr e ↦ absurd (cc) ] ]
 ends_by session read totals (NotLeast group) t few done incomplete turns one = elim one [ inl e ↦ absurd (cc) | inr f ↦ elim f [ inl e ↦ absurd (cc) | inr e ↦ absurd (cc) ] ]
 ends_by session read totals (Changed group first second) t few done incomplete turns one = elim one [ inl e ↦ absurd (cc) | inr f ↦ elim f [ inl e ↦ absurd (cc) | inr e ↦ absurd (cc) ] ]
-
--- the line of the numbers was put, up to a failure
-pub stopped_at_line : (session from layers : List ℕ) (so sn : ℕ) (old new : Seen) (before after : Option (List ℕ)) (totals : Totals) (line : List ℕ) (r : Reads session from layers old new so sn) → Tells session r.read totals
-    → line ≡ receive_text totals.read totals.kept totals.shown → (k : ℕ) × (after ≡ append_known before (take k line)) → StopsAt session from layers old new before after so sn Out
-stopped_at_line session from layers so sn old new before after totals line r tells is part = record {
-  reads = r;
-  printed = (part.0, part.1 ∙ ap (λ (l : List ℕ). append_known before (take part.0 l)) (is ∙ numbers_are session r.read totals tells));
-}

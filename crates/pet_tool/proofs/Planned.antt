@@ -12,7 +12,7 @@ use Rattle.pet_text.specs.declared.status.Status.TheVariants.{Done, Usage, NoMem
 use Rattle.pet_text.specs.declared.words.Command.{Command}
 use Rattle.pet_text.specs.declared.words.Command.TheVariants.{Plan, Check, Send, Receive}
 use Rattle.pet_text.specs.Lines.{fault_text}
-use Rattle.pet_tool.specs.Finished.{Prints}
+use Rattle.pet_tool.specs.Reports.{Prints}
 use Rattle.pet_tool.specs.Plan.{session_plan, PlanTells, Plans, ForPlan, CanPlan, PlansSession}
 use Rattle.pet_tool.specs.Sources.{HasSession, status_of_source}
 use Rattle.pet_tool.proofs.Reporting.{priority_is, stream_is, not_refused}

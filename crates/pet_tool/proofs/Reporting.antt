@@ -23,8 +23,7 @@ use Rattle.pet_text.specs.declared.status.Status.{Status}
 use Rattle.pet_text.specs.declared.status.Status.TheVariants.{Done, NoMemory, OutFault}
 use Rattle.pet_text.specs.Lines.{fault_text}
 use Rattle.pet_text.specs.PlanText.{plan_text}
-use Rattle.pet_tool.specs.Finished.{Prints}
-use Rattle.pet_tool.specs.Reports.{Reports}
+use Rattle.pet_tool.specs.Reports.{Prints, Reports}
 use Rattle.pet_tool.specs.Plan.{session_plan}
 use Rattle.pet_tool.specs.Sources.{HasSession, IsGiven, IsRefused, status_of_source, tables_in}
 use Rattle.pet_tool.proofs.Telling.{Prints-after, Rose-before, append_known-nil}

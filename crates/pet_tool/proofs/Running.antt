@@ -7,7 +7,7 @@ use Rattle.pet_text.specs.declared.words.Command.{Command}
 use Rattle.pet_text.specs.declared.words.Command.TheVariants.{Plan, Check, Send, Receive}
 use Rattle.pet_text.specs.declared.words.End.TheVariants.{File}
 use Rattle.pet_text.specs.Lines.{fault_text}
-use Rattle.pet_tool.specs.Finished.{Prints}
+use Rattle.pet_tool.specs.Reports.{Prints}
 use Rattle.pet_tool.specs.Runs.{Runs}
 use Rattle.pet_tool.proofs.Certified.{check_no_memory}
 use Rattle.pet_tool.proofs.Planned.{plan_no_memory}

@@ -31,9 +31,8 @@ use Rattle.pet_text.specs.PlanLines.{send_text}
 use Rattle.pet_tool.specs.declared.send.SendFault.{SendFault}
 use Rattle.pet_tool.specs.declared.send.SendFault.TheVariants as fault
 use Rattle.pet_tool.specs.declared.sent_group.Change.{Change}
-use Rattle.pet_tool.specs.Finished.{Prints}
 use Rattle.pet_tool.specs.Reading.{IsPrefix, PutsPart}
-use Rattle.pet_tool.specs.Reports.{Reports}
+use Rattle.pet_tool.specs.Reports.{Prints, Reports}
 use Rattle.pet_tool.specs.Send.{session_datagrams, sent_line_text, HasSent, LeavesSent, IsOfSent, Costs, HasChanged, IsSendFault, status_of_send, SendTells, Sends, ForSend, CanSend, SendsSession}
 use Rattle.pet_tool.specs.declared.second.SendStop.{SendStop}
 use Rattle.pet_tool.specs.declared.second.SendStop.TheVariants as stopped

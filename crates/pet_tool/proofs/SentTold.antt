@@ -231,7 +231,6 @@ changed_stop source marks old new F (Some c) result is h = subst (λ r. IfErr r 
 told_part_stop : (text : List ℕ) (old new : Seen) (stop : Stop) → PutsPart text old new → IsToldStop text old new (of_stop stop)
 told_part_stop text old new stop.Memory part = part
 told_part_stop text old new stop.Place part = part
-told_part_stop text old new stop.Out part = part
 
 pub told_stop : (p b : List ℕ) (source : Source) (marks : List GroupMark) (old new : Seen) (stop : Stop) (result : SendStop) → result ≡ of_stop stop → SentPart source marks old new → IsFirstPass p b source marks → old.rest ≡ Some b
     → IsToldStop (datagrams_text (session_of p b)) old new result

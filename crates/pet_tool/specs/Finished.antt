@@ -1,9 +1,7 @@
 -- What `receive` leaves behind: where it has read the whole input or 16,777,216 datagrams, and where it has stopped
 -- before. This project's own.
 use Rattle.std.specs.Prelude.{◌≡◌, ◌⊎◌, ◌↔◌, IsTrue, ℕ, ◌+◌, ◌<◌, ◌≤◌, List, [], ◌++◌, length, take, Option, Some, option_map, IfSome}
-use Rattle.std.specs.Io.KnownBytes.{append_known}
 use Rattle.pet_base.specs.declared.limits.TheConstants.{MAX_SESSION, MAX_DATAGRAMS}
-use Rattle.pet_base.specs.Causes.{Rose}
 use Rattle.pet_base.specs.Seen.{Seen, HadFault, bytes_at, with_file}
 use Rattle.pet_base.specs.Entries.{datagrams}
 use Rattle.pet_receive.specs.KeptSet.{KeptSet, empty_set, kept_in_all}
@@ -14,13 +12,12 @@ use Rattle.pet_text.specs.declared.status.Status.TheVariants.{Done, NoMemory, Pl
 use Rattle.pet_text.specs.declared.words.Command.{Command}
 use Rattle.pet_text.specs.declared.words.Command.TheVariants.{Receive}
 use Rattle.pet_text.specs.declared.words.End.TheVariants.{File}
-use Rattle.pet_text.specs.Lines.{receive_text, fault_text}
-use Rattle.pet_tool.specs.declared.outcome.Stop.{Stop}
-use Rattle.pet_tool.specs.declared.outcome.Stop.TheVariants.{Memory, Place, Out}
+use Rattle.pet_text.specs.Lines.{receive_text}
 use Rattle.pet_tool.specs.declared.receive.Totals.{Totals}
 use Rattle.pet_tool.specs.LayersText.{IsLayersText}
 use Rattle.pet_tool.specs.Outcome.{IsOf}
 use Rattle.pet_tool.specs.Reading.{IsPrefix}
+use Rattle.pet_tool.specs.Reports.{Reports}
 use Rattle.pet_tool.specs.Steps.{steps_of_all}
 
 -- nothing is kept of a session
@@ -56,15 +53,11 @@ Ends session read _ = ⊥
 abbrev pub numbers_text : List ℕ → List (List ℕ) → List ℕ
 numbers_text session read = receive_text (length read) (kept_in_all (kept_of session read)) (shown_in_all (kept_of session read))
 
--- these lines were printed, and then the last one; a front of it where the output failed
-abbrev pub Prints : List ℕ → List ℕ → Option (List ℕ) → Option (List ℕ) → ℕ → ℕ → Type 0
-Prints lines last before after faults_before faults_after =
-    ((k : ℕ) × (after ≡ append_known before (lines ++ take k last))) × ((Rose faults_before faults_after → ⊥) → after ≡ append_known before (lines ++ last))
-
-pub record Finishes (session from layers : List ℕ) (old new : Seen) (before after : Option (List ℕ)) (faults_before faults_after steps_old steps_new : ℕ) (status : Status) : Type 0 where
+-- the datagrams were read to the end or to the limit, and the status and the text are theirs
+pub record Finishes (session from layers : List ℕ) (old new : Seen) (steps_old steps_new : ℕ) (status : Status) (text : List ℕ) : Type 0 where
   pub reads : Reads session from layers old new steps_old steps_new
   pub ends : Ends session reads.read status
-  pub prints : Prints (numbers_text session reads.read) (fault_text status) before after faults_before faults_after
+  pub text_is : text ≡ numbers_text session reads.read
 
 -- the files are as before, or the file of layers has a front of the layers text of the first datagrams of the input
 abbrev pub LeavesFront : List ℕ → List ℕ → List ℕ → Seen → Seen → Type 0
@@ -73,27 +66,22 @@ LeavesFront session from layers old new =
     ⊎ ((read : List (List ℕ)) × (text : List ℕ) × (front : List ℕ) × IsLayersText (nothing_of session) [] 1 read text × IsPrefix front text × (new.files ≡ option_map (with_file layers front) old.files)
     × IfSome (bytes_at old.files from) (λ bytes. (more : List (List ℕ)) × (datagrams bytes ≡ read ++ more)))
 
--- all that was read stands in the file of layers, and the line of the numbers was printed up to where the output failed
-pub record FailsToPrint (session from layers : List ℕ) (old new : Seen) (before after : Option (List ℕ)) (steps_old steps_new : ℕ) : Type 0 where
-  pub reads : Reads session from layers old new steps_old steps_new
-  pub printed : (k : ℕ) × (after ≡ append_known before (take k (numbers_text session reads.read)))
+-- What each status tells: the datagrams were read, their layers text is written, and the line of the numbers was printed, or a
+-- front of it where the output failed; where memory or the place failed, at most a front of the layers text is written, and
+-- nothing was printed before.
+abbrev pub ReceiveTells : List ℕ → List ℕ → List ℕ → Seen → Seen → ℕ → ℕ → Status → List ℕ → Type 0
+ReceiveTells session from layers old new so sn Done text = Finishes session from layers old new so sn Done text
+ReceiveTells session from layers old new so sn Incomplete text = Finishes session from layers old new so sn Incomplete text
+ReceiveTells session from layers old new so sn TurnsSpent text = Finishes session from layers old new so sn TurnsSpent text
+ReceiveTells session from layers old new so sn OutFault text =
+    (r : Reads session from layers old new so sn) × (k : ℕ) × (text ≡ take k (numbers_text session r.read))
+ReceiveTells session from layers old new so sn NoMemory text = LeavesFront session from layers old new × (text ≡ [])
+ReceiveTells session from layers old new so sn PlaceFault text = HadFault old new (IsOf from layers) × LeavesFront session from layers old new × (text ≡ [])
+ReceiveTells session from layers old new so sn _ text = ⊥
 
--- what the command leaves where it stops: a front of the layers text at most, and nothing was printed; but all of it where
--- the output failed
-abbrev pub StopsAt : List ℕ → List ℕ → List ℕ → Seen → Seen → Option (List ℕ) → Option (List ℕ) → ℕ → ℕ → Stop → Type 0
-StopsAt session from layers old new before after so sn Memory = LeavesFront session from layers old new × (after ≡ before)
-StopsAt session from layers old new before after so sn Place = LeavesFront session from layers old new × (after ≡ before)
-StopsAt session from layers old new before after so sn Out = FailsToPrint session from layers old new before after so sn
-
--- what each status of the command tells
+-- what `receive` leaves
 abbrev pub Receives : List ℕ → List ℕ → List ℕ → Seen → Seen → Option (List ℕ) → Option (List ℕ) → ℕ → ℕ → ℕ → ℕ → Status → Type 0
-Receives session from layers old new before after fb fa so sn Done = Finishes session from layers old new before after fb fa so sn Done
-Receives session from layers old new before after fb fa so sn Incomplete = Finishes session from layers old new before after fb fa so sn Incomplete
-Receives session from layers old new before after fb fa so sn TurnsSpent = Finishes session from layers old new before after fb fa so sn TurnsSpent
-Receives session from layers old new before after fb fa so sn NoMemory = LeavesFront session from layers old new × Prints [] (fault_text NoMemory) before after fb fa
-Receives session from layers old new before after fb fa so sn PlaceFault = HadFault old new (IsOf from layers) × LeavesFront session from layers old new × Prints [] (fault_text PlaceFault) before after fb fa
-Receives session from layers old new before after fb fa so sn OutFault = Rose fb fa × FailsToPrint session from layers old new before after so sn
-Receives session from layers old new before after fb fa so sn _ = ⊥
+Receives session from layers old new before after fb fa so sn status = Reports (ReceiveTells session from layers old new so sn) before after fb fa status
 
 -- a fact on the words of `receive`
 abbrev pub ForReceive : Option Command → (List ℕ → List ℕ → List ℕ → Type 0) → Type 0

@@ -5,9 +5,9 @@ pub mod Records
 pub mod Steps
 pub mod Met
 pub mod Outcome
+pub mod Reports
 pub mod Finished
 pub mod Receive
-pub mod Reports
 pub mod Sources
 pub mod Plan
 pub mod Least

@@ -3,21 +3,19 @@ use Rattle.std.specs.Prelude.{ℕ, ◌≡◌, ◌⊎◌, List, [], true, option_
 use Rattle.pet_base.specs.declared.place.Side.TheVariants.{Read, Written}
 use Rattle.pet_base.specs.Seen.{Seen, Blame, Names, bytes_at, with_file}
 use Rattle.pet_text.specs.declared.status.Status.{Status}
-use Rattle.pet_text.specs.declared.status.Status.TheVariants.{NoMemory, PlaceFault, OutFault}
+use Rattle.pet_text.specs.declared.status.Status.TheVariants.{NoMemory, PlaceFault}
 use Rattle.pet_tool.specs.declared.outcome.Stop.{Stop}
-use Rattle.pet_tool.specs.declared.outcome.Stop.TheVariants.{Memory, Place, Out}
+use Rattle.pet_tool.specs.declared.outcome.Stop.TheVariants.{Memory, Place}
 
 -- the status of each
 abbrev pub status_of : Stop → Status
 status_of Memory = NoMemory
 status_of Place = PlaceFault
-status_of Out = OutFault
 
--- when each comes: want of memory at any time, the others where their objects failed
-abbrev pub Licensed : Type 0 → Type 0 → Stop → Type 0
-Licensed place out Memory = Unit {0}
-Licensed place out Place = place
-Licensed place out Out = out
+-- when each comes: want of memory at any time, the other where a call of the place failed
+abbrev pub Licensed : Type 0 → Stop → Type 0
+Licensed failed Memory = Unit {0}
+Licensed failed Place = failed
 
 -- the place's fault was of this call: of the file that is read, or of the one that is written
 abbrev pub IsOf : List ℕ → List ℕ → Blame → Type 0

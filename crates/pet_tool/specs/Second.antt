@@ -93,4 +93,3 @@ NoneLost marks sent = (k : ℕ) → sent ≤ k → mark_at marks k ≡ no_mark
 abbrev pub of_stop : Stop → SendStop
 of_stop stop.Memory = Memory
 of_stop stop.Place = Place
-of_stop stop.Out = Place

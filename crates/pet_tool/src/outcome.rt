@@ -1,31 +1,30 @@
-//! Why a command stops early.
-ghost use Rattle.std.specs.Prelude.{◌≡◌};
+//! Why the work of a command on its files stops early.
+ghost use Rattle.std.specs.Prelude.{◌≡◌, ◌≢◌};
 ghost use Rattle.pet_tool.specs.Outcome.{status_of};
 
-use pet_base::NoMemory;
+use pet_base::{Failed, NoMemory};
 use pet_text::Status;
 use std::alloc::AllocError;
 
-/// Why a command stops early.
+/// Why the work of a command on its files stops early.
 #[derive(Clone, Copy, Debug, PartialEq, Eq)]
-pub enum Stop {
+pub(crate) enum Stop {
     /// There was no memory.
     Memory,
     /// A call of the place failed.
     Place,
-    /// A call of the output failed.
-    Out,
 }
 
 impl Stop {
     /// The status that the program then ends with.
-    pub fn status(self) -> Status
-        ensures { result ≡ status_of self }
+    pub(crate) fn status(self) -> Status
+        ensures status { result ≡ status_of self }
+        ensures known { result ≢ Status.Usage }
+        ensures place { result ≢ Status.OutFault }
     {
         match self {
             Stop::Memory => Status::NoMemory,
             Stop::Place => Status::PlaceFault,
-            Stop::Out => Status::OutFault,
         }
     }
 }
@@ -47,5 +46,15 @@ impl From<AllocError> for Stop {
 
     fn from(_e: AllocError) -> Stop {
         Stop::Memory
+    }
+}
+
+impl From<Failed> for Stop {
+    ghost use Rattle.pet_tool.specs.declared.outcome.Stop.TheVariants.{Place};
+
+    ghost from_gives = { λ _ stop. stop ≡ Place };
+
+    fn from(_e: Failed) -> Stop {
+        Stop::Place
     }
 }

@@ -30,7 +30,7 @@ pub(crate) fn put_group<P: Place, L: Ledger>(
     ensures part { OnErr result (PutsPart (group_entries encoder.now) (P.seen place.old) (P.seen place.new)) }
     ensures others { OnlyWrites (P.seen place.old) (P.seen place.new) }
     ensures later { (P.seen place.old).faults ≤ (P.seen place.new).faults }
-    ensures cause { IfErr result (Licensed (HadFault (P.seen place.old) (P.seen place.new) (Blames Written (P.seen place.old).target)) ⊥) }
+    ensures cause { IfErr result (Licensed (HadFault (P.seen place.old) (P.seen place.new) (Blames Written (P.seen place.old).target))) }
     ensures cost { steps.new ≤ steps.old + encoder.now.header.table.packets * length (needs_of encoder.now.header.table.layers) }
 {
     let mut entry = Vec::new(alloc);
@@ -54,11 +54,12 @@ fn put_packet<P: Place, L: Ledger>(
     ensures part { OnErr result (PutsPart (packet_entry encoder.now number) (P.seen place.old) (P.seen place.new)) }
     ensures others { OnlyWrites (P.seen place.old) (P.seen place.new) }
     ensures later { (P.seen place.old).faults ≤ (P.seen place.new).faults }
-    ensures cause { IfErr result (Licensed (HadFault (P.seen place.old) (P.seen place.new) (Blames Written (P.seen place.old).target)) ⊥) }
+    ensures cause { IfErr result (Licensed (HadFault (P.seen place.old) (P.seen place.new) (Blames Written (P.seen place.old).target))) }
     ensures cost { steps.new ≤ steps.old + length (needs_of encoder.now.header.table.layers) }
 {
     write_entry(encoder, number, entry, steps)?;
-    place.put(entry).map_err(|_| Stop::Place)
+    place.put(entry)?;
+    Ok(())
 }
 
 /// Makes the buffer the entry of one packet, whose number is below the group's packets.

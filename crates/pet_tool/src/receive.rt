@@ -14,7 +14,7 @@ ghost use Rattle.pet_receive.specs.KeptSet.{IsKeptSet, open_group, kept_in_all};
 ghost use Rattle.pet_receive.specs.ShownBytes.{IsShown, IsComplete, shown_in_all};
 ghost use Rattle.pet_receive.specs.Verdicts.{verdict_of, is_kept, after};
 ghost use Rattle.pet_text.specs.Lines.{receive_text};
-ghost use Rattle.pet_tool.specs.Finished.{nothing_of, numbers_text, Reads, Ends, Tells, LeavesFront, StopsAt};
+ghost use Rattle.pet_tool.specs.Finished.{nothing_of, Reads, Tells, Finishes, LeavesFront, ReceiveTells};
 ghost use Rattle.pet_tool.specs.Gf16.{HasKeptIn};
 ghost use Rattle.pet_tool.specs.LayersText.{AreRecords, order_after};
 ghost use Rattle.pet_tool.specs.Outcome.{Licensed, IsOf, Opened};
@@ -35,20 +35,29 @@ use std::sync::ledger::Ledger;
 
 /// What a reading comes to.
 #[derive(Clone, Copy)]
-pub struct Totals {
+struct Totals {
     /// How many datagrams were read.
-    pub read: u32,
+    read: u32,
     /// How many packets are kept.
-    pub kept: u32,
+    kept: u32,
     /// How many layers are shown.
-    pub shown: u32,
+    shown: u32,
     /// Whether every layer of every group is shown.
-    pub complete: bool,
+    complete: bool,
+}
+
+/// How the command ends once all was read.
+#[derive(Drop)]
+struct Ending {
+    /// The line of the numbers.
+    line: Vec<u8>,
+    /// Done, Incomplete or TurnsSpent.
+    status: Status,
 }
 
 /// Reads the datagrams of FROM, and writes the layers of the session to LAYERS as they are shown; prints the line of the
-/// numbers, and answers Done, Incomplete or TurnsSpent.
-pub fn receive<P: Place, S: Sink, L: Ledger>(
+/// numbers, once all are read, and answers Done, Incomplete or TurnsSpent. A failure of the output leaves LAYERS whole.
+pub(crate) fn receive<P: Place, S: Sink, L: Ledger>(
     alloc: Global,
     from: &str,
     session: [u8; 8],
@@ -56,19 +65,40 @@ pub fn receive<P: Place, S: Sink, L: Ledger>(
     place: &mut P,
     out: &mut S,
     steps: &mut Steps<L>,
-) -> Result<Status, Stop>
-    ensures finished { IfOk result (λ status. (r : Reads session from.now layers.now (P.seen place.old) (P.seen place.new) steps.old steps.new) × Ends session r.read status
-        × (S.written out.new ≡ append_known (S.written out.old) (numbers_text session r.read))) }
-    ensures stopped { IfErr result (StopsAt session from.now layers.now (P.seen place.old) (P.seen place.new) (S.written out.old) (S.written out.new) steps.old steps.new) }
+) -> Status
+    ensures tells { (text : List ℕ) × ReceiveTells session from.now layers.now (P.seen place.old) (P.seen place.new) steps.old steps.new result text × (S.written out.new ≡ append_known (S.written out.old) text) }
+    ensures rose { (result ≡ Status.OutFault) → Rose (S.faults out.old) (S.faults out.new) }
+    ensures known { result ≢ Status.Usage }
     ensures later { S.faults out.old ≤ S.faults out.new }
-    ensures cause { IfErr result (Licensed (HadFault (P.seen place.old) (P.seen place.new) (IsOf from.now layers.now)) (Rose (S.faults out.old) (S.faults out.new))) }
+{
+    match read_ending(alloc, from, session, layers, place, steps) {
+        Ok(ending) => match out.put(ending.line.as_slice()) {
+            Ok(()) => ending.status,
+            Err(_) => Status::OutFault,
+        },
+        Err(stop) => stop.status(),
+    }
+}
+
+/// Reads the datagrams of the one file, writes the layers that they show to the other, and tells how the command then ends.
+fn read_ending<P: Place, L: Ledger>(
+    alloc: Global,
+    from: &str,
+    session: [u8; 8],
+    layers: &str,
+    place: &mut P,
+    steps: &mut Steps<L>,
+) -> Result<Ending, Stop>
+    ensures finished { IfOk result (λ ending. Finishes session from.now layers.now (P.seen place.old) (P.seen place.new) steps.old steps.new ending.status ending.line.items) }
+    ensures front { OnErr result (LeavesFront session from.now layers.now (P.seen place.old) (P.seen place.new)) }
+    ensures cause { IfErr result (Licensed (HadFault (P.seen place.old) (P.seen place.new) (IsOf from.now layers.now))) }
 {
     let totals = read_session(alloc, from, session, layers, place, steps)?;
     let line = numbers_line(alloc, totals)?;
-    match out.put(line.as_slice()) {
-        Ok(()) => Ok(status_after(totals.read, totals.complete)),
-        Err(_) => Err(Stop::Out),
-    }
+    Ok(Ending {
+        line,
+        status: status_after(totals.read, totals.complete),
+    })
 }
 
 /// The line of the numbers.
@@ -91,10 +121,10 @@ fn read_session<P: Place, L: Ledger>(
 ) -> Result<Totals, Stop>
     ensures done { IfOk result (λ totals. (r : Reads session from.now layers.now (P.seen place.old) (P.seen place.new) steps.old steps.new) × Tells session r.read totals) }
     ensures front { OnErr result (LeavesFront session from.now layers.now (P.seen place.old) (P.seen place.new)) }
-    ensures cause { IfErr result (Licensed (HadFault (P.seen place.old) (P.seen place.new) (IsOf from.now layers.now)) ⊥) }
+    ensures cause { IfErr result (Licensed (HadFault (P.seen place.old) (P.seen place.new) (IsOf from.now layers.now))) }
 {
     let mut buffer = room(alloc)?;
-    open(from, layers, place).map_err(|_| Stop::Place)?;
+    open(from, layers, place)?;
     read_opened(alloc, session, place, &mut buffer, steps)
 }
 
@@ -114,8 +144,7 @@ fn read_opened<P: Place, L: Ledger>(
     ensures part { OnErr result (PartSoFar (nothing_of session) (P.seen place.old) (P.seen place.new)) }
     ensures later { (P.seen place.old).faults ≤ (P.seen place.new).faults }
     ensures cause { IfErr result (Licensed
-        (HadFault (P.seen place.old) (P.seen place.new) (λ b. Blames Read (P.seen place.old).source b ⊎ Blames Written (P.seen place.old).target b))
-        ⊥) }
+        (HadFault (P.seen place.old) (P.seen place.new) (λ b. Blames Read (P.seen place.old).source b ⊎ Blames Written (P.seen place.old).target b))) }
 {
     let field = Gf16Plain;
     let mut receiver = Receiver::new(alloc, &field, session, MAX_SESSION);
@@ -145,11 +174,10 @@ fn receive_all<P: Place, L: Ledger>(
     ensures part { OnErr result (PartSoFar (kept_set receiver.old) (P.seen place.old) (P.seen place.new)) }
     ensures later { (P.seen place.old).faults ≤ (P.seen place.new).faults }
     ensures cause { IfErr result (Licensed
-        (HadFault (P.seen place.old) (P.seen place.new) (λ b. Blames Read (P.seen place.old).source b ⊎ Blames Written (P.seen place.old).target b))
-        ⊥) }
+        (HadFault (P.seen place.old) (P.seen place.new) (λ b. Blames Read (P.seen place.old).source b ⊎ Blames Written (P.seen place.old).target b))) }
 {
     for turn in 0..MAX_DATAGRAMS {
-        match next_entry(place, buffer).map_err(|_| Stop::Place)? {
+        match next_entry(place, buffer)? {
             Entry::End => return Ok(turn),
             Entry::Datagram(len) => {
                 receive_one(place, receiver, turn + 1, &buffer[..len], steps)?;
@@ -178,12 +206,12 @@ fn receive_one<P: Place, L: Ledger>(
     ensures part { OnErr result (PartOfOne receiver.old arrival datagram.now (P.seen place.old) (P.seen place.new)) }
     ensures others { OnlyWrites (P.seen place.old) (P.seen place.new) }
     ensures later { (P.seen place.old).faults ≤ (P.seen place.new).faults }
-    ensures cause { IfErr result (Licensed (HadFault (P.seen place.old) (P.seen place.new) (Blames Written (P.seen place.old).target)) ⊥) }
+    ensures cause { IfErr result (Licensed (HadFault (P.seen place.old) (P.seen place.new) (Blames Written (P.seen place.old).target))) }
 {
     let verdict = receiver.accept(datagram, steps)?;
     if let Verdict::Kept(shown) = verdict {
         let group = group_of(datagram);
-        return put_shown(place, receiver, arrival, group, shown).map_err(|_| Stop::Place);
+        return Ok(put_shown(place, receiver, arrival, group, shown)?);
     }
     Ok(())
 }

@@ -19,7 +19,7 @@ ghost use Rattle.pet_tool.specs.Sending.{words_cost, IsFront, AreFound, HasSentS
 
 use crate::outcome::Stop;
 use crate::sent_group::{Change, first_mark, send_group};
-use pet_base::{Failed, MAX_STREAM, NoMemory, Place, Steps};
+use pet_base::{MAX_STREAM, Place, Steps};
 use std::alloc::Global;
 use std::sync::ledger::Ledger;
 use stream_session::{Group, GroupCutter, GroupMark, Source, portion_room, take_portion};
@@ -37,7 +37,7 @@ pub(crate) enum SendStop {
 
 /// Where the second pass stands.
 #[derive(Drop)]
-pub(crate) struct SecondPass {
+struct SecondPass {
     cutter: GroupCutter,
     /// How many groups were sent.
     sent: u32,
@@ -89,13 +89,13 @@ fn changed(change: Option<Change>) -> Result<(), SendStop>
     }
 }
 
-/// The answer of an early stop. No call of the output is made here, so `Out` never comes.
+/// The answer of an early stop.
 fn stopped(stop: Stop) -> SendStop
     ensures { result ≡ of_stop stop }
 {
     match stop {
         Stop::Memory => SendStop::Memory,
-        Stop::Place | Stop::Out => SendStop::Place,
+        Stop::Place => SendStop::Place,
     }
 }
 
@@ -116,7 +116,7 @@ fn send_again<P: Place, L: Ledger>(
     ensures part { OnErr result (SentPart source.now marks.now (P.seen place.old) (P.seen place.new)) }
     ensures names { KeepsNames (P.seen place.old) (P.seen place.new) }
     ensures later { (P.seen place.old).faults ≤ (P.seen place.new).faults }
-    ensures cause { IfErr result (Licensed (HadFault (P.seen place.old) (P.seen place.new) (λ b. Blames Read (P.seen place.old).source b ⊎ Blames Written (P.seen place.old).target b)) ⊥) }
+    ensures cause { IfErr result (Licensed (HadFault (P.seen place.old) (P.seen place.new) (λ b. Blames Read (P.seen place.old).source b ⊎ Blames Written (P.seen place.old).target b))) }
     ensures cost { steps.new ≤ steps.old + sum_by words_cost source.now.tables.items }
 {
     let mut buffer = portion_room(alloc)?;
@@ -150,7 +150,7 @@ fn read_again<P: Place, L: Ledger>(
     ensures part { OnErr result (SentPart source.now marks.now (P.seen place.old) (P.seen place.new)) }
     ensures names { KeepsNames (P.seen place.old) (P.seen place.new) }
     ensures later { (P.seen place.old).faults ≤ (P.seen place.new).faults }
-    ensures cause { IfErr result (Licensed (HadFault (P.seen place.old) (P.seen place.new) (λ b. Blames Read (P.seen place.old).source b ⊎ Blames Written (P.seen place.old).target b)) ⊥) }
+    ensures cause { IfErr result (Licensed (HadFault (P.seen place.old) (P.seen place.new) (λ b. Blames Read (P.seen place.old).source b ⊎ Blames Written (P.seen place.old).target b))) }
     ensures cost { steps.new ≤ steps.old + cost_left source.now.tables.items pass.old.sent }
     ensures left { OnOk result (steps.new + cost_left source.now.tables.items pass.new.sent ≤ steps.old + cost_left source.now.tables.items pass.old.sent) }
 {
@@ -189,7 +189,7 @@ fn read_on<P: Place, L: Ledger>(
         → IsPart source.now marks.now (AreFirst source.now.priority (stream ++ portion.now)) first (P.seen place.new)) }
     ensures others { OnlyWrites (P.seen place.old) (P.seen place.new) }
     ensures later { (P.seen place.old).faults ≤ (P.seen place.new).faults }
-    ensures cause { IfErr result (Licensed (HadFault (P.seen place.old) (P.seen place.new) (Blames Written (P.seen place.old).target)) ⊥) }
+    ensures cause { IfErr result (Licensed (HadFault (P.seen place.old) (P.seen place.new) (Blames Written (P.seen place.old).target))) }
     ensures cost { steps.new ≤ steps.old + cost_left source.now.tables.items pass.old.sent }
     ensures left { OnOk result (steps.new + cost_left source.now.tables.items pass.new.sent ≤ steps.old + cost_left source.now.tables.items pass.old.sent) }
 {
@@ -219,7 +219,7 @@ fn send_ended<P: Place, L: Ledger>(
         → IsPart source.now marks.now (AreFirst source.now.priority stream) first (P.seen place.new)) }
     ensures others { OnlyWrites (P.seen place.old) (P.seen place.new) }
     ensures later { (P.seen place.old).faults ≤ (P.seen place.new).faults }
-    ensures cause { IfErr result (Licensed (HadFault (P.seen place.old) (P.seen place.new) (Blames Written (P.seen place.old).target)) ⊥) }
+    ensures cause { IfErr result (Licensed (HadFault (P.seen place.old) (P.seen place.new) (Blames Written (P.seen place.old).target))) }
     ensures cost { steps.new ≤ steps.old + cost_left source.now.tables.items pass.old.sent }
     ensures left { OnOk result (steps.new + cost_left source.now.tables.items pass.new.sent ≤ steps.old + cost_left source.now.tables.items pass.old.sent) }
 {
@@ -253,7 +253,7 @@ fn send_last<P: Place, L: Ledger>(
         → IsPart source.now marks.now (AreFound source.now.priority stream) first (P.seen place.new)) }
     ensures others { OnlyWrites (P.seen place.old) (P.seen place.new) }
     ensures later { (P.seen place.old).faults ≤ (P.seen place.new).faults }
-    ensures cause { IfErr result (Licensed (HadFault (P.seen place.old) (P.seen place.new) (Blames Written (P.seen place.old).target)) ⊥) }
+    ensures cause { IfErr result (Licensed (HadFault (P.seen place.old) (P.seen place.new) (Blames Written (P.seen place.old).target))) }
     ensures cost { steps.new ≤ steps.old + cost_left source.now.tables.items pass.old.sent }
 {
     if change.is_some() {
@@ -290,7 +290,7 @@ fn send_left<P: Place, L: Ledger>(
         → IsPart source.now marks.now (IsFront source.now.priority stream) first (P.seen place.new)) }
     ensures others { OnlyWrites (P.seen place.old) (P.seen place.new) }
     ensures later { (P.seen place.old).faults ≤ (P.seen place.new).faults }
-    ensures cause { IfErr result (Licensed (HadFault (P.seen place.old) (P.seen place.new) (Blames Written (P.seen place.old).target)) ⊥) }
+    ensures cause { IfErr result (Licensed (HadFault (P.seen place.old) (P.seen place.new) (Blames Written (P.seen place.old).target))) }
     ensures cost { steps.new ≤ steps.old + cost_left source.now.tables.items from }
 {
     let mut number = from;
@@ -321,14 +321,4 @@ fn first_lost(marks: &[GroupMark], from: u32) -> Option<Change>
         }
     }
     None
-}
-
-impl From<Failed> for Stop {
-    ghost use Rattle.pet_tool.specs.declared.outcome.Stop.TheVariants.{Place};
-
-    ghost from_gives = { λ _ stop. stop ≡ Place };
-
-    fn from(_e: Failed) -> Stop {
-        Stop::Place
-    }
 }

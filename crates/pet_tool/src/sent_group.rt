@@ -32,9 +32,9 @@ use stripe_plan::{LayerSize, Table};
 #[derive(Clone, Copy, Debug, PartialEq, Eq)]
 pub(crate) struct Change {
     /// Counted from 0.
-    pub group: u32,
-    pub first: GroupMark,
-    pub second: GroupMark,
+    pub(crate) group: u32,
+    pub(crate) first: GroupMark,
+    pub(crate) second: GroupMark,
 }
 
 /// Puts the packets of the group under this number, where its mark and its table are those of the first pass; else it
@@ -58,7 +58,7 @@ pub(crate) fn send_group<P: Place, L: Ledger>(
     ensures part { OnErr result (SendsPart source.now marks.now number group.now (P.seen place.old) (P.seen place.new)) }
     ensures others { OnlyWrites (P.seen place.old) (P.seen place.new) }
     ensures later { (P.seen place.old).faults ≤ (P.seen place.new).faults }
-    ensures cause { IfErr result (Licensed (HadFault (P.seen place.old) (P.seen place.new) (Blames Written (P.seen place.old).target)) ⊥) }
+    ensures cause { IfErr result (Licensed (HadFault (P.seen place.old) (P.seen place.new) (Blames Written (P.seen place.old).target))) }
     ensures cost { steps.new ≤ steps.old + cost_at (slice_get source.now.tables.items number) }
     ensures idle { IfOk result (λ change. IfSome change (λ _. steps.new ≡ steps.old)) }
 {
@@ -142,7 +142,7 @@ fn put_packets<P: Place, L: Ledger>(
     ensures part { OnErr result (PutsPart (group_entries (encoding_of source.now number group.now)) (P.seen place.old) (P.seen place.new)) }
     ensures others { OnlyWrites (P.seen place.old) (P.seen place.new) }
     ensures later { (P.seen place.old).faults ≤ (P.seen place.new).faults }
-    ensures cause { IfErr result (Licensed (HadFault (P.seen place.old) (P.seen place.new) (Blames Written (P.seen place.old).target)) ⊥) }
+    ensures cause { IfErr result (Licensed (HadFault (P.seen place.old) (P.seen place.new) (Blames Written (P.seen place.old).target))) }
     ensures cost { steps.new ≤ steps.old + cost_at (slice_get source.now.tables.items number) }
 {
     let field = Gf16Plain;

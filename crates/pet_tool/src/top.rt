@@ -7,9 +7,10 @@ ghost use Rattle.pet_encode.specs.Session.{Session};
 ghost use Rattle.pet_text.specs.Words.{texts_of, command_of};
 ghost use Rattle.pet_text.specs.Lines.{fault_text};
 ghost use Rattle.pet_tool.specs.Check.{Checks, ForCheck, CanCheck, ChecksSession};
-ghost use Rattle.pet_tool.specs.Finished.{Receives, Prints, ForReceive};
+ghost use Rattle.pet_tool.specs.Finished.{Receives, ForReceive};
 ghost use Rattle.pet_tool.specs.Plan.{Plans, ForPlan, CanPlan, PlansSession};
 ghost use Rattle.pet_tool.specs.Receive.{AreGiven, ReceivesSession};
+ghost use Rattle.pet_tool.specs.Reports.{Prints};
 ghost use Rattle.pet_tool.specs.Runs.{Runs};
 ghost use Rattle.pet_tool.specs.Send.{Sends, Costs, ForSend, CanSend, SendsSession};
 
@@ -232,10 +233,8 @@ fn run_receive<P: Place, S: Sink, L: Ledger>(
     ensures known { result ≢ Status.Usage }
     ensures later { S.faults out.old ≤ S.faults out.new }
 {
-    match receive(alloc, from, session, layers, place, out, steps) {
-        Ok(status) => tell(status, out),
-        Err(stop) => tell(stop.status(), out),
-    }
+    let status = receive(alloc, from, session, layers, place, out, steps);
+    tell(status, out)
 }
 
 /// Prints the line that tells of the status, where it has one. A failure of the output does not change the status.

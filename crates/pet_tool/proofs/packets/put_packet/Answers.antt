@@ -3,21 +3,17 @@ use Rattle.pet_base.specs.Through.{on_any_err}
 use Rattle.pet_tool.specs.Packets.{packet_entry}
 use Rattle.pet_tool.specs.Reading.{Puts}
 use Rattle.pet_tool.proofs.Datagrams.{part_nothing, part_of_take}
-use Rattle.pet_tool.proofs.Fronts.{on_err}
-use Rattle.pet_tool.proofs.KeptNow.{err_through}
 use Rattle.pet_tool.proofs.packets.put_packet.Goals as goal
 
 pub returns-in_err-write_entry-clause-part : goal.returns-in_err-write_entry-clause-part
 returns-in_err-write_entry-clause-part g c =
     on_any_err c.from_residual.result (part_nothing (packet_entry c.args.encoder.now c.args.number) (g.P.Place.seen c.args.place.now))
 
-pub returns-clause-part : goal.returns-clause-part
-returns-clause-part g c =
+pub returns-in_err-put-clause-part : goal.returns-in_err-put-clause-part
+returns-in_err-put-clause-part g c =
     let old = g.P.Place.seen c.args.place.now in
     let new = g.P.Place.seen c.put.new.self in
     let entry = packet_entry c.args.encoder.now c.args.number in
     let is : c.deref.result.now ≡ entry = c.deref.ensures.value ∙ c.in_ok-write_entry.ensures.ok in
-    err_through _ _ c.put.result c.map_err.result c.map_err.ensures.cases
-    (on_err c.put.result
-    (λ (part : (k : ℕ) × Puts (take k c.deref.result.now) old new). part_of_take part.0 entry old new (subst (λ (bytes : List ℕ). Puts (take part.0 bytes) old new) is part.1))
-    c.put.ensures.part)
+    let part = c.in_err-put.ensures.part in
+    on_any_err c.from_residual-in_err-put.result (part_of_take part.0 entry old new (subst (λ (bytes : List ℕ). Puts (take part.0 bytes) old new) is part.1))

@@ -1,7 +1,7 @@
-use Rattle.std.proofs.Common.{◌+◌, arith, refl}
+use Rattle.std.proofs.Common.{◌+◌, arith, refl, subst}
 use Rattle.pet_base.specs.Entries.{TakesEntry}
 use Rattle.pet_base.specs.SeenLaws.{KeepsNames-same, KeepsNames-then, OnlyReads-KeepsNames, OnlyWrites-KeepsNames}
-use Rattle.pet_base.specs.Through.{at_ok, on_any_err}
+use Rattle.pet_base.specs.Through.{on_any_err}
 use Rattle.pet_receive.specs.Arrivals.{kept_set}
 use Rattle.pet_tool.proofs.Loop.{so_far_start, so_far_more, received_all, part_so_far, part_of_more}
 use Rattle.pet_tool.proofs.receive.receive_all.Goals as goal
@@ -19,11 +19,11 @@ returns-in-End-clause-done g c =
     let before = g.P.Place.seen c.loop-turn.place in
     let after = g.P.Place.seen c.next_entry.new.place in
     let into = c.next_entry.new.into in
-    let step = at_ok (λ e. TakesEntry before.rest e into after.rest) _ _ _ _ _ c.map_err.ensures.cases c.in_ok-map_err.was c.in-End.is c.next_entry.ensures.entry in
+    let step = subst (λ e. TakesEntry before.rest e into after.rest) c.in-End.is c.in_ok-next_entry.ensures.entry in
     received_all (kept_set c.args.receiver.now) _ into (g.P.Place.seen c.args.place.now) before after _ _ _ c.loop-turn.invariant.so_far (omega arith) step c.next_entry.ensures.others
 
-pub returns-in_err-map_err-clause-part : goal.returns-in_err-map_err-clause-part
-returns-in_err-map_err-clause-part g c =
+pub returns-in_err-next_entry-clause-part : goal.returns-in_err-next_entry-clause-part
+returns-in_err-next_entry-clause-part g c =
     on_any_err c.from_residual.result (part_so_far (kept_set c.args.receiver.now) _ (g.P.Place.seen c.args.place.now) (g.P.Place.seen c.loop-turn.place) (g.P.Place.seen c.next_entry.new.place) _ _ _ c.loop-turn.invariant.so_far c.next_entry.ensures.others.files)
 
 pub returns-in_err-receive_one-in-Datagram-clause-part : goal.returns-in_err-receive_one-in-Datagram-clause-part
@@ -31,7 +31,7 @@ returns-in_err-receive_one-in-Datagram-clause-part g c =
     let before = g.P.Place.seen c.loop-turn.place in
     let between = g.P.Place.seen c.next_entry.new.place in
     let into = c.next_entry.new.into in
-    let step = at_ok (λ e. TakesEntry before.rest e into between.rest) _ _ _ _ _ c.map_err.ensures.cases c.in_ok-map_err.was c.in-Datagram.is c.next_entry.ensures.entry in
+    let step = subst (λ e. TakesEntry before.rest e into between.rest) c.in-Datagram.is c.in_ok-next_entry.ensures.entry in
     on_any_err c.from_residual-in_err-receive_one-in-Datagram.result
     (part_of_more (kept_set c.args.receiver.now) _ (c.loop-turn.turn + 1) c.in-Datagram.len into (g.P.Place.seen c.args.place.now) before between (g.P.Place.seen c.receive_one.new.place) _ _ _ c.loop-turn.invariant.so_far refl c.loop-turn.invariant.names step c.next_entry.ensures.others c.in_err-receive_one-in-Datagram.ensures.part)
 
@@ -42,7 +42,7 @@ loop-turn-preserved g c =
     let between = g.P.Place.seen c.next_entry.new.place in
     let now = g.P.Place.seen c.receive_one.new.place in
     let into = c.next_entry.new.into in
-    let step = at_ok (λ e. TakesEntry before.rest e into between.rest) _ _ _ _ _ c.map_err.ensures.cases c.in_ok-map_err.was c.in-Datagram.is c.next_entry.ensures.entry in
+    let step = subst (λ e. TakesEntry before.rest e into between.rest) c.in-Datagram.is c.in_ok-next_entry.ensures.entry in
     let one = c.in_ok-receive_one-in-Datagram.ensures in
     record {
       so_far =

@@ -1,4 +1,5 @@
 use Rattle.std.proofs.Common.{◌≡◌, ℕ, Bool, false, cond, List, [], ◌∷◌, ◌++◌, refl, sym, ap, subst, ◌∙◌, arith, inr}
+use Rattle.pet_base.specs.Through.{on_any_err}
 use Rattle.packet_frame.specs.Refusals.{fields_of}
 use Rattle.pet_receive.specs.Arrivals.{ReceiverState, kept_set}
 use Rattle.pet_receive.specs.declared.verdict.Verdict.{Verdict}
@@ -8,8 +9,8 @@ use Rattle.pet_tool.specs.Gf16.{HasKeptIn}
 use Rattle.pet_receive.specs.KeptSet.{KeptSet, open_group, group_with}
 use Rattle.pet_receive.specs.ShownBytes.{IsShown}
 use Rattle.pet_receive.specs.Verdicts.{verdict_of, is_kept, after}
-use Rattle.pet_tool.proofs.Fronts.{on_ok, on_err, puts_nothing}
-use Rattle.pet_tool.proofs.KeptNow.{kept_shows, text_at, nothing_at, ok_through, err_through}
+use Rattle.pet_tool.proofs.Fronts.{puts_nothing}
+use Rattle.pet_tool.proofs.KeptNow.{kept_shows, text_at, nothing_at}
 use Rattle.pet_tool.proofs.receive.receive_one.Goals as goal
 
 pub group_of-group-requires : goal.group_of-group-requires
@@ -45,15 +46,17 @@ returns-in-Kept-clause-puts g c =
     let S = kept_set c.args.receiver.now in
     let k = kept_shows S d c.in-Kept.shown c.requires.sound (sym c.in-Kept.is ∙ c.in_ok-verdict.ensures.verdict) in
     let text = λ (t : List ℕ). text_at c.args.receiver.now c.accept.new.self c.args.arrival c.group_of-group.result d t c.in-Kept.shown k c.group_of-group.ensures c.in_ok-verdict.ensures.kept (c.in_ok-verdict.ensures.order (ap is_kept c.in-Kept.is)) in
-    ok_through _ _ c.put_shown.result c.map_err.result c.map_err.ensures.cases (on_ok c.put_shown.result (λ p. (p.0, text p.0 p.1, p.2)) c.put_shown.ensures.puts)
+    let p = c.in_ok-put_shown.ensures.puts in
+    (p.0, text p.0 p.1, p.2)
 
-pub returns-in-Kept-clause-part : goal.returns-in-Kept-clause-part
-returns-in-Kept-clause-part g c =
+pub returns-in_err-put_shown-clause-part : goal.returns-in_err-put_shown-clause-part
+returns-in_err-put_shown-clause-part g c =
     let d = c.args.datagram.now in
     let S = kept_set c.args.receiver.now in
     let k = kept_shows S d c.in-Kept.shown c.requires.sound (sym c.in-Kept.is ∙ c.in_ok-verdict.ensures.verdict) in
     let text = λ (t : List ℕ). text_at c.args.receiver.now c.accept.new.self c.args.arrival c.group_of-group.result d t c.in-Kept.shown k c.group_of-group.ensures c.in_ok-verdict.ensures.kept (c.in_ok-verdict.ensures.order (ap is_kept c.in-Kept.is)) in
-    err_through _ _ c.put_shown.result c.map_err.result c.map_err.ensures.cases (on_err c.put_shown.result (λ p. inr (p.0, text p.0 p.1, p.2)) c.put_shown.ensures.part)
+    let p = c.in_err-put_shown.ensures.part in
+    on_any_err c.from_residual-in_err-put_shown.result (inr (p.0, text p.0 p.1, p.2))
 
 not_kept : (v : Verdict) → ((shown : LayerSet) → v ≡ Kept shown → ⊥) → is_kept v ≡ false
 not_kept Damaged none = refl
