@@ -2,7 +2,7 @@
 ghost use Rattle.std.specs.Prelude.{◌≡◌, ◌≢◌, ◌⊎◌, ℕ, ◌+◌, ◌<◌, ◌≤◌, List, [], ◌∷◌, ◌++◌, length, true, false, None, Some, vec_len, OnOk, OnErr, IfOk, IfErr, IsSome};
 ghost use Rattle.std.specs.Int.{bit_at};
 ghost use Rattle.std.specs.Io.KnownBytes.{append_known};
-ghost use Rattle.pet_base.specs.declared.limits.TheConstants.{MAX_DATAGRAMS, MAX_GROUP_BYTES};
+ghost use Rattle.pet_base.specs.declared.limits.TheConstants.{MAX_DATAGRAMS, MAX_ENTRY, MAX_GROUP_BYTES};
 ghost use Rattle.pet_base.specs.declared.place.Side.TheVariants.{Read, Written};
 ghost use Rattle.pet_base.specs.Causes.{Blames, HasCause, Rose};
 ghost use Rattle.pet_base.specs.Seen.{Seen, OnlyWrites, KeepsNames, HasBlame, HadFault};
@@ -25,7 +25,7 @@ ghost use Rattle.pet_tool.specs.Steps.{steps_of};
 use crate::outcome::Stop;
 use crate::records::{put_records, shown_layers};
 use pet_base::{
-    Entry, Failed, MAX_DATAGRAMS, MAX_SESSION, NoMemory, Place, Sink, Steps, next_entry,
+    Entry, Failed, MAX_DATAGRAMS, MAX_ENTRY, MAX_SESSION, NoMemory, Place, Sink, Steps, next_entry,
 };
 use pet_field::Gf16Plain;
 use pet_receive::{LayerSet, Receiver, Verdict, group_of};
@@ -138,7 +138,7 @@ fn read_opened<P: Place, L: Ledger>(
 ) -> Result<Totals, Stop>
     requires input { (P.seen place.old).has_input ≡ true }
     requires output { (P.seen place.old).has_output ≡ true }
-    requires room { 65535 ≤ length buffer.old }
+    requires room { MAX_ENTRY ≤ length buffer.old }
     ensures done { IfOk result (λ totals. (n : ℕ) × (r : ReceiverState ℕ) × (h : HasReceived (nothing_of session) n (P.seen place.old) (P.seen place.new) r steps.old steps.new)
         × Tells session h.so_far.read totals) }
     ensures part { OnErr result (PartSoFar (nothing_of session) (P.seen place.old) (P.seen place.new)) }
@@ -167,7 +167,7 @@ fn receive_all<P: Place, L: Ledger>(
 ) -> Result<u32, Stop>
     requires input { (P.seen place.old).has_input ≡ true }
     requires output { (P.seen place.old).has_output ≡ true }
-    requires room { 65535 ≤ length buffer.old }
+    requires room { MAX_ENTRY ≤ length buffer.old }
     requires held { HasKeptIn receiver.old [] }
     requires sound { IsKeptSet (kept_set receiver.old) }
     ensures done { IfOk result (λ n. HasReceived (kept_set receiver.old) n (P.seen place.old) (P.seen place.new) receiver.new steps.old steps.new) }
@@ -239,9 +239,9 @@ fn put_shown<P: Place>(
 
 /// Room for the longest datagram.
 fn room(alloc: Global) -> Result<Vec<u8>, AllocError>
-    ensures { IfOk result (λ room. vec_len room ≡ 65535) }
+    ensures { IfOk result (λ room. vec_len room ≡ MAX_ENTRY) }
 {
-    vec![in alloc; 0u8; 65_535]
+    vec![in alloc; 0u8; usize::from(MAX_ENTRY)]
 }
 
 /// Makes the one file the input and the other an empty output.
