@@ -17,70 +17,55 @@ fn words(alloc: Global, texts: &[&str]) -> Result<Vec<String>, AllocError> {
     Ok(words)
 }
 
-#[test]
-fn reads_the_words_of_receive(rt: HostRuntime) -> Result<(), Fail> {
-    let alloc = rt.alloc();
-    let given = words(alloc, &["receive", "file:a", SESSION, "b"])?;
-    let command = read_words(alloc, &given);
-    match &command {
-        Ok(
-            Command::Receive {
-                from,
-                session,
-                layers,
-            },
-        ) => {
-            let End::File(name) = from;
-            assert_eq!(rt; name.as_str(), "a");
-            assert_eq!(rt; *session, [0, 1, 2, 3, 4, 5, 6, 7]);
-            assert_eq!(rt; layers.as_str(), "b");
-        }
-        _ => assert!(rt; false),
+/// What a command is called, and the names that it has, in the order of its words.
+fn names_of(command: &Command) -> [&str; 4] {
+    match command {
+        Command::Receive { from, layers, .. } => ["receive", file_of(from), layers.as_str(), ""],
+        Command::Plan { stream, priority } => ["plan", stream.as_str(), priority.as_str(), ""],
+        Command::Check {
+            stream,
+            priority,
+            plan,
+        } => ["check", stream.as_str(), priority.as_str(), plan.as_str()],
+        Command::Send {
+            stream,
+            priority,
+            to,
+        } => ["send", stream.as_str(), priority.as_str(), file_of(to)],
     }
-    Ok(())
+}
+
+fn file_of(end: &End) -> &str {
+    let End::File(name) = end;
+    name.as_str()
+}
+
+/// The session that a command names.
+fn session_of(command: &Command) -> Option<[u8; 8]> {
+    match command {
+        Command::Receive { session, .. } => Some(*session),
+        _ => None,
+    }
 }
 
 #[test]
-fn reads_the_words_of_plan_check_and_send(rt: HostRuntime) -> Result<(), Fail> {
+fn reads_the_words_of_each_command(rt: HostRuntime) -> Result<(), Fail> {
     let alloc = rt.alloc();
-    let command = read_words(alloc, &words(alloc, &["plan", "s", "f"])?);
-    match &command {
-        Ok(Command::Plan { stream, priority }) => {
-            assert_eq!(rt; stream.as_str(), "s");
-            assert_eq!(rt; priority.as_str(), "f");
-        }
-        _ => assert!(rt; false),
-    }
-    let command = read_words(alloc, &words(alloc, &["check", "s", "f", "p"])?);
-    match &command {
-        Ok(
-            Command::Check {
-                stream,
-                priority,
-                plan,
-            },
-        ) => {
-            assert_eq!(rt; stream.as_str(), "s");
-            assert_eq!(rt; priority.as_str(), "f");
-            assert_eq!(rt; plan.as_str(), "p");
-        }
-        _ => assert!(rt; false),
-    }
-    let command = read_words(alloc, &words(alloc, &["send", "s", "f", "file:d"])?);
-    match &command {
-        Ok(
-            Command::Send {
-                stream,
-                priority,
-                to,
-            },
-        ) => {
-            let End::File(name) = to;
-            assert_eq!(rt; stream.as_str(), "s");
-            assert_eq!(rt; priority.as_str(), "f");
-            assert_eq!(rt; name.as_str(), "d");
-        }
-        _ => assert!(rt; false),
+    let session = Some([0, 1, 2, 3, 4, 5, 6, 7]);
+    let rows: [(&[&str], [&str; 4], Option<[u8; 8]>); 4] = [
+        (
+            &["receive", "file:a", SESSION, "b"],
+            ["receive", "a", "b", ""],
+            session,
+        ),
+        (&["plan", "s", "f"], ["plan", "s", "f", ""], None),
+        (&["check", "s", "f", "p"], ["check", "s", "f", "p"], None),
+        (&["send", "s", "f", "file:d"], ["send", "s", "f", "d"], None),
+    ];
+    for (texts, names, session) in rows {
+        let command = read_words(alloc, &words(alloc, texts)?).expect(&rt, "a command");
+        assert_eq!(rt; names_of(&command), names);
+        assert_eq!(rt; session_of(&command), session);
     }
     Ok(())
 }

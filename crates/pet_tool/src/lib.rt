@@ -27,6 +27,8 @@ mod top;
 pub use top::run;
 
 #[cfg(test)]
+mod fixtures;
+#[cfg(test)]
 mod second_tests;
 #[cfg(test)]
 mod send_tests;

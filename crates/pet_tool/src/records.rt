@@ -14,7 +14,7 @@ ghost use Rattle.pet_tool.specs.Records.{layers_in, records_text, AreLayersOf};
 ghost use Rattle.pet_tool.specs.Reading.{Puts, PutsPart};
 
 use arrayvec::ArrayVec;
-use pet_base::{Failed, Place};
+use pet_base::{Failed, MAX_LAYERS, Place};
 use pet_field::Gf16Plain;
 use pet_receive::{LayerSet, Receiver};
 
@@ -30,13 +30,13 @@ pub(crate) fn shown_layers<'a>(
     receiver: &'a Receiver<'_, Gf16Plain>,
     group: u32,
     shown: LayerSet,
-) -> ArrayVec<ShownLayer<'a>, 16>
+) -> ArrayVec<ShownLayer<'a>, MAX_LAYERS>
     requires shown { (layer : ℕ) → bit_at shown.bits layer ≡ 1 → IsShown (kept_set receiver.now) group layer }
     ensures layers { map (λ e. e.layer) result.items ≡ layers_in shown }
     ensures bytes { AreLayersOf receiver.now group result.items }
 {
     let mut layers = ArrayVec::new();
-    for layer in 0..16u8 {
+    for layer in 0..MAX_LAYERS as u8 {
         if !shown.has(layer) {
             continue;
         }

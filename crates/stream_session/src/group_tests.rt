@@ -1,33 +1,11 @@
 //! Streams cut into groups with their bytes.
 use super::*;
-use arrayvec::{ArrayString, ArrayVec};
+use crate::fixtures::{TWO_GROUPS, three_layers};
 use layer_split::Run;
-use pet_base::{MAX_LAYERS, NoMemory};
-use priority_file::{KindSet, LayerRule, Priority};
+use pet_base::NoMemory;
+use priority_file::Priority;
 use std::alloc::Global;
 use std::test::Fail;
-
-/// Two groups of 11 bytes, each a group of pictures and an I picture.
-const TWO_GROUPS: [u8; 22] = [
-    0, 0, 1, 0xB8, 1, 0, 0, 1, 0, 0, 8, 0, 0, 1, 0xB8, 2, 0, 0, 1, 0, 0, 8,
-];
-
-fn rule(bits: u8, need: u16) -> LayerRule {
-    LayerRule {
-        name: ArrayString::new(),
-        kinds: KindSet { bits },
-        need,
-    }
-}
-
-/// Heads, I and D pictures in layer 0, P pictures in layer 1, B pictures in layer 2.
-fn example_priority() -> Option<Priority> {
-    let mut layers: ArrayVec<LayerRule, MAX_LAYERS> = ArrayVec::new();
-    layers.push(rule(19, 2));
-    layers.push(rule(4, 3));
-    layers.push(rule(8, 5));
-    Priority::new(6, layers)
-}
 
 /// Takes the groups that have ended.
 fn take_ended(cutter: &mut GroupCutter, groups: &mut Vec<Group>) -> Result<(), NoMemory> {
@@ -72,7 +50,7 @@ fn cut_in(
 
 #[test]
 fn gives_two_groups_of_a_stream_cut_anywhere(rt: HostRuntime) -> Result<(), Fail> {
-    let priority = example_priority().expect(&rt, "a priority");
+    let priority = three_layers(6, [2, 3, 5]).expect(&rt, "a priority");
     for first in 1..23usize {
         for size in [1usize, 22] {
             let (groups, whole) = cut_in(rt.alloc(), &priority, &TWO_GROUPS, first, size).expect(
@@ -107,7 +85,7 @@ fn gives_what_ended_before_a_refusal(rt: HostRuntime) -> Result<(), Fail> {
         (&no_head, 0, 0, false),
         (&pack_behind_two_groups, 1, 11, false),
     ];
-    let priority = example_priority().expect(&rt, "a priority");
+    let priority = three_layers(6, [2, 3, 5]).expect(&rt, "a priority");
     for (stream, count, last, all) in rows {
         for first in 1..27usize {
             let (groups, whole) = cut_in(rt.alloc(), &priority, stream, first, 1).expect(

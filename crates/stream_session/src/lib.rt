@@ -32,6 +32,8 @@ pub use planner::Planner;
 pub use source::{Source, SourceFault, read_source};
 
 #[cfg(test)]
+mod fixtures;
+#[cfg(test)]
 mod group_tests;
 #[cfg(test)]
 mod mark_tests;

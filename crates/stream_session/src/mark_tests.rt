@@ -1,15 +1,12 @@
 //! The marks of a stream's groups.
 use super::*;
+use crate::fixtures::TWO_GROUPS;
 use mpeg_scan::Scan;
 use pet_base::MemoryPlace;
 use std::alloc::Global;
 use std::test::Fail;
 
-/// Two groups of 11 bytes, each a group of pictures and an I picture.
-const TWO_GROUPS: [u8; 22] = [
-    0, 0, 1, 0xB8, 1, 0, 0, 1, 0, 0, 8, 0, 0, 1, 0xB8, 2, 0, 0, 1, 0, 0, 8,
-];
-
+/// Priorities of two layers.
 const PRIORITIES: &str =
     "packets = 6\n[[layer]]\nname = \"base\"\nkinds = [\"head\", \"I\"]\nneed = 2\n[[layer]]\nname = \"rest\"\nkinds = [\"P\", \"B\", \"D\"]\nneed = 3\n";
 

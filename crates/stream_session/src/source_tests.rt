@@ -2,12 +2,12 @@
 ghost use Rattle.std.specs.Prelude.{◌<◌};
 
 use super::*;
+use crate::fixtures::is_example;
 use mpeg_scan::Scan;
 use pet_base::MemoryPlace;
 use priority_file::{Priority, PriorityFault, read_priority};
 use std::alloc::Global;
 use std::test::Fail;
-use stripe_plan::{LayerSize, Table};
 
 /// The example stream.
 const STREAM: [u8; 44] = [
@@ -22,25 +22,6 @@ const PRIORITIES: &str =
 
 /// The number of their session.
 const NUMBER: [u8; 8] = [0xA5, 0xAC, 0x94, 0x61, 0xB0, 0x3B, 0xCF, 0x36];
-
-/// Whether these are the tables of the example session.
-fn is_example(tables: &[Table]) -> bool {
-    let layers = [
-        LayerSize {
-            length: 46,
-            need: 2,
-        },
-        LayerSize { length: 7, need: 3 },
-        LayerSize {
-            length: 15,
-            need: 5,
-        },
-    ];
-    match tables {
-        [table] => table.packets() == 6 && table.layers() == layers.as_slice(),
-        _ => false,
-    }
-}
 
 /// The plan of a stream that comes in portions of so many bytes.
 fn plan_of(
@@ -72,12 +53,15 @@ fn keeps_a_refusal_of_the_stream(rt: HostRuntime) -> Result<(), Fail> {
     let priority = read_priority(rt.alloc(), PRIORITIES.as_bytes()).expect(&rt, "a priority");
     let mut stream = STREAM;
     stream[16] = 0x28;
-    for portion in [1, 44] {
-        let fault = plan_of(rt.alloc(), &priority, &stream, portion).err();
-        assert_eq!(rt; fault, Some(StreamFault::Stream(Scan::PictureType(11, 5))));
+    let rows: [(&[u8], usize, Scan); 3] = [
+        (&stream, 1, Scan::PictureType(11, 5)),
+        (&stream, 44, Scan::PictureType(11, 5)),
+        (&[], 1, Scan::Empty),
+    ];
+    for (stream, portion, scan) in rows {
+        let fault = plan_of(rt.alloc(), &priority, stream, portion).err();
+        assert_eq!(rt; fault, Some(StreamFault::Stream(scan)));
     }
-    let fault = plan_of(rt.alloc(), &priority, &[], 1).err();
-    assert_eq!(rt; fault, Some(StreamFault::Stream(Scan::Empty)));
     Ok(())
 }
 
@@ -116,27 +100,25 @@ fn reads_the_example_files(rt: HostRuntime) -> Result<(), Fail> {
 #[test]
 fn refuses_the_priority_file_first(rt: HostRuntime) -> Result<(), Fail> {
     let alloc = rt.alloc();
-    let priorities = PRIORITIES.as_bytes();
-    let text = SourceFault::Priority(PriorityFault::Text);
-    assert_eq!(rt; fault_of(alloc, &STREAM, b"packets"), Some(text));
-    assert_eq!(rt; fault_of(alloc, &[], b"packets"), Some(text));
-    assert_eq!(rt;
-        fault_of(alloc, &[], priorities),
-        Some(SourceFault::Stream(Scan::Empty))
-    );
     // a comment that makes a file of 65,536 bytes, and of one more
-    let mut long = Vec::from_slice(alloc, priorities)?;
-    long.push(b'#')?;
-    long.resize(65_536, b' ')?;
-    assert_eq!(rt;
-        fault_of(alloc, &[], &long),
-        Some(SourceFault::Stream(Scan::Empty))
-    );
-    long.push(b' ')?;
-    assert_eq!(rt;
-        fault_of(alloc, &[], &long),
-        Some(SourceFault::Priority(PriorityFault::Long))
-    );
+    let mut longest = Vec::from_slice(alloc, PRIORITIES.as_bytes())?;
+    longest.push(b'#')?;
+    longest.resize(65_536, b' ')?;
+    let mut longer = longest.clone()?;
+    longer.push(b' ')?;
+    let text = SourceFault::Priority(PriorityFault::Text);
+    let long = SourceFault::Priority(PriorityFault::Long);
+    let empty = SourceFault::Stream(Scan::Empty);
+    let rows: [(&[u8], &[u8], SourceFault); 5] = [
+        (&STREAM, b"packets", text),
+        (&[], b"packets", text),
+        (&[], PRIORITIES.as_bytes(), empty),
+        (&[], &longest, empty),
+        (&[], &longer, long),
+    ];
+    for (stream, priorities, fault) in rows {
+        assert_eq!(rt; fault_of(alloc, stream, priorities), Some(fault));
+    }
     Ok(())
 }
 

@@ -1,12 +1,12 @@
 //! The example stream under the example priorities, and the limits.
 use super::*;
-use arrayvec::{ArrayString, ArrayVec};
+use crate::fixtures::{is_example, priority_of, three_layers};
 use mpeg_scan::Piece;
-use pet_base::{Kind, MAX_LAYERS, NoMemory};
-use priority_file::{KindSet, LayerRule, Priority};
+use pet_base::{Kind, NoMemory};
+use priority_file::Priority;
 use std::alloc::Global;
 use std::test::Fail;
-use stripe_plan::{LayerSize, Table};
+use stripe_plan::Table;
 
 fn piece(kind: Kind, code: u8, at: u64, len: u64) -> Piece {
     Piece {
@@ -15,30 +15,6 @@ fn piece(kind: Kind, code: u8, at: u64, len: u64) -> Piece {
         at,
         len,
     }
-}
-
-fn rule(bits: u8, need: u16) -> LayerRule {
-    LayerRule {
-        name: ArrayString::new(),
-        kinds: KindSet { bits },
-        need,
-    }
-}
-
-/// Heads, I and D pictures in layer 0, P pictures in layer 1, B pictures in layer 2.
-fn three_layers(packets: u16, needs: [u16; 3]) -> Option<Priority> {
-    let mut layers: ArrayVec<LayerRule, MAX_LAYERS> = ArrayVec::new();
-    layers.push(rule(19, needs[0]));
-    layers.push(rule(4, needs[1]));
-    layers.push(rule(8, needs[2]));
-    Priority::new(packets, layers)
-}
-
-/// One layer of all kinds that each packet shows.
-fn one_layer(packets: u16) -> Option<Priority> {
-    let mut layers: ArrayVec<LayerRule, MAX_LAYERS> = ArrayVec::new();
-    layers.push(rule(31, 1));
-    Priority::new(packets, layers)
 }
 
 fn add_all(planner: &mut Planner, pieces: &[Piece]) -> Result<(), NoMemory> {
@@ -89,20 +65,7 @@ fn gives_the_table_of_the_example_stream(rt: HostRuntime) -> Result<(), Fail> {
     ];
     assert!(rt; add_all(&mut planner, &pieces).is_ok());
     let tables = planner.finish().expect(&rt, "tables");
-    let layers = [
-        LayerSize {
-            length: 46,
-            need: 2,
-        },
-        LayerSize { length: 7, need: 3 },
-        LayerSize {
-            length: 15,
-            need: 5,
-        },
-    ];
-    assert_eq!(rt; tables.len(), 1);
-    assert_eq!(rt; tables[0].packets(), 6);
-    assert_eq!(rt; tables[0].layers(), layers.as_slice());
+    assert!(rt; is_example(&tables));
     Ok(())
 }
 
@@ -110,48 +73,42 @@ fn gives_the_table_of_the_example_stream(rt: HostRuntime) -> Result<(), Fail> {
 fn refuses_a_datagram_of_one_byte_too_many(rt: HostRuntime) -> Result<(), Fail> {
     let priority = three_layers(1, [1, 1, 1]).expect(&rt, "a priority");
     // 32,474 words fit, and one more does not. A group that is too long comes before one that is too wide.
-    assert_eq!(rt; fault_of(rt.alloc(), &priority, &[64_935]), None);
-    assert_eq!(rt;
-        fault_of(rt.alloc(), &priority, &[64_936]),
-        Some(SessionFault::TooWide(0))
-    );
-    assert_eq!(rt;
-        fault_of(rt.alloc(), &priority, &[5, 64_936, 5, 64_936]),
-        Some(SessionFault::TooWide(1))
-    );
-    assert_eq!(rt;
-        fault_of(rt.alloc(), &priority, &[64_936, 4_194_291]),
-        Some(SessionFault::TooWide(0))
-    );
-    assert_eq!(rt;
-        fault_of(rt.alloc(), &priority, &[64_936, 4_194_292, 5]),
-        Some(SessionFault::GroupTooLong(1))
-    );
+    let rows: [(&[u64], Option<SessionFault>); 5] = [
+        (&[64_935], None),
+        (&[64_936], Some(SessionFault::TooWide(0))),
+        (&[5, 64_936, 5, 64_936], Some(SessionFault::TooWide(1))),
+        (&[64_936, 4_194_291], Some(SessionFault::TooWide(0))),
+        (&[64_936, 4_194_292, 5], Some(SessionFault::GroupTooLong(1))),
+    ];
+    for (pictures, fault) in rows {
+        assert_eq!(rt;
+            fault_of(rt.alloc(), &priority, pictures),
+            fault,
+            "{pictures:?}"
+        );
+    }
     Ok(())
 }
 
 #[test]
 fn refuses_a_session_of_one_byte_too_many(rt: HostRuntime) -> Result<(), Fail> {
-    let priority = one_layer(1_024).expect(&rt, "a priority");
-    let mut pictures = [64_947; 10];
-    // Eight groups of 1,024 datagrams of 64,999 bytes fit, and nine do not. With the last two the limit is met exactly.
-    assert_eq!(rt; fault_of(rt.alloc(), &priority, &pictures[..8]), None);
-    assert_eq!(rt;
-        fault_of(rt.alloc(), &priority, &pictures),
-        Some(SessionFault::TooLarge(8))
-    );
-    pictures[9] = 64_948;
-    assert_eq!(rt;
-        fault_of(rt.alloc(), &priority, &pictures),
-        Some(SessionFault::TooWide(9))
-    );
-    pictures[8] = 4_187;
-    pictures[9] = 5;
-    assert_eq!(rt; fault_of(rt.alloc(), &priority, &pictures), None);
-    pictures[9] = 6;
-    assert_eq!(rt;
-        fault_of(rt.alloc(), &priority, &pictures),
-        Some(SessionFault::TooLarge(9))
-    );
+    let priority = priority_of(1_024, &[(31, 1)]).expect(&rt, "a priority");
+    // Eight groups of 1,024 datagrams of 64,999 bytes fit, and nine do not. With 4,187 and 5 the limit is met exactly.
+    let rows: [(&[u64], Option<SessionFault>); 5] = [
+        (&[], None),
+        (&[64_947, 64_947], Some(SessionFault::TooLarge(8))),
+        (&[64_947, 64_948], Some(SessionFault::TooWide(9))),
+        (&[4_187, 5], None),
+        (&[4_187, 6], Some(SessionFault::TooLarge(9))),
+    ];
+    for (more, fault) in rows {
+        let mut pictures = Vec::from_slice(rt.alloc(), &[64_947; 8])?;
+        pictures.extend_from_slice(more)?;
+        assert_eq!(rt;
+            fault_of(rt.alloc(), &priority, &pictures),
+            fault,
+            "{more:?}"
+        );
+    }
     Ok(())
 }
