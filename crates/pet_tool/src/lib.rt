@@ -29,12 +29,12 @@ pub use top::run;
 #[cfg(test)]
 mod fixtures;
 #[cfg(test)]
+mod plan_tests;
+#[cfg(test)]
+mod receive_tests;
+#[cfg(test)]
 mod second_tests;
 #[cfg(test)]
 mod send_tests;
-#[cfg(test)]
-mod sender_tests;
-#[cfg(test)]
-mod tests;
 #[cfg(test)]
 mod untold_place;
