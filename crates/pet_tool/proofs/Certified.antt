@@ -1,5 +1,5 @@
 -- The lists of a plan file are certificates of a session's groups, or not.
-use Rattle.std.proofs.Common.{◌≡◌, ◌≢◌, ℕ, ◌+◌, ◌<◌, ◌≤◌, Bool, false, List, [], length, map, Option, Some, None, refl, sym, ap, subst, ◌∙◌, arith, inl, inr}
+use Rattle.std.proofs.Common.{◌≡◌, ◌≢◌, ℕ, ◌+◌, ◌<◌, ◌≤◌, Bool, false, List, [], length, map, Option, Some, refl, sym, ap, subst, ◌∙◌, arith, inl, inr}
 use Rattle.std.specs.Prelude.{IsTrue, ◌↔◌, slice_get, option_map, Result, Ok, Err, IfOk, IfErr, IsErrAnd}
 use Rattle.std.proofs.Common.{get_or}
 use Rattle.std.proofs.lemmas.Bool.{cases_lt}
@@ -11,14 +11,12 @@ use Rattle.stream_session.specs.Inputs.{IsFile}
 use Rattle.stream_session.specs.declared.fault.SessionFault.TheVariants as session
 use Rattle.stream_session.specs.declared.source.SourceFault.TheVariants as source
 use Rattle.pet_text.specs.declared.status.Status.TheVariants.{NoMemory}
-use Rattle.pet_text.specs.declared.words.Command.{Command}
-use Rattle.pet_text.specs.declared.words.Command.TheVariants.{Plan, Check, Send, Receive}
 use Rattle.pet_text.specs.Lines.{fault_text}
 use Rattle.pet_tool.specs.Reports.{Prints}
 use Rattle.pet_text.specs.declared.plan_file.Repeat.{Repeat}
 use Rattle.pet_tool.specs.declared.check.CheckFault.{CheckFault}
 use Rattle.pet_tool.specs.declared.check.CheckFault.TheVariants as check
-use Rattle.pet_tool.specs.Check.{IsLeastAt, AreLeast, IsFirstNotLeast, HasPlanFile, Lists, IsCheckFault, IsCertified, CheckTells, Checks, ForCheck, status_of_check, tables_of_files}
+use Rattle.pet_tool.specs.Check.{IsLeastAt, AreLeast, IsFirstNotLeast, HasPlanFile, Lists, IsCheckFault, IsCertified, CheckTells, Checks, status_of_check, tables_of_files}
 use Rattle.pet_tool.specs.Checking.{HasLists, HasNoLists, AreNotLeast}
 use Rattle.pet_tool.specs.Least.{IsLeast}
 use Rattle.pet_tool.specs.Sources.{HasSession, tables_in}

@@ -1,5 +1,5 @@
 -- What `send` tells at its end, and that it is done wherever no cause of another status holds.
-use Rattle.std.proofs.Common.{◌≡◌, ◌≢◌, ℕ, ◌+◌, ◌*◌, ◌≤◌, false, List, [], ◌++◌, length, take, Option, Some, None, refl, sym, ap, subst, ◌∙◌, arith, inl, inr}
+use Rattle.std.proofs.Common.{◌≡◌, ℕ, ◌+◌, ◌*◌, ◌≤◌, false, List, [], ◌++◌, length, Option, Some, None, refl, sym, ap, subst, ◌∙◌, arith, inl, inr}
 use Rattle.std.proofs.lemmas.List.{append-nil}
 use Rattle.std.specs.Prelude.{◌⊎◌, option_map, Result, Ok, Err, OnErr}
 use Rattle.std.specs.List.{sum_by}
@@ -14,7 +14,7 @@ use Rattle.stream_session.specs.declared.fault.SessionFault.TheVariants as sessi
 use Rattle.stream_session.specs.declared.mark.GroupMark.{GroupMark}
 use Rattle.stream_session.specs.declared.source.Source.{Source}
 use Rattle.stream_session.specs.declared.source.SourceFault.TheVariants as source
-use Rattle.stream_session.specs.Inputs.{IsFile, IsRead}
+use Rattle.stream_session.specs.Inputs.{IsFile}
 use Rattle.stream_session.specs.Marks.{marks_of}
 use Rattle.stream_session.specs.Number.{session_number}
 use Rattle.stream_session.specs.Sources.{IsSource}
@@ -32,12 +32,12 @@ use Rattle.pet_tool.specs.declared.send.SendFault.{SendFault}
 use Rattle.pet_tool.specs.declared.send.SendFault.TheVariants as fault
 use Rattle.pet_tool.specs.declared.sent_group.Change.{Change}
 use Rattle.pet_tool.specs.Reading.{IsPrefix, PutsPart}
-use Rattle.pet_tool.specs.Reports.{Prints, Reports}
-use Rattle.pet_tool.specs.Send.{session_datagrams, sent_line_text, HasSent, LeavesSent, IsOfSent, Costs, HasChanged, IsSendFault, status_of_send, SendTells, Sends, ForSend, CanSend, SendsSession}
+use Rattle.pet_tool.specs.Reports.{Prints}
+use Rattle.pet_tool.specs.Send.{session_datagrams, sent_line_text, HasSent, LeavesSent, Costs, IsSendFault, status_of_send, SendTells, Sends, ForSend, CanSend, SendsSession}
 use Rattle.pet_tool.specs.declared.second.SendStop.{SendStop}
 use Rattle.pet_tool.specs.declared.second.SendStop.TheVariants as stopped
 use Rattle.pet_tool.specs.Sending.{words_cost, IsLeastChange, IsFirstPass, IsSendStop, IsToldStop, SentPart}
-use Rattle.pet_tool.specs.SendParts.{IsOfReopened, SessionSent, SessionLeft, SessionStops}
+use Rattle.pet_tool.specs.SendParts.{SessionSent, SessionLeft, SessionStops}
 use Rattle.pet_tool.specs.Sources.{HasSession, tables_in, status_of_source}
 use Rattle.pet_tool.proofs.Reporting.{priority_is, stream_is, no_fault}
 

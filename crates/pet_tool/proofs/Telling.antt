@@ -10,7 +10,7 @@ use Rattle.pet_base.specs.Seen.{Seen, HadFault}
 use Rattle.pet_text.specs.declared.status.Status.{Status}
 use Rattle.pet_text.specs.declared.status.Status.TheVariants.{NoMemory}
 use Rattle.pet_text.specs.declared.words.Command.{Command}
-use Rattle.pet_text.specs.declared.words.Command.TheVariants.{Plan, Check, Send, Receive}
+use Rattle.pet_text.specs.declared.words.Command.TheVariants.{Receive}
 use Rattle.pet_text.specs.declared.words.End.{End}
 use Rattle.pet_text.specs.declared.words.End.TheVariants.{File}
 use Rattle.pet_text.specs.Lines.{fault_text}

@@ -1,5 +1,5 @@
 -- What the parts of `send` do: the files are opened again, and the groups of the stream are sent. This project's own.
-use Rattle.std.specs.Prelude.{◌≡◌, ◌⊎◌, ℕ, List, [], true, Option, None, option_map}
+use Rattle.std.specs.Prelude.{◌≡◌, ◌⊎◌, ℕ, List, [], true, None, option_map}
 use Rattle.pet_base.specs.declared.place.Side.TheVariants.{Written}
 use Rattle.pet_base.specs.Seen.{Seen, Blame, Names, HadFault, bytes_at, with_file}
 use Rattle.stream_session.specs.declared.mark.GroupMark.{GroupMark}

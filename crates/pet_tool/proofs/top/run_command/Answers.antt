@@ -1,7 +1,3 @@
-use Rattle.std.proofs.Common.{List, ℕ, Some, ap, sym, subst, ◌∙◌}
-use Rattle.pet_text.specs.declared.words.Command.{Command}
-use Rattle.pet_text.specs.declared.words.Command.TheVariants.{Receive}
-use Rattle.pet_text.specs.declared.words.End.{End}
 use Rattle.pet_tool.specs.Send.{Costs}
 use Rattle.pet_tool.proofs.Sent.{differs_in, for_sent}
 use Rattle.pet_tool.proofs.Telling.{receives_in}
