@@ -94,6 +94,7 @@ impl<'f, F: Field> Receiver<'f, F> {
         match read_frame(datagram) {
             Ok(frame) => self.take(&frame, steps),
             Err(_) => {
+                // A field is touched, so that what the type promises of itself is known here.
                 let _ = &self.told;
                 Ok(Verdict::Damaged)
             }
@@ -155,6 +156,7 @@ impl<'f, F: Field> Receiver<'f, F> {
     pub fn kept(&self) -> u32
         ensures { result ≡ kept_in_all (kept_set self.now) }
     {
+        // As in `accept`.
         let _ = &self.told;
         total_kept(&self.groups)
     }
@@ -163,6 +165,7 @@ impl<'f, F: Field> Receiver<'f, F> {
     pub fn shown(&self) -> u32
         ensures { result ≡ shown_in_all (kept_set self.now) }
     {
+        // As in `accept`.
         let _ = &self.told;
         total_shown(&self.groups)
     }
