@@ -6,12 +6,15 @@
 //! the packets of a whole session. `packet` appends exactly the text of that frame, counts at most one step for each
 //! word of the table, and leaves what it appends to as it was where it finds no memory. All of this holds over any
 //! lawful field of words of two bytes that has a point for each packet. `specs/SessionLaws.antt` says that the list of a
-//! session's packets has each of them and nothing else, and that each is a frame.
+//! session's packets has each of them and nothing else, and that each is a frame. `group_cost` is what a group's packets
+//! take of the bytes that a session may have.
 #![tactic(auto)]
 
+mod cost;
 mod encoder;
 mod payload;
 
+pub use cost::group_cost;
 pub use encoder::Encoder;
 
 #[cfg(test)]

@@ -2,14 +2,14 @@
 ghost use Rattle.std.specs.Prelude.{◌≡◌, ℕ, ◌+◌, ◌^◌, ◌<◌, ◌≤◌, ◌&&◌, nat_lt, nat_le, cond, length};
 ghost use Rattle.stripe_plan.specs.Layers.{count_of};
 ghost use Rattle.packet_frame.specs.View.{view};
-ghost use Rattle.pet_encode.specs.Session.{cost_of};
 ghost use Rattle.pet_receive.specs.Verdicts.{layer_set, shown_between};
 ghost use Rattle.pet_receive.specs.Receiving.{verdict_in, verdict_new};
 
 use crate::verdict::{LayerSet, Verdict};
 use packet_frame::Frame;
 use packet_set::PacketSet;
-use stripe_plan::{Table, count, datagram_length};
+use pet_encode::group_cost;
+use stripe_plan::{Table, count};
 
 /// The verdict where the group is open.
 pub(crate) fn judge_in(packets: &PacketSet, frame: &Frame<'_>) -> Verdict
@@ -39,13 +39,6 @@ pub(crate) fn judge_new(frame: &Frame<'_>, limit: u64, cost: u64) -> Verdict
         return Verdict::Full;
     }
     Verdict::Kept(shown_next(&frame.header.table, 0))
-}
-
-/// Packets times datagram length.
-pub(crate) fn group_cost(table: &Table) -> u64
-    ensures { result ≡ cost_of table.now.packets table.now.layers }
-{
-    u64::from(table.packets()) * u64::from(datagram_length(table))
 }
 
 /// The layers that are shown by one packet more than `before`, and were not by those.

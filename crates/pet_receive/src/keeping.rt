@@ -14,9 +14,9 @@ ghost use Rattle.pet_receive.specs.Arrivals.{GroupState, HoldsAfter, stripe_leng
 ghost use Rattle.pet_receive.specs.Receiving.{IsReadyFor, HasGrown};
 
 use crate::group::OpenGroup;
-use crate::judge::group_cost;
 use packet_frame::{Frame, Header};
 use pet_base::{NoMemory, Steps};
+use pet_encode::group_cost;
 use pet_field::Field;
 use std::alloc::Global;
 use std::collections::BTreeMap;

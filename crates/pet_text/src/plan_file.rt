@@ -3,7 +3,7 @@ ghost use Rattle.std.specs.Prelude.{◌≡◌, ◌≢◌, ℕ, ◌+◌, ◌-◌,
 ghost use Rattle.pet_text.specs.PlanFile.{split_at, lines_of, lists_of, is_digit, value_of, number_of, repeat_in, repeats_in, behind_lengths, with_line, behind_lists, IsRefused};
 
 use pet_base::NoMemory;
-use std::alloc::{AllocError, AllocFailed, Global};
+use std::alloc::{AllocFailed, Global};
 
 /// Stripes on end of one length.
 #[derive(Clone, Copy, Debug, PartialEq, Eq)]
@@ -21,16 +21,6 @@ pub enum PlanFault {
     Text(u64),
     /// There was no memory for the lists.
     NoMemory,
-}
-
-impl From<AllocError> for PlanFault {
-    ghost use Rattle.pet_text.specs.declared.plan_file.PlanFault.TheVariants.{NoMemory};
-
-    ghost from_gives = { λ _ fault. fault ≡ NoMemory };
-
-    fn from(_e: AllocError) -> PlanFault {
-        PlanFault::NoMemory
-    }
 }
 
 impl From<NoMemory> for PlanFault {

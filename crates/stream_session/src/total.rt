@@ -1,11 +1,12 @@
 //! The group with which a session is too large.
-ghost use Rattle.std.specs.Prelude.{◌≡◌, ◌<◌, ◌≤◌, ◌*◌, map};
+ghost use Rattle.std.specs.Prelude.{◌≡◌, map};
 ghost use Rattle.pet_base.specs.declared.limits.TheConstants.{MAX_SESSION};
 ghost use Rattle.stream_session.specs.Refusals.{first_above};
 ghost use Rattle.stream_session.specs.Planning.{table_cost};
 
 use pet_base::MAX_SESSION;
-use stripe_plan::{Table, datagram_length};
+use pet_encode::group_cost;
+use stripe_plan::Table;
 
 /// The first group with which the packets of these tables, times their datagram lengths, pass the bytes of a session.
 pub fn first_too_large(tables: &[Table]) -> Option<u32>
@@ -13,19 +14,10 @@ pub fn first_too_large(tables: &[Table]) -> Option<u32>
 {
     let mut total = 0;
     for group in 0..tables.len() {
-        total += cost(&tables[group]);
+        total += group_cost(&tables[group]);
         if total > MAX_SESSION {
             return Some(group as u32);
         }
     }
     None
-}
-
-/// The bytes of a group's packets.
-fn cost(table: &Table) -> u64
-    ensures cost { result ≡ table_cost table.now }
-    ensures some { 0 < result }
-    ensures few { result ≤ 1024 * 65000 }
-{
-    u64::from(table.packets()) * u64::from(datagram_length(table))
 }

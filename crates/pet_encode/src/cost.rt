@@ -1,0 +1,14 @@
+//! The cost of a group.
+ghost use Rattle.std.specs.Prelude.{◌≡◌, ◌*◌, ◌<◌, ◌≤◌};
+ghost use Rattle.pet_encode.specs.Session.{cost_of};
+
+use stripe_plan::{Table, datagram_length};
+
+/// The bytes of all packets of a group with this table: packets times datagram length, at most 66,560,000.
+pub fn group_cost(table: &Table) -> u64
+    ensures value { result ≡ cost_of table.now.packets table.now.layers }
+    ensures some { 0 < result }
+    ensures few { result ≤ 1024 * 65000 }
+{
+    u64::from(table.packets()) * u64::from(datagram_length(table))
+}
