@@ -2,6 +2,7 @@
 use Rattle.std.specs.Prelude.{Bool, ◌&&◌, ◌||◌, List, [], ◌∷◌, ◌++◌, ◌==◌, if◌then◌else◌}
 use Rattle.std.specs.List.{list_any}
 use Rattle.mpeg_scan.specs.declared.piece.Piece.{Piece}
+use Rattle.mpeg_scan.specs.Pieces.{but_last}
 
 abbrev pub is_picture : Piece → Bool
 is_picture piece = piece.code == 0x00
@@ -32,3 +33,7 @@ last_from group (next ∷ later) = last_from next later
 
 abbrev pub last_group : List Piece → List Piece
 last_group pieces = last_from [] (groups_of pieces)
+
+-- the groups that have ended, which they do where the next begins: of pieces to which more come, the last has not
+abbrev pub ended_groups : List Piece → List (List Piece)
+ended_groups pieces = but_last (groups_of pieces)

@@ -1,5 +1,5 @@
 -- Where a splitter stands to which pieces were added (this project's own).
-use Rattle.std.specs.Prelude.{◌≡◌, ℕ, ◌+◌, ◌-◌, ◌<◌, ◌≤◌, ◌⊎◌, Bool, List, [], ◌∷◌, ◌++◌, length, map, Option, Some, None, All, ◌==◌, not, false, if◌then◌else◌}
+use Rattle.std.specs.Prelude.{◌≡◌, ℕ, ◌+◌, ◌-◌, ◌<◌, ◌≤◌, ◌⊎◌, Bool, List, [], ◌∷◌, ◌++◌, length, map, Option, Some, None, All, ◌==◌, not, true, false, if◌then◌else◌}
 use Rattle.std.specs.List.{list_any, sum_by}
 use Rattle.pet_base.specs.declared.kind.Kind.{Kind}
 use Rattle.pet_base.specs.declared.kind.Kind.TheVariants.{Head, I, P, B, D}
@@ -10,7 +10,7 @@ use Rattle.layer_split.specs.declared.cut.Run.{Run}
 use Rattle.layer_split.specs.declared.fault.SplitFault.{SplitFault}
 use Rattle.layer_split.specs.declared.kind_layers.KindLayers.{KindLayers}
 use Rattle.layer_split.specs.declared.splitter.Splitter.{Splitter}
-use Rattle.layer_split.specs.Groups.{groups_of, groups_from, is_picture}
+use Rattle.layer_split.specs.Groups.{groups_of, groups_from, last_group, is_picture, begins_group}
 use Rattle.layer_split.specs.Runs.{runs_of, both}
 use Rattle.layer_split.specs.Layers.{Cut, cut_of, run_table_size}
 use Rattle.layer_split.specs.Faults.{is_too_long}
@@ -81,6 +81,11 @@ pub record HasAdded (splitter : Splitter) (priority : Priorities) (pieces : List
   pub few : length gone < MAX_GROUPS
   pub picture : splitter.has_picture ≡ list_any is_picture current
   pub held : Holds splitter (layer_of priority) current
+
+-- The piece would begin another group, and the one before it is too long, or there are as many as may be.
+pub record IsOneTooMany (priority : Priorities) (pieces : List Piece) (piece : Piece) : Type 0 where
+  pub begins : begins_group (last_group pieces) piece ≡ true
+  pub last : (is_too_long (layer_of priority) (length priority.layers) (last_group pieces) ≡ true) ⊎ (length (groups_of pieces) ≡ MAX_GROUPS)
 
 -- the splitter has refused with this
 abbrev pub HasRefused : Splitter → SplitFault → Type 0

@@ -4,3 +4,4 @@ pub mod Pieces
 pub mod Scanning
 pub mod Moves
 pub mod StandingLaws
+pub mod EndedLaws

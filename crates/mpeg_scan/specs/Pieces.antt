@@ -37,6 +37,17 @@ pieces_at stream (p ∷ later) = pieces_from stream p 0 later
 abbrev pub pieces_of : List ℕ → List Piece
 pieces_of stream = pieces_at stream (openers stream)
 
+-- all but the last
+abbrev pub but_last : {A : Type 0} → List A → List A
+but_last [] = []
+but_last (x ∷ []) = []
+but_last (x ∷ y ∷ later) = x ∷ but_last (y ∷ later)
+
+-- The pieces that have ended, which they do where the next opener stands: of what was read of a stream that goes on, the
+-- last has not.
+abbrev pub ended_pieces : List ℕ → List Piece
+ended_pieces stream = but_last (pieces_of stream)
+
 -- the pieces stand on end from one byte to another, and none is empty
 abbrev pub StandOnEnd : ℕ → List Piece → ℕ → Type 0
 StandOnEnd from [] to = from ≡ to

@@ -1,6 +1,6 @@
 -- What is refused as a stream, and at which byte that is decided (this project's own, over the start codes of ISO/IEC 11172-2). The end
 -- counts as the byte behind the last.
-use Rattle.std.specs.Prelude.{◌≡◌, ℕ, ◌+◌, ◌-◌, ◌<◌, ◌≤◌, Bool, false, not, ◌&&◌, ◌||◌, ◌⊎◌, List, length, slice_index, IsTrue, ◌==◌, nat_lt, nat_le, if◌then◌else◌}
+use Rattle.std.specs.Prelude.{◌≡◌, ℕ, ◌+◌, ◌-◌, ◌<◌, ◌≤◌, Bool, false, not, ◌&&◌, ◌||◌, ◌⊎◌, List, ◌++◌, length, slice_index, IsTrue, ◌==◌, nat_lt, nat_le, if◌then◌else◌}
 use Rattle.std.specs.List.{prefix_len}
 use Rattle.pet_base.specs.declared.limits.TheConstants.{MAX_STREAM}
 use Rattle.mpeg_scan.specs.declared.refusal.Scan.{Scan}
@@ -57,3 +57,7 @@ pub record Refuses (stream : List ℕ) (scan : Scan) : Type 0 where
 -- a stream without a refusal
 abbrev pub IsAccepted : List ℕ → Type 0
 IsAccepted stream = (scan : Scan) → holds stream scan ≡ false
+
+-- nothing of the stream is refused so far: each refusal, however it goes on, is decided behind what was read
+abbrev pub IsUndecided : List ℕ → Type 0
+IsUndecided stream = (rest : List ℕ) (scan : Scan) → IsTrue (holds (stream ++ rest) scan) → length stream ≤ decided_at (stream ++ rest) scan

@@ -7,8 +7,8 @@ use Rattle.mpeg_scan.specs.declared.refusal.Scan.{Scan}
 use Rattle.mpeg_scan.specs.declared.piece.Piece.{Piece}
 use Rattle.mpeg_scan.specs.declared.scanner.Scanner.{Scanner}
 use Rattle.mpeg_scan.specs.StartCodes.{is_opener, code_at}
-use Rattle.mpeg_scan.specs.Refusals.{holds, decided_at, max_stream, has_head}
-use Rattle.mpeg_scan.specs.Pieces.{openers, kind_at, pieces_from, pieces_of, StandOnEnd}
+use Rattle.mpeg_scan.specs.Refusals.{decided_at, max_stream, has_head, IsUndecided}
+use Rattle.mpeg_scan.specs.Pieces.{openers, kind_at, pieces_from, pieces_of, ended_pieces, StandOnEnd}
 
 -- the byte that stands j bytes before the end, or 255 where the stream is shorter
 unfoldable pub back : List ℕ → ℕ → ℕ
@@ -52,8 +52,18 @@ pub record HasRead (scanner : Scanner) (stream : List ℕ) (given : List Piece) 
   pub back3 : scanner.back3 ≡ back stream 3
   pub back4 : scanner.back4 ≡ back stream 4
   pub back5 : scanner.back5 ≡ back stream 5
-  pub undecided : (rest : List ℕ) (scan : Scan) → IsTrue (holds (stream ++ rest) scan) → length stream ≤ decided_at (stream ++ rest) scan
+  pub undecided : IsUndecided stream
   pub place : MatchBool scanner.opened (InPiece scanner stream given) (InFront scanner stream given)
+
+-- The stream is refused with this, which the byte behind these decides however it goes on, and what was given are the
+-- pieces that had ended before.
+pub record HasStopped (stream : List ℕ) (scan : Scan) (given : List Piece) : Type 0 where
+  pub before : List ℕ
+  pub behind : List ℕ
+  pub parts : stream ≡ before ++ behind
+  pub decided : (rest : List ℕ) → decided_at (stream ++ rest) scan ≡ length before
+  pub undecided : IsUndecided before
+  pub ended : given ≡ ended_pieces before
 
 -- the scanner has refused with this
 abbrev pub HasRefused : Scanner → Scan → Type 0
