@@ -6,4 +6,3 @@ pub mod Splitting
 pub mod Bytes
 pub mod RunTable
 pub mod CutLaws
-pub mod EndedLaws

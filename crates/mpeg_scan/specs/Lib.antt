@@ -4,4 +4,3 @@ pub mod Pieces
 pub mod Scanning
 pub mod Moves
 pub mod StandingLaws
-pub mod EndedLaws

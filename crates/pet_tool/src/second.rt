@@ -6,7 +6,7 @@ ghost use Rattle.pet_base.specs.declared.place.Side.TheVariants.{Read, Written};
 ghost use Rattle.pet_base.specs.Causes.{Blames};
 ghost use Rattle.pet_base.specs.Seen.{Seen, OnlyWrites, KeepsNames, HadFault};
 ghost use Rattle.stream_session.specs.CutGroups.{CutGroup};
-ghost use Rattle.stream_session.specs.Cutting.{HaveEnded, cut_groups, pieces_left};
+ghost use Rattle.stream_session.specs.Cutting.{AreFirst, cut_groups};
 ghost use Rattle.stream_session.specs.Accepted.{session_of};
 ghost use Rattle.stream_session.specs.FilledLaws.{IsFilled};
 ghost use Rattle.stream_session.specs.FittingLaws.{IsWhole};
@@ -186,7 +186,7 @@ fn read_on<P: Place, L: Ledger>(
     ensures stands { IfOk result (λ after. (stream : List ℕ) (first : Seen) → Stands source.now marks.now stream change pass.old first (P.seen place.old)
         → Stands source.now marks.now (stream ++ portion.now) after pass.new first (P.seen place.new)) }
     ensures part { OnErr result ((stream : List ℕ) (first : Seen) → Stands source.now marks.now stream change pass.old first (P.seen place.old)
-        → IsPart source.now marks.now (HaveEnded source.now.priority (stream ++ portion.now)) first (P.seen place.new)) }
+        → IsPart source.now marks.now (AreFirst source.now.priority (stream ++ portion.now)) first (P.seen place.new)) }
     ensures others { OnlyWrites (P.seen place.old) (P.seen place.new) }
     ensures later { (P.seen place.old).faults ≤ (P.seen place.new).faults }
     ensures cause { IfErr result (Licensed (HadFault (P.seen place.old) (P.seen place.new) (Blames Written (P.seen place.old).target))) }
@@ -216,7 +216,7 @@ fn send_ended<P: Place, L: Ledger>(
     ensures stands { IfOk result (λ after. (stream : List ℕ) (first : Seen) → HasGone source.now marks.now stream pass.old first (P.seen place.old)
         → Stands source.now marks.now stream after pass.new first (P.seen place.new)) }
     ensures part { OnErr result ((stream : List ℕ) (first : Seen) → HasGone source.now marks.now stream pass.old first (P.seen place.old)
-        → IsPart source.now marks.now (HaveEnded source.now.priority stream) first (P.seen place.new)) }
+        → IsPart source.now marks.now (AreFirst source.now.priority stream) first (P.seen place.new)) }
     ensures others { OnlyWrites (P.seen place.old) (P.seen place.new) }
     ensures later { (P.seen place.old).faults ≤ (P.seen place.new).faults }
     ensures cause { IfErr result (Licensed (HadFault (P.seen place.old) (P.seen place.new) (Blames Written (P.seen place.old).target))) }

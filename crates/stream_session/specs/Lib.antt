@@ -15,7 +15,6 @@ pub mod StandingLaws
 pub mod Marks
 pub mod Marking
 pub mod CuttingLaws
-pub mod EndedLaws
 pub mod FittingLaws
 pub mod FilledLaws
 pub mod MarkLaws

@@ -9,7 +9,7 @@ ghost use Rattle.layer_split.specs.Groups.{groups_of};
 ghost use Rattle.layer_split.specs.Faults.{fault_of};
 ghost use Rattle.layer_split.specs.Splitting.{rebased};
 ghost use Rattle.stream_session.specs.CutGroups.{CutGroup};
-ghost use Rattle.stream_session.specs.Cutting.{HasCut, HasLooked, HasEnded, AreAll, IsCuttable, NoneFurther, KeepsPieces, KeepsPending, Ends, cut_groups, group_from, groups_in, pieces_left};
+ghost use Rattle.stream_session.specs.Cutting.{HasCut, HasLooked, HasEnded, AreAll, IsCuttable, KeepsPieces, KeepsPending, Ends, cut_groups, group_from, groups_in, pieces_left};
 
 use layer_split::{GroupCut, SplitFault, Splitter};
 use mpeg_scan::{Piece, Scan, Scanner};
@@ -120,9 +120,6 @@ impl GroupCutter {
             → HasCut self.old priority stream given → AreAll priority stream (given ++ left.items))) }
         ensures refused { IfOk result (λ groups. IfNone groups ((priority : Priorities) (stream : List ℕ) (given : List CutGroup)
             → HasCut self.old priority stream given → IsCuttable priority stream → ⊥)) }
-        // Where all that was read was looked at, every group that had ended before the refusal was given.
-        ensures further { IfOk result (λ groups. IfNone groups ((priority : Priorities) (stream : List ℕ) (given : List CutGroup)
-            → HasCut self.old priority stream given → pieces_left self.old ≡ 0 → NoneFurther priority stream given)) }
     {
         if self.refused {
             return Ok(None);
