@@ -1,21 +1,20 @@
 -- What the end of the stream decides, and its last piece.
-use Rattle.std.proofs.Common.{◌≡◌, ◌≢◌, ℕ, zero, suc, ◌+◌, ◌-◌, ◌<◌, ◌≤◌, Bool, true, false, List, [], ◌∷◌, ◌++◌, length, get_or, refl, sym, ◌∙◌, ap, subst, arith, ◌||◌, ◌⊎◌, inl, inr}
+use Rattle.std.proofs.Common.{◌≡◌, ◌≢◌, ℕ, ◌+◌, ◌-◌, ◌<◌, ◌≤◌, Bool, true, false, List, [], ◌∷◌, ◌++◌, length, get_or, refl, sym, ◌∙◌, ap, subst, arith, ◌||◌, ◌⊎◌, inl, inr}
 use Rattle.std.specs.Prelude.{Some, None, nat_lt, nat_le, ◌==◌, slice_index}
-use Rattle.std.specs.List.{filter, range_with_len}
 use Rattle.std.proofs.lemmas.List.{append-nil}
-use Rattle.std.proofs.lemmas.Bool.{cond-false, both_ways, cases_eq, cases_lt, and_parts, and_from, and_left, and_right, not-true, not_from_false, ltb-true, lt-ltb, leb-true, le-leb, eqb-true, eq-eqb, false_from_ne_true, true≢false}
+use Rattle.std.proofs.lemmas.Bool.{both_ways, cases_eq, cases_lt, and_parts, and_from, and_left, and_right, not-true, not_from_false, ltb-true, lt-ltb, leb-true, le-leb, eqb-true, eq-eqb, false_from_ne_true, true≢false}
 use Rattle.mpeg_scan.specs.declared.piece.Piece.{Piece}
 use Rattle.mpeg_scan.specs.declared.scanner.Scanner.{Scanner}
 use Rattle.mpeg_scan.specs.declared.refusal.Scan.{Scan}
 use Rattle.mpeg_scan.specs.declared.refusal.Scan.TheVariants.{Empty, NoHead, System, PictureType, ShortPicture, TooLong, NoMemory}
-use Rattle.mpeg_scan.specs.StartCodes.{is_start_code, is_opener, is_picture, is_head_code, is_system_code, code_at}
+use Rattle.mpeg_scan.specs.StartCodes.{is_start_code, is_picture, is_head_code, is_system_code, code_at}
 use Rattle.mpeg_scan.specs.Refusals.{holds, decided_at, zeros, has_head, max_stream, Refuses, IsAccepted}
 use Rattle.mpeg_scan.specs.Scanning.{HasRead, IsFront, back, openers_from}
 use Rattle.mpeg_scan.specs.Moves.{DecidesAtEnd}
 use Rattle.mpeg_scan.specs.Pieces.{pieces_of, pieces_from, piece_of}
-use Rattle.mpeg_scan.proofs.Going.{opener_within}
+use Rattle.mpeg_scan.specs.OpenerLaws.{Stands, stands, is_standing, stands_less, code_more, none_after}
 use Rattle.mpeg_scan.proofs.Opening.{ended}
-use Rattle.mpeg_scan.proofs.Base.{at_back, back_within, Stands, stands, is_standing, code_more, stands_less}
+use Rattle.mpeg_scan.proofs.Base.{at_back, back_within}
 use Rattle.mpeg_scan.proofs.Now.{AtType, at_type_length, type_stands}
 use Rattle.mpeg_scan.proofs.Front.{zeros_all, zeros_one, all_zero_back, zeros_one_back, zeros_one_last}
 use Rattle.mpeg_scan.proofs.Reading.{TypeFields, at_type, type_fields, in_piece, in_front}
@@ -75,21 +74,6 @@ end_by s u short NoMemory h = true≢false (sym h)
 
 alone : (s : List ℕ) (scan : Scan) → UndecidedWhole s → length s ≤ max_stream → holds s scan ≡ true → ((other : Scan) → EndBy s other → other ≡ scan) → Refuses s scan
 alone s scan u short h only = record { holding = h; first = λ other k. inl (only other (end_by s u short other k)) }
-
--- nothing was read
-empty_only : (s : List ℕ) → length s ≡ 0 → (other : Scan) → EndBy s other → other ≡ Empty
-empty_only s e Empty n = refl
-empty_only s e (NoHead q) n = absurd (let lt = n.1 in omega arith)
-empty_only s e (System p) n = absurd n
-empty_only s e (PictureType p t) n = absurd n
-empty_only s e (ShortPicture p) n = absurd (let w = n.0.within in omega arith)
-empty_only s e TooLong n = absurd n
-empty_only s e NoMemory n = absurd n
-
-pub ends_empty : (c : Scanner) → c.at ≡ 0 → (s : List ℕ) (p : List Piece) → HasRead c s p → DecidesAtEnd s (Some Empty)
-ends_empty c e s p r =
-    let l : length s ≡ 0 = sym r.at ∙ e in
-    alone s Empty (undecided_whole c s p r) r.bounded (eq-eqb _ _ l) (empty_only s l)
 
 -- before the first opener
 front_no_code : (s : List ℕ) (p : ℕ) → IsFront s → Stands s p → ⊥
@@ -258,17 +242,6 @@ ends_well c ne o first second s old r scan =
     false_from_ne_true _ (λ h. piece_none c s old r ne o first second scan (end_by s (undecided_whole c s old r) r.bounded scan h))
 
 -- the last piece
-last_openers : (s : List ℕ) (k n : ℕ) → length s ≤ k + 3 → filter (is_opener s) (range_with_len k n) ≡ []
-last_openers s k zero le = refl
-last_openers s k (suc n) le =
-    cond-false (is_opener s k) (k ∷ filter (is_opener s) (range_with_len (k + 1) n)) (filter (is_opener s) (range_with_len (k + 1) n))
-    (false_from_ne_true _ (λ is. let w = opener_within s k is in omega arith))
-    ∙ last_openers s (k + 1) n (omega arith)
-
-none_after : (s : List ℕ) → openers_from s (length s - 3) ≡ []
-unfolding openers_from
-none_after s = last_openers s (length s - 3) (length s - (length s - 3)) (omega arith)
-
 pub last_piece : (c : Scanner) (s : List ℕ) (given : List Piece) → HasRead c s given → c.opened ≡ true → IsAccepted s → given ++ ended c c.at ∷ [] ≡ pieces_of s
 last_piece c s given r o accepted =
     let h = in_piece c s given r o in
