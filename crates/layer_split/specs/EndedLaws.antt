@@ -5,6 +5,7 @@ use Rattle.std.proofs.lemmas.List.{append-nil}
 use Rattle.std.proofs.lemmas.Bool.{cond-true, cond-false, cases_Bool, both_ways}
 use Rattle.mpeg_scan.specs.declared.piece.Piece.{Piece}
 use Rattle.mpeg_scan.specs.Pieces.{but_last}
+use Rattle.mpeg_scan.specs.EndedLaws.{but_last_push}
 use Rattle.priority_file.specs.Priority.{Priorities}
 use Rattle.layer_split.specs.declared.splitter.Splitter.{Splitter}
 use Rattle.layer_split.specs.Groups.{groups_of, groups_from, ended_groups, last_from, last_group, is_group_head, begins_group}
@@ -16,9 +17,6 @@ but_last_behind : {A : Type 0} (xs : List A) (y : A) (ys : List A) → but_last 
 but_last_behind [] y ys = refl
 but_last_behind (x ∷ []) y ys = refl
 but_last_behind (x ∷ z ∷ xs) y ys = ap (λ l. x ∷ l) (but_last_behind (z ∷ xs) y ys)
-
-but_last_push : {A : Type 0} (xs : List A) (x : A) → but_last (xs ++ x ∷ []) ≡ xs
-but_last_push xs x = but_last_behind xs x [] ∙ append-nil xs
 
 but_last_length : {A : Type 0} (xs : List A) → length (but_last xs) ≡ length xs - 1
 but_last_length [] = refl

@@ -66,7 +66,7 @@ impl Splitter {
         ensures refusal { IfErr result (λ fault. fault ≢ SplitFault.NoMemory → (priority : Priorities) (pieces : List Piece) (cuts : List Cut)
             → HasAdded self.old priority pieces cuts → (later : List Piece)
             → fault_of (layer_of priority) (length priority.layers) (groups_of (pieces ++ piece.now ∷ later)) ≡ Some fault) }
-        // It is decided here.
+        // The piece would begin another group, behind one that is too long or the last that may be.
         ensures last { IfErr result (λ fault. fault ≢ SplitFault.NoMemory → (priority : Priorities) (pieces : List Piece) (cuts : List Cut)
             → HasAdded self.old priority pieces cuts → IsOneTooMany priority pieces piece.now) }
         ensures refused { IfErr result (λ fault. HasRefused self.new fault) }
