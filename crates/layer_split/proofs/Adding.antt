@@ -5,17 +5,18 @@ use Rattle.std.specs.List.{list_any, position_from}
 use Rattle.std.proofs.lemmas.Iterator.Adapters.{position_from-zero}
 use Rattle.std.proofs.lemmas.List.{append-nil, map-append}
 use Rattle.std.proofs.lemmas.List.Elements.{All-append, All-cons, All-nil}
-use Rattle.std.proofs.lemmas.Bool.{and_parts, or_cases, ne_eqb, eqb-true, cond-true, cond-false, lt-ltb, le-ltb, cases_Bool, both_ways}
+use Rattle.std.proofs.lemmas.Bool.{and_parts, or_cases, ne_eqb, eqb-true, cond-true, cond-false, lt-ltb, le-ltb, cases_Bool}
 use Rattle.pet_base.specs.declared.kind.Kind.{Kind}
 use Rattle.pet_base.specs.declared.limits.TheConstants.{MAX_GROUPS}
 use Rattle.mpeg_scan.specs.declared.piece.Piece.{Piece}
 use Rattle.priority_file.specs.Priority.{Priorities, layer_of}
 use Rattle.layer_split.specs.declared.fault.SplitFault.TheVariants.{TooManyGroups, GroupTooLong}
 use Rattle.layer_split.specs.declared.splitter.Splitter.{Splitter}
-use Rattle.layer_split.specs.Groups.{groups_of, groups_from, is_picture, is_group_head, begins_group, last_from, last_group}
+use Rattle.layer_split.specs.Groups.{groups_of, is_picture, is_group_head, begins_group, last_from, last_group}
 use Rattle.layer_split.specs.Layers.{Cut, cut_of}
 use Rattle.layer_split.specs.Faults.{is_too_long, fault_of, fault_by}
-use Rattle.layer_split.specs.Splitting.{HasAdded, AreOf, Holds, groups_after, cuts_of}
+use Rattle.layer_split.specs.Splitting.{HasAdded, IsOneTooMany, AreOf, Holds, groups_after, cuts_of}
+use Rattle.layer_split.specs.EndedLaws.{none_begins, groups_begin, some_group, last_at}
 
 -- the first that is too long
 from_some : {X : Type 0} (p : X → Bool) (i k : ℕ) (xs : List X) (x : X) (ys : List X) → All (λ y. p y ≡ false) xs → p x ≡ true → length xs < k → position_from p i (take k (xs ++ x ∷ ys)) ≡ Some (i + length xs)
@@ -76,34 +77,13 @@ picture_push (q ∷ ps) p = elim (cases_Bool (is_picture q)) [
   | inr e ↦ ap (λ b. b || list_any is_picture (ps ++ p ∷ [])) e ∙ (picture_push ps p ∙ sym (ap (λ b. (b || list_any is_picture ps) || is_picture p) e))
 ]
 
-groups_stay : (current : List Piece) (p : Piece) (later : List Piece) → begins_group current p ≡ false → groups_after current (p ∷ later) ≡ groups_after (current ++ p ∷ []) later
-groups_stay [] p later e = refl
-groups_stay (c ∷ cs) p later e = cond-false (begins_group (c ∷ cs) p) _ _ e
-
-none_begins : (p : Piece) → begins_group [] p ≡ true → ⊥
-none_begins p e = elim (cases_Bool (is_group_head p)) [
-  | inl k ↦ both_ways _ (ap (λ b. b && false) k) e
-  | inr k ↦ both_ways _ (ap (λ b. b && false) k) e
-]
-
-groups_begin : (current : List Piece) (p : Piece) (later : List Piece) → begins_group current p ≡ true → groups_after current (p ∷ later) ≡ current ∷ groups_after (p ∷ []) later
-groups_begin [] p later e = absurd (none_begins p e)
-groups_begin (c ∷ cs) p later e = cond-true (begins_group (c ∷ cs) p) _ _ e
-
-some_group : (current later : List Piece) → (next : List Piece) × (rest : List (List Piece)) × (groups_from current later ≡ next ∷ rest)
-some_group current [] = (current, [], refl)
-some_group current (p ∷ later) = elim (cases_Bool (begins_group current p)) [
-  | inl e ↦ (current, groups_from (p ∷ []) later, cond-true (begins_group current p) _ _ e)
-  | inr e ↦ (let next = some_group (current ++ p ∷ []) later in (next.0, next.1, cond-false (begins_group current p) _ _ e ∙ next.2))
-]
+piece_joins : (current : List Piece) (p : Piece) (later : List Piece) → begins_group current p ≡ false → groups_after current (p ∷ later) ≡ groups_after (current ++ p ∷ []) later
+piece_joins [] p later e = refl
+piece_joins (c ∷ cs) p later e = cond-false (begins_group (c ∷ cs) p) _ _ e
 
 after_nil : (current : List Piece) → (current ≡ [] → ⊥) → groups_after current [] ≡ current ∷ []
 after_nil [] some = absurd (some refl)
 after_nil (c ∷ cs) some = refl
-
-last_at : (d : List Piece) (gone : List (List Piece)) (group : List Piece) → last_from d (gone ++ group ∷ []) ≡ group
-last_at d [] group = refl
-last_at d (g ∷ gone) group = last_at g gone group
 
 last_of : (pieces current : List Piece) (gone : List (List Piece)) → (current ≡ [] → pieces ≡ []) → groups_of pieces ≡ gone ++ groups_after current [] → last_group pieces ≡ current
 last_of pieces [] gone fresh e = ap last_group (fresh refl)
@@ -112,12 +92,18 @@ last_of pieces (c ∷ cs) gone fresh e = ap (last_from []) e ∙ last_at [] gone
 all_groups : (splitter : Splitter) (priority : Priorities) (pieces : List Piece) (cuts : List Cut) (h : HasAdded splitter priority pieces cuts) → groups_of pieces ≡ h.gone ++ groups_after h.current []
 all_groups splitter priority pieces cuts h = ap groups_of (sym (append-nil pieces)) ∙ h.groups []
 
+ends : (splitter : Splitter) (priority : Priorities) (pieces : List Piece) (cuts : List Cut) (h : HasAdded splitter priority pieces cuts) → (h.current ≡ [] → ⊥) → groups_of pieces ≡ h.gone ++ h.current ∷ []
+ends splitter priority pieces cuts h some = all_groups splitter priority pieces cuts h ∙ ap (λ l. h.gone ++ l) (after_nil h.current some)
+
 begins_now : (splitter : Splitter) (priority : Priorities) (pieces : List Piece) (cuts : List Cut) (p : Piece) (b : Bool) (h : HasAdded splitter priority pieces cuts) → (is_group_head p && splitter.has_picture) ≡ b → begins_group h.current p ≡ b
 begins_now splitter priority pieces cuts p b h e = ap (λ k. is_group_head p && k) (sym h.picture) ∙ e
 
+last_now : (splitter : Splitter) (priority : Priorities) (pieces : List Piece) (cuts : List Cut) (h : HasAdded splitter priority pieces cuts) → last_group pieces ≡ h.current
+last_now splitter priority pieces cuts h = last_of pieces h.current h.gone h.fresh (all_groups splitter priority pieces cuts h)
+
 pub begins_last : (splitter : Splitter) (priority : Priorities) (pieces : List Piece) (cuts : List Cut) (p : Piece) (b : Bool) → HasAdded splitter priority pieces cuts → (is_group_head p && splitter.has_picture) ≡ b → b ≡ begins_group (last_group pieces) p
 begins_last splitter priority pieces cuts p b h e =
-    sym (ap (λ group. begins_group group p) (last_of pieces h.current h.gone h.fresh (all_groups splitter priority pieces cuts h)) ∙ begins_now splitter priority pieces cuts p b h e)
+    sym (ap (λ group. begins_group group p) (last_now splitter priority pieces cuts h) ∙ begins_now splitter priority pieces cuts p b h e)
 
 -- the piece goes to the current group
 pub added_stays : (old new : Splitter) (priority : Priorities) (pieces : List Piece) (cuts : List Cut) (p : Piece) (h : HasAdded old priority pieces cuts) → (is_group_head p && old.has_picture) ≡ false → new.layers ≡ old.layers → new.group ≡ old.group → new.refused ≡ old.refused → new.has_picture ≡ (old.has_picture || p.code == 0) → Holds new (layer_of priority) (h.current ++ p ∷ []) → HasAdded new priority (pieces ++ p ∷ []) (cuts ++ [])
@@ -130,7 +116,7 @@ added_stays old new priority pieces cuts p h begins layers group refused seen he
       current = h.current ++ p ∷ [];
       groups = λ later.
           ap groups_of (append_assoc pieces (p ∷ []) later)
-          ∙ (h.groups (p ∷ later) ∙ ap (λ l. h.gone ++ l) (groups_stay h.current p later b));
+          ∙ (h.groups (p ∷ later) ∙ ap (λ l. h.gone ++ l) (piece_joins h.current p later b));
       fresh = λ e. absurd (push_not_nil h.current p e);
       cut = append-nil cuts ∙ h.cut;
       fit = h.fit;
@@ -187,10 +173,23 @@ refuses_many old priority pieces cuts p h begins short full later =
     ∙ (sym (append_assoc h.gone (h.current ∷ []) (groups_after (p ∷ []) later)) ∙ ap (λ l. (h.gone ++ h.current ∷ []) ++ l) next.2)))
     ∙ many_fault lo n (h.gone ++ h.current ∷ []) next.0 next.1 (All-append (λ g. is_too_long lo n g ≡ false) h.gone (h.current ∷ []) h.fit (All-cons (λ g. is_too_long lo n g ≡ false) h.current [] short (All-nil (λ g. is_too_long lo n g ≡ false)))) (omega arith)
 
--- the end: no piece, or a last group
-ends : (splitter : Splitter) (priority : Priorities) (pieces : List Piece) (cuts : List Cut) (h : HasAdded splitter priority pieces cuts) → (h.current ≡ [] → ⊥) → groups_of pieces ≡ h.gone ++ h.current ∷ []
-ends splitter priority pieces cuts h some = all_groups splitter priority pieces cuts h ∙ ap (λ l. h.gone ++ l) (after_nil h.current some)
+-- this piece decides it: the group before it is too long, or the last of those that may be
+pub last_too_long : (old : Splitter) (priority : Priorities) (pieces : List Piece) (cuts : List Cut) (p : Piece) (h : HasAdded old priority pieces cuts) → (is_group_head p && old.has_picture) ≡ true → is_too_long (layer_of priority) (length priority.layers) h.current ≡ true → IsOneTooMany priority pieces p
+last_too_long old priority pieces cuts p h begins long = record {
+  begins = sym (begins_last old priority pieces cuts p true h begins);
+  last = inl (ap (is_too_long (layer_of priority) (length priority.layers)) (last_now old priority pieces cuts h) ∙ long);
+}
 
+pub last_allowed : (old : Splitter) (priority : Priorities) (pieces : List Piece) (cuts : List Cut) (p : Piece) (h : HasAdded old priority pieces cuts) → (is_group_head p && old.has_picture) ≡ true → MAX_GROUPS ≤ old.group + 1 → IsOneTooMany priority pieces p
+last_allowed old priority pieces cuts p h begins full =
+    let now = begins_now old priority pieces cuts p true h begins in
+    let some : h.current ≡ [] → ⊥ = λ none. none_begins p (sym (ap (λ group. begins_group group p) none) ∙ now) in
+    let count : length (groups_of pieces) ≡ length h.gone + 1 = ap length (ends old priority pieces cuts h some) ∙ length-append h.gone (h.current ∷ []) in
+    let number = h.number in
+    let few = h.few in
+    record { begins = sym (begins_last old priority pieces cuts p true h begins); last = inr (omega arith) }
+
+-- the end: no piece, or a last group
 pub ends_none : (splitter : Splitter) (priority : Priorities) (pieces : List Piece) (cuts : List Cut) (h : HasAdded splitter priority pieces cuts) → h.current ≡ [] → (cuts ++ [] ≡ cuts_of priority (groups_of pieces)) × (fault_of (layer_of priority) (length priority.layers) (groups_of pieces) ≡ None)
 ends_none splitter priority pieces cuts h none =
     let groups : groups_of pieces ≡ h.gone = all_groups splitter priority pieces cuts h ∙ (ap (λ c. h.gone ++ groups_after c []) none ∙ append-nil h.gone) in

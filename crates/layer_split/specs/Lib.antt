@@ -6,3 +6,4 @@ pub mod Splitting
 pub mod Bytes
 pub mod RunTable
 pub mod CutLaws
+pub mod EndedLaws

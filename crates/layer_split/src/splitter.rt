@@ -8,7 +8,7 @@ ghost use Rattle.layer_split.specs.Groups.{groups_of, last_group};
 ghost use Rattle.layer_split.specs.Groups as groups;
 ghost use Rattle.layer_split.specs.Layers.{Cut, cut_of};
 ghost use Rattle.layer_split.specs.Faults.{fault_of, is_too_long};
-ghost use Rattle.layer_split.specs.Splitting.{HasAdded, HasRefused, Holds, KeepsRest, AreOf, cuts_in, cuts_of};
+ghost use Rattle.layer_split.specs.Splitting.{HasAdded, HasRefused, IsOneTooMany, Holds, KeepsRest, AreOf, cuts_in, cuts_of};
 
 use crate::cut::{GroupCut, Run};
 use crate::fault::SplitFault;
@@ -66,6 +66,9 @@ impl Splitter {
         ensures refusal { IfErr result (λ fault. fault ≢ SplitFault.NoMemory → (priority : Priorities) (pieces : List Piece) (cuts : List Cut)
             → HasAdded self.old priority pieces cuts → (later : List Piece)
             → fault_of (layer_of priority) (length priority.layers) (groups_of (pieces ++ piece.now ∷ later)) ≡ Some fault) }
+        // It is decided here.
+        ensures last { IfErr result (λ fault. fault ≢ SplitFault.NoMemory → (priority : Priorities) (pieces : List Piece) (cuts : List Cut)
+            → HasAdded self.old priority pieces cuts → IsOneTooMany priority pieces piece.now) }
         ensures refused { IfErr result (λ fault. HasRefused self.new fault) }
         ensures again { (fault : SplitFault) → HasRefused self.old fault → (result ≡ Err fault) × HasRefused self.new fault }
     {
@@ -126,6 +129,8 @@ impl Splitter {
         ensures refusal { IfErr result (λ fault. fault ≢ SplitFault.NoMemory → (priority : Priorities) (pieces : List Piece) (cuts : List Cut)
             → HasAdded self.old priority pieces cuts → (later : List Piece)
             → fault_of (layer_of priority) (length priority.layers) (groups_of (pieces ++ piece.now ∷ later)) ≡ Some fault) }
+        ensures last { IfErr result (λ fault. fault ≢ SplitFault.NoMemory → (priority : Priorities) (pieces : List Piece) (cuts : List Cut)
+            → HasAdded self.old priority pieces cuts → IsOneTooMany priority pieces piece.now) }
     {
         if begins_group(self.has_picture, piece.code) {
             let cut = self.end_group()?;

@@ -3,7 +3,7 @@ use Rattle.std.proofs.Common.{◌+◌, ◌∙◌, ◌||◌, ◌==◌, [], true, 
 use Rattle.std.proofs.lemmas.Result.{err_from_is_err_and}
 use Rattle.priority_file.specs.Priority.{layer_of}
 use Rattle.layer_split.specs.Splitting.{AreOf}
-use Rattle.layer_split.proofs.Adding.{added_stays, added_begins, refuses_long, refuses_many, begins_last}
+use Rattle.layer_split.proofs.Adding.{added_stays, added_begins, refuses_long, refuses_many, last_too_long, last_allowed, begins_last}
 use Rattle.layer_split.proofs.splitter.Splitter.next.Goals as goal
 
 pub returns-in_err-cut-clause-refusal : goal.returns-in_err-cut-clause-refusal
@@ -14,11 +14,23 @@ returns-in_err-cut-clause-refusal c =
     (c.in_err-cut.ensures.long.1 priority h.current h.layers h.held) later
     ∙ ap Some (sym c.in_err-cut.ensures.long.0))
 
+pub returns-in_err-cut-clause-last : goal.returns-in_err-cut-clause-last
+returns-in_err-cut-clause-last c =
+    let p = err_from_is_err_and c.from_residual.result c.from_residual.ensures.1 in
+    rw (p.1, p.2) (λ ne priority pieces cuts h.
+    last_too_long c.args.self.now priority pieces cuts c.args.piece.now h (sym c.begins_group.ensures ∙ c.if-begins_group.true)
+    (c.in_err-cut.ensures.long.1 priority h.current h.layers h.held))
+
 pub returns-then-self-clause-refusal : goal.returns-then-self-clause-refusal
 returns-then-self-clause-refusal c ne priority pieces cuts h later =
     let same = c.end_group.ensures.rest.group in
     refuses_many c.args.self.now priority pieces cuts c.args.piece.now h (sym c.begins_group.ensures ∙ c.if-begins_group.true)
     (c.in_ok-cut.ensures.cut priority h.current h.layers h.held).1 (omega arith) later
+
+pub returns-then-self-clause-last : goal.returns-then-self-clause-last
+returns-then-self-clause-last c ne priority pieces cuts h =
+    let same = c.end_group.ensures.rest.group in
+    last_allowed c.args.self.now priority pieces cuts c.args.piece.now h (sym c.begins_group.ensures ∙ c.if-begins_group.true) (omega arith)
 
 pub returns-then-begins_group-clause-ok : goal.returns-then-begins_group-clause-ok
 returns-then-begins_group-clause-ok c priority pieces cuts h =
