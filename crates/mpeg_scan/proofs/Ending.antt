@@ -1,21 +1,20 @@
 -- What the end of the stream decides, and its last piece.
-use Rattle.std.proofs.Common.{◌≡◌, ◌≢◌, ℕ, zero, suc, ◌+◌, ◌-◌, ◌<◌, ◌≤◌, Bool, true, false, List, [], ◌∷◌, ◌++◌, length, get_or, refl, sym, ◌∙◌, ap, subst, arith, ◌||◌, ◌⊎◌, inl, inr}
+use Rattle.std.proofs.Common.{◌≡◌, ◌≢◌, ℕ, ◌+◌, ◌-◌, ◌<◌, ◌≤◌, Bool, true, false, List, [], ◌∷◌, ◌++◌, length, get_or, refl, sym, ◌∙◌, ap, subst, arith, ◌||◌, ◌⊎◌, inl, inr}
 use Rattle.std.specs.Prelude.{Some, None, nat_lt, nat_le, ◌==◌, slice_index}
-use Rattle.std.specs.List.{filter, range_with_len}
 use Rattle.std.proofs.lemmas.List.{append-nil}
-use Rattle.std.proofs.lemmas.Bool.{cond-false, both_ways, cases_eq, cases_lt, and_parts, and_from, and_left, and_right, not-true, not_from_false, ltb-true, lt-ltb, leb-true, le-leb, eqb-true, eq-eqb, false_from_ne_true, true≢false}
+use Rattle.std.proofs.lemmas.Bool.{both_ways, cases_eq, cases_lt, and_parts, and_from, and_left, and_right, not-true, not_from_false, ltb-true, lt-ltb, leb-true, le-leb, eqb-true, eq-eqb, false_from_ne_true, true≢false}
 use Rattle.mpeg_scan.specs.declared.piece.Piece.{Piece}
 use Rattle.mpeg_scan.specs.declared.scanner.Scanner.{Scanner}
 use Rattle.mpeg_scan.specs.declared.refusal.Scan.{Scan}
 use Rattle.mpeg_scan.specs.declared.refusal.Scan.TheVariants.{Empty, NoHead, System, PictureType, ShortPicture, TooLong, NoMemory}
-use Rattle.mpeg_scan.specs.StartCodes.{is_start_code, is_opener, is_picture, is_head_code, is_system_code, code_at}
+use Rattle.mpeg_scan.specs.StartCodes.{is_start_code, is_picture, is_head_code, is_system_code, code_at}
 use Rattle.mpeg_scan.specs.Refusals.{holds, decided_at, zeros, has_head, max_stream, Refuses, IsAccepted}
 use Rattle.mpeg_scan.specs.Scanning.{HasRead, IsFront, back, openers_from}
 use Rattle.mpeg_scan.specs.Moves.{DecidesAtEnd}
 use Rattle.mpeg_scan.specs.Pieces.{pieces_of, pieces_from, piece_of}
-use Rattle.mpeg_scan.proofs.Going.{opener_within}
+use Rattle.mpeg_scan.specs.OpenerLaws.{Stands, stands, is_standing, stands_less, code_more, none_after}
 use Rattle.mpeg_scan.proofs.Opening.{ended}
-use Rattle.mpeg_scan.proofs.Base.{at_back, back_within, Stands, stands, is_standing, code_more, stands_less}
+use Rattle.mpeg_scan.proofs.Base.{at_back, back_within}
 use Rattle.mpeg_scan.proofs.Now.{AtType, at_type_length, type_stands}
 use Rattle.mpeg_scan.proofs.Front.{zeros_all, zeros_one, all_zero_back, zeros_one_back, zeros_one_last}
 use Rattle.mpeg_scan.proofs.Reading.{TypeFields, at_type, type_fields, in_piece, in_front}
@@ -258,17 +257,6 @@ ends_well c ne o first second s old r scan =
     false_from_ne_true _ (λ h. piece_none c s old r ne o first second scan (end_by s (undecided_whole c s old r) r.bounded scan h))
 
 -- the last piece
-last_openers : (s : List ℕ) (k n : ℕ) → length s ≤ k + 3 → filter (is_opener s) (range_with_len k n) ≡ []
-last_openers s k zero le = refl
-last_openers s k (suc n) le =
-    cond-false (is_opener s k) (k ∷ filter (is_opener s) (range_with_len (k + 1) n)) (filter (is_opener s) (range_with_len (k + 1) n))
-    (false_from_ne_true _ (λ is. let w = opener_within s k is in omega arith))
-    ∙ last_openers s (k + 1) n (omega arith)
-
-none_after : (s : List ℕ) → openers_from s (length s - 3) ≡ []
-unfolding openers_from
-none_after s = last_openers s (length s - 3) (length s - (length s - 3)) (omega arith)
-
 pub last_piece : (c : Scanner) (s : List ℕ) (given : List Piece) → HasRead c s given → c.opened ≡ true → IsAccepted s → given ++ ended c c.at ∷ [] ≡ pieces_of s
 last_piece c s given r o accepted =
     let h = in_piece c s given r o in

@@ -7,7 +7,8 @@ use Rattle.mpeg_scan.specs.declared.refusal.Scan.TheVariants.{NoHead}
 use Rattle.mpeg_scan.specs.StartCodes.{is_start_code, code_at, is_head_code, is_system_code}
 use Rattle.mpeg_scan.specs.Refusals.{holds, decided_at, zeros, has_head}
 use Rattle.mpeg_scan.specs.Scanning.{back, IsFront}
-use Rattle.mpeg_scan.proofs.Base.{at_back, at_end, stands, is_standing}
+use Rattle.mpeg_scan.specs.OpenerLaws.{stands, is_standing}
+use Rattle.mpeg_scan.proofs.Base.{at_back, at_end}
 use Rattle.mpeg_scan.proofs.Now.{AtCode, AtType, code_stands, code_is, at_code_length, at_type_length, longer}
 
 -- the zero bytes at the front, and those of what follows

@@ -2,8 +2,8 @@
 use Rattle.std.proofs.Common.{◌≡◌, ◌≢◌, ℕ, suc, ◌+◌, ◌-◌, ◌/◌, ◌%◌, ◌<◌, ◌≤◌, true, false, List, [], ◌∷◌, ◌++◌, length, sym, ◌∙◌, ap, subst, arith, append_assoc, inl, inr}
 use Rattle.std.specs.Prelude.{◌==◌}
 use Rattle.std.specs.List.{filter, range_with_len}
-use Rattle.std.proofs.lemmas.List.{get_or_append_left, length_push}
-use Rattle.std.proofs.lemmas.Bool.{cond-true, cond-false, cases_eq, cases_lt, and_parts, and_from, eq-eqb, ne_eqb, false_from_ne_true}
+use Rattle.std.proofs.lemmas.List.{length_push}
+use Rattle.std.proofs.lemmas.Bool.{cond-true, cond-false, cases_lt, and_parts, and_from, eq-eqb, ne_eqb, false_from_ne_true}
 use Rattle.pet_base.specs.declared.kind.Kind.TheVariants.{Head}
 use Rattle.mpeg_scan.specs.declared.piece.Piece.{Piece}
 use Rattle.mpeg_scan.specs.declared.scanner.Scanner.{Scanner}
@@ -11,7 +11,7 @@ use Rattle.mpeg_scan.specs.StartCodes.{is_start_code, is_opener, is_opener_code,
 use Rattle.mpeg_scan.specs.Refusals.{has_head}
 use Rattle.mpeg_scan.specs.Pieces.{kind_at, kind_of_type, pieces_from, pieces_of}
 use Rattle.mpeg_scan.specs.Scanning.{InPiece, openers_from}
-use Rattle.mpeg_scan.proofs.Base.{Stands, stands, is_standing, stands_more, stands_less, code_more, apart}
+use Rattle.mpeg_scan.specs.OpenerLaws.{Stands, stands, is_standing, stands_more, stands_less, code_more, apart, opener_more, opener_less, opener_within, kind_more}
 use Rattle.mpeg_scan.proofs.Now.{AtCode, AtType, at_code_length, at_type_length, code_now, code_stands, code_is, type_now, type_stands, type_is, longer}
 
 pub push_more : (s : List ℕ) (x : ℕ) (rest : List ℕ) → (s ++ x ∷ []) ++ rest ≡ s ++ x ∷ rest
@@ -62,33 +62,6 @@ openers_one_now s x rest h =
     let l = at_code_length s h.0 in
     openers_next (s ++ x ∷ rest) (length s - 3) (let lo = longer s x rest in omega arith) (opener_now s x rest h)
     ∙ ap (λ k. (length s - 3) ∷ openers_from (s ++ x ∷ rest) k) (let k : (length s - 3) + 1 ≡ length (s ++ x ∷ []) - 3 = omega arith in k)
-
--- an opener in a longer stream
-pub opener_more : (s t : List ℕ) (p : ℕ) → is_opener s p ≡ true → is_opener (s ++ t) p ≡ true
-opener_more s t p h =
-    let a = and_parts (is_start_code s p) _ h in
-    let st = stands s p a.0 in
-    and_from _ _ (is_standing (s ++ t) p (stands_more s t p st)) (ap is_opener_code (code_more s t p st.within) ∙ a.1)
-
-opener_less : (s t : List ℕ) (p : ℕ) → p + 3 < length s → is_opener (s ++ t) p ≡ true → is_opener s p ≡ true
-opener_less s t p w h =
-    let a = and_parts (is_start_code (s ++ t) p) _ h in
-    let st = stands_less s t p w (stands (s ++ t) p a.0) in
-    and_from _ _ (is_standing s p st) (sym (ap is_opener_code (code_more s t p w)) ∙ a.1)
-
-pub opener_within : (s : List ℕ) (p : ℕ) → is_opener s p ≡ true → p + 3 < length s
-opener_within s p h = (stands s p (and_parts (is_start_code s p) _ h).0).within
-
-pub kind_more : (s t : List ℕ) (p : ℕ) → p + 3 < length s → (code_at s p ≡ 0 → p + 5 < length s) → kind_at (s ++ t) p ≡ kind_at s p
-kind_more s t p w known =
-    let code = code_more s t p w in
-    elim (cases_eq (code_at s p) 0) [
-      | inl zero ↦
-          cond-true (code_at (s ++ t) p == 0) _ _ (eq-eqb _ _ (code ∙ zero))
-          ∙ (ap kind_of_type (ap (λ y. (y / 8) % 8) (get_or_append_left s t 0 (p + 5) (known zero)))
-          ∙ sym (cond-true (code_at s p == 0) _ _ (eq-eqb _ _ zero)))
-      | inr other ↦ cond-false (code_at (s ++ t) p == 0) _ _ (ne_eqb _ _ (λ is. other (sym code ∙ is))) ∙ sym (cond-false (code_at s p == 0) _ _ (ne_eqb _ _ other))
-    ]
 
 pub kind_head : (s : List ℕ) (p : ℕ) → code_at s p ≢ 0 → kind_at s p ≡ Head
 kind_head s p ne = cond-false (code_at s p == 0) _ _ (ne_eqb _ _ ne)

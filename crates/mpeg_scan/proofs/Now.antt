@@ -7,7 +7,8 @@ use Rattle.mpeg_scan.specs.declared.refusal.Scan.TheVariants.{Empty, NoHead, Sys
 use Rattle.mpeg_scan.specs.StartCodes.{is_start_code, code_at, type_at, is_type, is_picture}
 use Rattle.mpeg_scan.specs.Refusals.{holds, decided_at, zeros, has_head, max_stream}
 use Rattle.mpeg_scan.specs.Scanning.{back}
-use Rattle.mpeg_scan.proofs.Base.{at_back, back_within, at_end, Stands, stands, is_standing}
+use Rattle.mpeg_scan.specs.OpenerLaws.{Stands, stands, is_standing}
+use Rattle.mpeg_scan.proofs.Base.{at_back, back_within, at_end}
 
 -- the last three bytes are those before a code
 pub record AtCode (s : List ℕ) : Type 0 where

@@ -4,3 +4,5 @@ pub mod Pieces
 pub mod Scanning
 pub mod Moves
 pub mod StandingLaws
+pub mod OpenerLaws
+pub mod EndedLaws
