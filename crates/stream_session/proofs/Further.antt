@@ -9,15 +9,17 @@ use Rattle.mpeg_scan.specs.declared.piece.Piece.{Piece}
 use Rattle.mpeg_scan.specs.Refusals.{decided_at, holds}
 use Rattle.mpeg_scan.specs.Pieces.{pieces_of, ended_pieces}
 use Rattle.mpeg_scan.specs.Scanning.{IsFrontOf}
+use Rattle.mpeg_scan.specs.EndedLaws.{read_ended, ended_grow}
 use Rattle.priority_file.specs.Priority.{Priorities, layer_of}
 use Rattle.layer_split.specs.Groups.{groups_of, ended_groups, last_group}
+use Rattle.layer_split.specs.Splitting.{IsOneTooMany}
 use Rattle.layer_split.specs.Faults.{is_too_long}
+use Rattle.layer_split.specs.EndedLaws.{gone_ended, groups_grow, last_ends, ended_count}
 use Rattle.stream_session.specs.CutGroups.{CutGroup}
 use Rattle.stream_session.specs.declared.groups.GroupCutter.{GroupCutter}
 use Rattle.stream_session.specs.Cutting.{HasCut, HasLooked, HasMetLimit, HaveEnded, IsLive, IsRefused, IsSeen, NoneFurther, cut_group, pieces_left}
 use Rattle.stream_session.specs.EndedLaws.{groups_parted}
-use Rattle.stream_session.specs.Assumed.{read_ended, ended_grow, gone_ended, groups_grow, last_ends, ended_count}
-use Rattle.stream_session.proofs.Looking.{all_looked}
+use Rattle.stream_session.proofs.Looking.{all_looked, pieces_at}
 
 -- how many were given
 pub given_count : (cutter : GroupCutter) (priority : Priorities) (seen : List ℕ) (pieces : List Piece) (given : List CutGroup) (h : HasLooked cutter priority seen pieces given) → length given ≡ length (ended_groups h.looked)
@@ -85,6 +87,19 @@ further_by cutter priority stream given true left over = elim over.left [
 -- where no piece is left
 pub none_further : (cutter : GroupCutter) (priority : Priorities) (stream : List ℕ) (given : List CutGroup) → HasCut cutter priority stream given → pieces_left cutter ≡ 0 → NoneFurther priority stream given
 none_further cutter priority stream given h left = further_by cutter priority stream given cutter.refused left h.state
+
+-- the splitter refused the next piece
+pub met_limit : (old : GroupCutter) (p : Piece) (priority : Priorities) (seen : List ℕ) (pieces : List Piece) (given : List CutGroup) (h : HasLooked old priority seen pieces given) → old.looked < length old.pieces.items → get_or old.pieces.items old.looked p ≡ p → IsOneTooMany priority h.looked p → HasMetLimit priority pieces given
+met_limit old p priority seen pieces given h lt read limit =
+    let rest : List Piece = drop (old.looked + 1) old.pieces.items in
+    record {
+      before = h.looked;
+      piece = p;
+      behind = rest;
+      parts = sym (append-nil pieces) ∙ (sym (pieces_at old p priority seen pieces [] given h lt read) ∙ ap (λ l. h.looked ++ p ∷ l) (append-nil rest));
+      count = given_count old priority seen pieces given h;
+      limit = limit;
+    }
 
 -- the group behind these ended groups, where both lists are of the groups of one stream
 group_behind : (ended later before after : List (List Piece)) (group : List Piece) → ended ++ later ≡ before ++ group ∷ after → length ended ≡ length before + 1 → get_or ended (length before) group ≡ group

@@ -10,16 +10,17 @@ use Rattle.pet_base.specs.declared.limits.TheConstants.{MAX_GROUPS}
 use Rattle.mpeg_scan.specs.declared.piece.Piece.{Piece}
 use Rattle.mpeg_scan.specs.Refusals.{IsUndecided}
 use Rattle.mpeg_scan.specs.Pieces.{pieces_of, ended_pieces, StandOnEnd}
+use Rattle.mpeg_scan.specs.EndedLaws.{read_ended, ended_stay}
 use Rattle.priority_file.specs.Priority.{Priorities, layer_of}
 use Rattle.layer_split.specs.Groups.{groups_of, ended_groups}
 use Rattle.layer_split.specs.Faults.{is_too_long}
 use Rattle.layer_split.specs.Layers.{Cut, cut_of}
 use Rattle.layer_split.specs.CutLaws.{StandsIn}
+use Rattle.layer_split.specs.EndedLaws.{gone_ended, groups_stay, groups_grow}
 use Rattle.stream_session.specs.CutGroups.{CutGroup}
 use Rattle.stream_session.specs.declared.groups.GroupCutter.{GroupCutter}
 use Rattle.stream_session.specs.Cutting.{HasCut, HasLooked, IsLive, IsRefused, HaveEnded, AreFirst, cut_group, cut_groups, group_from, first_at, bytes_of_pieces, pending}
 use Rattle.stream_session.specs.StandingLaws.{stand_bytes, groups_stand}
-use Rattle.stream_session.specs.Assumed.{read_ended, ended_stay, gone_ended, groups_stay, groups_grow}
 
 -- the first of elements that all pass
 All-front : {X : Type 0} (P : X → Type 0) (xs ys : List X) → All P (xs ++ ys) → All P xs

@@ -14,7 +14,6 @@ pub mod Cutting
 pub mod StandingLaws
 pub mod Marks
 pub mod Marking
-pub mod Assumed
 pub mod EndedLaws
 pub mod CuttingLaws
 pub mod FittingLaws
