@@ -26,16 +26,19 @@ comes_before S (ShortPicture p) other h = h
 comes_before S TooLong other h = omega arith
 comes_before S NoMemory other h = h
 
-refuses_now : (s : List ℕ) (x : ℕ) (rest : List ℕ) (scan : Scan) → Undecided s → holds (s ++ x ∷ rest) scan ≡ true → decided_at (s ++ x ∷ rest) scan ≡ length s → ((other : Scan) → decided_at (s ++ x ∷ rest) other ≡ length s → NowBy s x rest other → (other ≡ scan) ⊎ ComesBefore (s ++ x ∷ rest) scan other) → Refuses (s ++ x ∷ rest) scan
-refuses_now s x rest scan undecided h e others = record {
-  holding = h;
-  first = λ other k.
-      let le = undecided (x ∷ rest) other k in
-      elim (cases_lt (length s) (decided_at (s ++ x ∷ rest) other)) [
-        | inl lt ↦ inr (comes_before (s ++ x ∷ rest) scan other (omega arith))
-        | inr ge ↦ let now : decided_at (s ++ x ∷ rest) other ≡ length s = omega arith in others other now (now_by s x rest other k now)
-      ];
-}
+refuses_now : (s : List ℕ) (x : ℕ) (rest : List ℕ) (scan : Scan) → Undecided s → holds (s ++ x ∷ rest) scan ≡ true → decided_at (s ++ x ∷ rest) scan ≡ length s → ((other : Scan) → decided_at (s ++ x ∷ rest) other ≡ length s → NowBy s x rest other → (other ≡ scan) ⊎ ComesBefore (s ++ x ∷ rest) scan other) → Refuses (s ++ x ∷ rest) scan × (decided_at (s ++ x ∷ rest) scan ≡ length s)
+refuses_now s x rest scan undecided h e others = (
+  record {
+    holding = h;
+    first = λ other k.
+        let le = undecided (x ∷ rest) other k in
+        elim (cases_lt (length s) (decided_at (s ++ x ∷ rest) other)) [
+          | inl lt ↦ inr (comes_before (s ++ x ∷ rest) scan other (omega arith))
+          | inr ge ↦ let now : decided_at (s ++ x ∷ rest) other ≡ length s = omega arith in others other now (now_by s x rest other k now)
+        ];
+  },
+  e,
+)
 
 pub decides_too_long : (s : List ℕ) (x : ℕ) → Undecided s → length s ≡ max_stream → Decides s x (Some TooLong)
 decides_too_long s x undecided e rest =

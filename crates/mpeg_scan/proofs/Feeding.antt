@@ -9,16 +9,23 @@ use Rattle.mpeg_scan.specs.Scanning.{HasRead, IsFrontOf, openers_from}
 use Rattle.mpeg_scan.proofs.Reading.{in_piece, in_front}
 use Rattle.mpeg_scan.proofs.Standing.{given_stand}
 
-pub cut_at : (s portion rest : List ℕ) (i : ℕ) → i < length portion → (s ++ take i portion) ++ (get_or portion i 0 ∷ (drop (i + 1) portion ++ rest)) ≡ (s ++ portion) ++ rest
-cut_at s portion rest i lt =
-    ap (λ l. (s ++ take i portion) ++ (l ++ rest)) (sym (drop_more portion i 0 lt))
-    ∙ (sym (append_assoc (s ++ take i portion) (drop i portion) rest)
-    ∙ ap (λ l. l ++ rest) (append_assoc s (take i portion) (drop i portion) ∙ ap (λ l. s ++ l) (take-append-drop i portion)))
+-- a portion, cut behind its first bytes, and behind the byte that comes next
+pub whole_here : (s portion : List ℕ) (i : ℕ) → (s ++ take i portion) ++ drop i portion ≡ s ++ portion
+whole_here s portion i = append_assoc s (take i portion) (drop i portion) ∙ ap (λ l. s ++ l) (take-append-drop i portion)
 
 pub whole_at : (s portion rest : List ℕ) (i : ℕ) → (s ++ take i portion) ++ (drop i portion ++ rest) ≡ (s ++ portion) ++ rest
-whole_at s portion rest i =
-    sym (append_assoc (s ++ take i portion) (drop i portion) rest)
-    ∙ ap (λ l. l ++ rest) (append_assoc s (take i portion) (drop i portion) ∙ ap (λ l. s ++ l) (take-append-drop i portion))
+whole_at s portion rest i = sym (append_assoc (s ++ take i portion) (drop i portion) rest) ∙ ap (λ l. l ++ rest) (whole_here s portion i)
+
+pub cut_here : (s portion : List ℕ) (i : ℕ) → i < length portion → ((s ++ take i portion) ++ get_or portion i 0 ∷ []) ++ drop (i + 1) portion ≡ s ++ portion
+cut_here s portion i lt =
+    append_assoc (s ++ take i portion) (get_or portion i 0 ∷ []) (drop (i + 1) portion)
+    ∙ (ap (λ l. (s ++ take i portion) ++ l) (sym (drop_more portion i 0 lt)) ∙ whole_here s portion i)
+
+pub cut_at : (s portion rest : List ℕ) (i : ℕ) → i < length portion → (s ++ take i portion) ++ (get_or portion i 0 ∷ (drop (i + 1) portion ++ rest)) ≡ (s ++ portion) ++ rest
+cut_at s portion rest i lt = ap (λ l. (s ++ take i portion) ++ (l ++ rest)) (sym (drop_more portion i 0 lt)) ∙ whole_at s portion rest i
+
+pub first_here : (s portion : List ℕ) → 0 < length portion → (s ++ get_or portion 0 0 ∷ []) ++ drop 1 portion ≡ s ++ portion
+first_here s portion lt = ap (λ l. (l ++ get_or portion 0 0 ∷ []) ++ drop 1 portion) (sym (append-nil s)) ∙ cut_here s portion 0 lt
 
 pub first_at : (s portion rest : List ℕ) → 0 < length portion → s ++ (get_or portion 0 0 ∷ (drop 1 portion ++ rest)) ≡ (s ++ portion) ++ rest
 first_at s portion rest lt = ap (λ l. l ++ (get_or portion 0 0 ∷ (drop 1 portion ++ rest))) (sym (append-nil s)) ∙ cut_at s portion rest 0 lt
@@ -27,10 +34,8 @@ pub further : (s portion : List ℕ) (i n : ℕ) → (s ++ take i portion) ++ ta
 further s portion i n = append_assoc s (take i portion) (take n (drop i portion)) ∙ ap (λ l. s ++ l) (sym (take-add i n portion))
 
 -- the same where the slice from i on is written as `&portion[i..]` reads it
-pub slice_whole : (s portion rest : List ℕ) (i : ℕ) → ((s ++ take i portion) ++ take (length portion - i) (drop i portion)) ++ rest ≡ (s ++ portion) ++ rest
-slice_whole s portion rest i =
-    ap (λ l. ((s ++ take i portion) ++ l) ++ rest) (take_rest portion i)
-    ∙ ap (λ l. l ++ rest) (append_assoc s (take i portion) (drop i portion) ∙ ap (λ l. s ++ l) (take-append-drop i portion))
+pub slice_here : (s portion : List ℕ) (i : ℕ) → (s ++ take i portion) ++ take (length portion - i) (drop i portion) ≡ s ++ portion
+slice_here s portion i = ap (λ l. (s ++ take i portion) ++ l) (take_rest portion i) ∙ whole_here s portion i
 
 pub slice_further : (s portion : List ℕ) (i n : ℕ) → (s ++ take i portion) ++ take n (take (length portion - i) (drop i portion)) ≡ s ++ take (i + n) portion
 slice_further s portion i n = ap (λ l. (s ++ take i portion) ++ take n l) (take_rest portion i) ∙ further s portion i n

@@ -11,3 +11,4 @@ pub mod Feeding
 pub mod Skipping
 pub mod Growing
 pub mod Standing
+pub mod Stopping

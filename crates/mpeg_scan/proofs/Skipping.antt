@@ -7,14 +7,15 @@ use Rattle.mpeg_scan.specs.declared.piece.Piece.{Piece}
 use Rattle.mpeg_scan.specs.declared.scanner.Scanner.{Scanner}
 use Rattle.mpeg_scan.specs.declared.refusal.Scan.TheVariants.{TooLong}
 use Rattle.mpeg_scan.specs.Refusals.{max_stream, Refuses}
-use Rattle.mpeg_scan.specs.Scanning.{HasRead, back, openers_from}
+use Rattle.mpeg_scan.specs.Scanning.{HasRead, HasStopped, back, openers_from}
 use Rattle.mpeg_scan.specs.Moves.{Advances, Lacks, IsQuiet}
 use Rattle.mpeg_scan.specs.Pieces.{pieces_of, pieces_from}
 use Rattle.mpeg_scan.proofs.Base.{at_back}
 use Rattle.mpeg_scan.proofs.Deciding.{decides_too_long}
 use Rattle.mpeg_scan.proofs.Reading.{CodeFields, TypeFields, none_in_piece_by, in_piece}
 use Rattle.mpeg_scan.proofs.Stepping.{plain}
-use Rattle.mpeg_scan.proofs.Feeding.{cut_at}
+use Rattle.mpeg_scan.proofs.Feeding.{cut_here, cut_at}
+use Rattle.mpeg_scan.proofs.Stopping.{stopped_by, stopped_more}
 
 -- the scanner after a byte that ends nothing, and after a run of them
 abbrev advanced : Scanner → ℕ → Scanner
@@ -130,12 +131,14 @@ quiet_take c run n le (opened, inl h) = (opened, inl (h.0, h.1, lacks_take 0 run
 quiet_take c run n le (opened, inr h) = (opened, inr (h.0, h.1, h.2, lacks_take 1 run n le h.3))
 
 -- the byte past the limit stands in the run
-pub skips_too_far : (c : Scanner) (run : List ℕ) → IsQuiet c run → c.at ≤ max_stream → max_stream < c.at + length run → (s : List ℕ) (p : List Piece) → HasRead c s p → (rest : List ℕ) → Refuses ((s ++ run) ++ rest) TooLong
-skips_too_far c run quiet short far s p r rest =
+pub skips_too_far : (c : Scanner) (run : List ℕ) → IsQuiet c run → c.at ≤ max_stream → max_stream < c.at + length run → (s : List ℕ) (p : List Piece) → HasRead c s p → ((rest : List ℕ) → Refuses ((s ++ run) ++ rest) TooLong) × HasStopped (s ++ run) TooLong p
+skips_too_far c run quiet short far s p r =
     let n : ℕ = max_stream - c.at in
     let lt : n < length run = omega arith in
     let len : length (take n run) ≡ n = length-take-le n run (omega arith) in
     let r' = read_run c (take n run) s p (quiet_take c run n (omega arith) quiet) (omega arith) r in
     let full : length (s ++ take n run) ≡ max_stream = (let a = r.at in omega (arith, length-append s (take n run))) in
-    subst (λ S. Refuses S TooLong) (cut_at s run rest n lt)
-    (decides_too_long (s ++ take n run) (get_or run n 0) r'.undecided full (drop (n + 1) run ++ rest))
+    let decides = decides_too_long (s ++ take n run) (get_or run n 0) r'.undecided full in (
+      λ rest. subst (λ S. Refuses S TooLong) (cut_at s run rest n lt) (decides (drop (n + 1) run ++ rest)).0,
+      subst (λ S. HasStopped S TooLong p) (cut_here s run n lt) (stopped_more _ (drop (n + 1) run) TooLong p (stopped_by (run_through c (take n run)) (s ++ take n run) (get_or run n 0) TooLong p r' decides)),
+    )

@@ -6,7 +6,7 @@ use Rattle.mpeg_scan.specs.Refusals.{holds, decided_at, max_stream, Refuses, IsA
 
 -- What the byte x decides behind this stream, however that goes on: this refusal, or none.
 abbrev pub Decides : List ℕ → ℕ → Option Scan → Type 0
-Decides stream x (Some scan) = (rest : List ℕ) → Refuses (stream ++ x ∷ rest) scan
+Decides stream x (Some scan) = (rest : List ℕ) → Refuses (stream ++ x ∷ rest) scan × (decided_at (stream ++ x ∷ rest) scan ≡ length stream)
 Decides stream x None =
     (length stream < max_stream)
     × ((rest : List ℕ) (scan : Scan) → IsTrue (holds (stream ++ x ∷ rest) scan) → decided_at (stream ++ x ∷ rest) scan ≢ length stream)

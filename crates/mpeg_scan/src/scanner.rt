@@ -4,7 +4,7 @@ ghost use Rattle.mpeg_scan.specs.declared.refusal.Scan.{Scan};
 ghost use Rattle.mpeg_scan.specs.declared.piece.Piece.{Piece};
 ghost use Rattle.mpeg_scan.specs.Refusals.{Refuses, IsAccepted, max_stream};
 ghost use Rattle.mpeg_scan.specs.Pieces.{pieces_of, StandOnEnd};
-ghost use Rattle.mpeg_scan.specs.Scanning.{HasRead, HasRefused, HasGrown, IsFrontOf, added};
+ghost use Rattle.mpeg_scan.specs.Scanning.{HasRead, HasRefused, HasStopped, HasGrown, IsFrontOf, added};
 ghost use Rattle.mpeg_scan.specs.Moves.{Advances};
 
 mod decide;
@@ -66,6 +66,9 @@ impl Scanner {
         // Unless memory ran out, the stream is refused so, however it goes on.
         ensures refusal { IfErr result (λ scan. scan ≢ Scan.NoMemory → (stream : List ℕ) (given : List Piece) → HasRead self.old stream given
             → (rest : List ℕ) → Refuses (stream ++ portion.now ++ rest) scan) }
+        // What was appended since the stream began are then the pieces that had ended before the byte that decides it.
+        ensures stopped { IfErr result (λ scan. scan ≢ Scan.NoMemory → (stream : List ℕ) (given : List Piece) → HasRead self.old stream given
+            → HasStopped (stream ++ portion.now) scan (given ++ added pieces.old.items pieces.new.items)) }
         // Whatever comes, what was appended since the stream began is a front of its pieces.
         ensures front { (stream : List ℕ) (given : List Piece) → HasRead self.old stream given
             → IsFrontOf (stream ++ portion.now) (given ++ added pieces.old.items pieces.new.items) }
@@ -125,6 +128,8 @@ impl Scanner {
             → HasRead self.new (stream ++ take n ahead.now) (given ++ added pieces.old.items pieces.new.items)) }
         ensures refusal { IfErr result (λ scan. scan ≢ Scan.NoMemory → (stream : List ℕ) (given : List Piece) → HasRead self.old stream given
             → (rest : List ℕ) → Refuses (stream ++ ahead.now ++ rest) scan) }
+        ensures stopped { IfErr result (λ scan. scan ≢ Scan.NoMemory → (stream : List ℕ) (given : List Piece) → HasRead self.old stream given
+            → HasStopped (stream ++ ahead.now) scan given) }
         ensures kept { OnErr result (pieces.new.items ≡ pieces.old.items) }
         ensures refused { IfErr result (λ scan. HasRefused self.new scan) }
     {
@@ -145,6 +150,8 @@ impl Scanner {
         ensures refused { IfErr result (λ scan. HasRefused self.new scan) }
         ensures refusal { IfErr result (λ scan. scan ≢ Scan.NoMemory → (stream : List ℕ) (given : List Piece) → HasRead self.old stream given
             → (rest : List ℕ) → Refuses (stream ++ byte ∷ rest) scan) }
+        ensures stopped { IfErr result (λ scan. scan ≢ Scan.NoMemory → (stream : List ℕ) (given : List Piece) → HasRead self.old stream given
+            → HasStopped (stream ++ byte ∷ []) scan given) }
         ensures kept { OnErr result (pieces.new.items ≡ pieces.old.items) }
     {
         if let Some(scan) = self.refusal_by(byte) {

@@ -2,7 +2,7 @@
 ghost use Rattle.std.specs.Prelude.{◌≡◌, ◌≢◌, ◌+◌, ◌<◌, ◌≤◌, ◌++◌, List, ℕ, length, take, true, OnOk, IfErr};
 ghost use Rattle.mpeg_scan.specs.declared.piece.Piece.{Piece};
 ghost use Rattle.mpeg_scan.specs.Refusals.{Refuses};
-ghost use Rattle.mpeg_scan.specs.Scanning.{HasRead, HasRefused};
+ghost use Rattle.mpeg_scan.specs.Scanning.{HasRead, HasRefused, HasStopped};
 ghost use Rattle.mpeg_scan.specs.Moves.{Lacks, IsQuiet};
 
 use super::Scanner;
@@ -56,6 +56,8 @@ impl Scanner {
             → HasRead self.new (stream ++ run.now) given) }
         ensures refusal { IfErr result (λ scan. (stream : List ℕ) (given : List Piece) → HasRead self.old stream given
             → (rest : List ℕ) → Refuses (stream ++ run.now ++ rest) scan) }
+        ensures stopped { IfErr result (λ scan. (stream : List ℕ) (given : List Piece) → HasRead self.old stream given
+            → HasStopped (stream ++ run.now) scan given) }
         ensures refused { IfErr result (λ scan. HasRefused self.new scan) }
     {
         let end = run.len();

@@ -2,8 +2,8 @@
 use Rattle.std.proofs.Common.{◌+◌, ◌++◌, sym, take, subst, arith}
 use Rattle.std.proofs.lemmas.Result.{err_from_is_err_and}
 use Rattle.mpeg_scan.specs.Refusals.{Refuses}
-use Rattle.mpeg_scan.specs.Scanning.{HasRead, IsFrontOf, added}
-use Rattle.mpeg_scan.proofs.Feeding.{slice_whole, slice_further, slice_length, front_at}
+use Rattle.mpeg_scan.specs.Scanning.{HasRead, HasStopped, IsFrontOf, added}
+use Rattle.mpeg_scan.proofs.Feeding.{slice_here, slice_further, slice_length, front_at}
 use Rattle.mpeg_scan.proofs.Growing.{grown_both, added_both}
 use Rattle.mpeg_scan.proofs.scanner.Scanner.feed.Goals as goal
 
@@ -11,8 +11,16 @@ pub returns-in_err-read-clause-refusal : goal.returns-in_err-read-clause-refusal
 returns-in_err-read-clause-refusal c =
     let p = err_from_is_err_and c.from_residual.result c.from_residual.ensures.1 in
     rw (p.1, p.2) (λ ne s g r rest.
-    subst (λ S. Refuses S c.in_err-read.field-0.0) (slice_whole s c.args.portion.now rest c.loop-read.read)
+    subst (λ S. Refuses (S ++ rest) c.in_err-read.field-0.0) (slice_here s c.args.portion.now c.loop-read.read)
     (c.in_err-read.ensures.refusal ne (s ++ take c.loop-read.read c.args.portion.now) (g ++ added c.args.pieces.now.items c.loop-read.pieces.items) (c.loop-read.invariant.front s g r) rest))
+
+pub returns-in_err-read-clause-stopped : goal.returns-in_err-read-clause-stopped
+returns-in_err-read-clause-stopped c =
+    let p = err_from_is_err_and c.from_residual.result c.from_residual.ensures.1 in
+    rw (p.1, p.2) (λ ne s g r.
+    subst (λ ps. HasStopped (s ++ c.args.portion.now) c.in_err-read.field-0.0 (g ++ added c.args.pieces.now.items ps)) (sym c.in_err-read.ensures.kept)
+    (subst (λ S. HasStopped S c.in_err-read.field-0.0 (g ++ added c.args.pieces.now.items c.loop-read.pieces.items)) (slice_here s c.args.portion.now c.loop-read.read)
+    (c.in_err-read.ensures.stopped ne (s ++ take c.loop-read.read c.args.portion.now) (g ++ added c.args.pieces.now.items c.loop-read.pieces.items) (c.loop-read.invariant.front s g r))))
 
 pub returns-in_err-read-clause-front : goal.returns-in_err-read-clause-front
 returns-in_err-read-clause-front c s g r =

@@ -7,7 +7,13 @@ pub returns-then-end-saturating_sub-clause-refusal : goal.returns-then-end-satur
 returns-then-end-saturating_sub-clause-refusal c s p r =
     let at = r.at in
     let short = r.bounded in
-    skips_too_far c.args.self.now c.args.run.now c.requires.quiet (omega arith) (omega arith) s p r
+    (skips_too_far c.args.self.now c.args.run.now c.requires.quiet (omega arith) (omega arith) s p r).0
+
+pub returns-then-end-saturating_sub-clause-stopped : goal.returns-then-end-saturating_sub-clause-stopped
+returns-then-end-saturating_sub-clause-stopped c s p r =
+    let at = r.at in
+    let short = r.bounded in
+    (skips_too_far c.args.self.now c.args.run.now c.requires.quiet (omega arith) (omega arith) s p r).1
 
 pub returns-clause-ok : goal.returns-clause-ok
 returns-clause-ok c s p r =

@@ -6,11 +6,15 @@ use Rattle.mpeg_scan.specs.Pieces.{kind_of_type}
 use Rattle.mpeg_scan.specs.Scanning.{HasRead}
 use Rattle.mpeg_scan.proofs.Growing.{added_by, added_none}
 use Rattle.mpeg_scan.proofs.Reading.{no_type_at_code}
+use Rattle.mpeg_scan.proofs.Stopping.{stopped_by}
 use Rattle.mpeg_scan.proofs.Stepping.{follows, begins, plain, typed}
 use Rattle.mpeg_scan.proofs.scanner.Scanner.step.Goals as goal
 
 pub returns-in-Some-clause-refusal : goal.returns-in-Some-clause-refusal
-returns-in-Some-clause-refusal c _ s g r = c.in-Some.ensures.decides s g r
+returns-in-Some-clause-refusal c _ s g r rest = (c.in-Some.ensures.decides s g r rest).0
+
+pub returns-in-Some-clause-stopped : goal.returns-in-Some-clause-stopped
+returns-in-Some-clause-stopped c _ s g r = stopped_by c.args.self.now s c.args.byte c.in-Some.scan g r (c.in-Some.ensures.decides s g r)
 
 pub returns-then-self-clause-ok : goal.returns-then-self-clause-ok
 returns-then-self-clause-ok c s g r =
