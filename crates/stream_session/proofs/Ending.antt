@@ -1,11 +1,11 @@
 -- Where a splitter's groups end, one piece on and at the end.
-use Rattle.std.proofs.Common.{◌≡◌, Bool, true, false, List, [], ◌∷◌, ◌++◌, length, refl, sym, ◌∙◌, ap, subst, ◌&&◌, append_assoc, inl, inr}
+use Rattle.std.proofs.Common.{◌≡◌, Bool, true, false, List, [], ◌∷◌, ◌++◌, length, refl, sym, ◌∙◌, ap, subst, append_assoc}
 use Rattle.std.proofs.lemmas.List.{append-nil, map-append, same_from_push}
-use Rattle.std.proofs.lemmas.Bool.{cond-true, cond-false, cases_Bool, both_ways}
+use Rattle.std.proofs.lemmas.Bool.{cond-false}
 use Rattle.mpeg_scan.specs.declared.piece.Piece.{Piece}
 use Rattle.priority_file.specs.Priority.{Priorities, layer_of}
 use Rattle.layer_split.specs.declared.splitter.Splitter.{Splitter}
-use Rattle.layer_split.specs.Groups.{groups_of, is_group_head, begins_group, last_from, last_group}
+use Rattle.layer_split.specs.Groups.{groups_of, begins_group, last_from, last_group}
 use Rattle.layer_split.specs.Layers.{Cut, cut_of}
 use Rattle.layer_split.specs.EndedLaws.{none_begins, groups_begin, last_at}
 use Rattle.layer_split.specs.Splitting.{HasAdded, groups_after, cuts_of}

@@ -16,7 +16,7 @@ use Rattle.layer_split.specs.Layers.{Cut}
 use Rattle.layer_split.specs.Splitting.{HasAdded, groups_after}
 use Rattle.stream_session.specs.CutGroups.{CutGroup}
 use Rattle.stream_session.specs.declared.groups.GroupCutter.{GroupCutter}
-use Rattle.stream_session.specs.Cutting.{HasCut, HasLooked, HasEnded, IsLive, IsRefused, IsCuttable, HaveEnded, NoneFurther, HasMetLimit, KeepsPending, cut_group, cut_groups, groups_in, pending, pieces_left, end_of}
+use Rattle.stream_session.specs.Cutting.{HasCut, HasLooked, HasEnded, IsLive, IsRefused, IsCuttable, HaveEnded, NoneFurther, HasMetLimit, KeepsPending, cut_group, groups_in, pending, pieces_left, end_of}
 use Rattle.stream_session.specs.StandingLaws.{stand_end}
 use Rattle.stream_session.specs.EndedLaws.{given_ended, ended_longer}
 use Rattle.stream_session.proofs.Looking.{ends_within}

@@ -1,24 +1,22 @@
 -- What callers know of the groups that a cutter gives: they are the first of the stream, their messages are those of
 -- the stream, and their layers have the lengths of its cuts. This project's own.
-use Rattle.std.proofs.Common.{◌≡◌, ℕ, suc, ◌+◌, ◌-◌, ◌≤◌, Bool, true, false, List, [], ◌∷◌, ◌++◌, length, take, drop, map, refl, sym, ◌∙◌, ap, subst, arith, inl, inr, append_assoc, drop-drop}
+use Rattle.std.proofs.Common.{◌≡◌, ℕ, suc, ◌+◌, ◌-◌, ◌≤◌, List, [], ◌∷◌, ◌++◌, length, take, drop, map, refl, sym, ◌∙◌, ap, arith, inl, inr, drop-drop}
 use Rattle.std.specs.Prelude.{◌==◌, All, if◌then◌else◌}
-use Rattle.std.specs.Bool.{MatchBool}
 use Rattle.std.specs.List.{flat_map, range_with_len}
 use Rattle.std.specs.Int.{to_be_bytes, w32}
 use Rattle.std.proofs.lemmas.Bool.{cond-true, cond-false, cases_Bool}
-use Rattle.std.proofs.lemmas.List.{append-nil, map-append, length-map, take-take, drop-take}
+use Rattle.std.proofs.lemmas.List.{append-nil, length-map, take-take, drop-take}
 use Rattle.mpeg_scan.specs.declared.piece.Piece.{Piece}
 use Rattle.mpeg_scan.specs.Pieces.{pieces_of, StandOnEnd}
-use Rattle.mpeg_scan.specs.Scanning.{IsFrontOf}
 use Rattle.priority_file.specs.Priority.{Priorities, layer_of}
 use Rattle.layer_split.specs.declared.cut.Run.{Run}
 use Rattle.layer_split.specs.Groups.{groups_of}
 use Rattle.layer_split.specs.Runs.{runs_of}
 use Rattle.layer_split.specs.Layers.{Cut, cut_of, run_table, run_entry, runs_in, bytes_of_run, layer_bytes, padded, message}
-use Rattle.layer_split.specs.Splitting.{rebased, cuts_of, groups_after}
+use Rattle.layer_split.specs.Splitting.{rebased, cuts_of}
 use Rattle.stream_session.specs.CutGroups.{CutGroup}
 use Rattle.stream_session.specs.declared.groups.GroupCutter.{GroupCutter}
-use Rattle.stream_session.specs.Cutting.{HasCut, HasLooked, IsLive, IsRefused, AreFirst, cut_group, cut_groups, bytes_of_pieces, pending}
+use Rattle.stream_session.specs.Cutting.{HasCut, AreFirst, cut_group, cut_groups, bytes_of_pieces}
 use Rattle.layer_split.specs.CutLaws.{LiesIn, StandsIn, runs_lie}
 use Rattle.stream_session.specs.StandingLaws.{stand_bytes, groups_stand}
 use Rattle.stream_session.specs.EndedLaws.{given_ended, ended_first}

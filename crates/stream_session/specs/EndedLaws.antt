@@ -1,20 +1,19 @@
 -- What callers know of groups that ended before a refusal: those that a cutter gave did, they stay as the stream goes on,
 -- and they are the first groups of the stream. This project's own.
-use Rattle.std.proofs.Common.{◌≡◌, ℕ, ◌+◌, ◌-◌, ◌<◌, ◌≤◌, Bool, true, false, List, [], ◌∷◌, ◌++◌, length, take, drop, map, refl, sym, ◌∙◌, ap, subst, arith, inl, inr, append_assoc}
+use Rattle.std.proofs.Common.{◌≡◌, ℕ, ◌+◌, Bool, true, false, List, [], ◌∷◌, ◌++◌, length, take, drop, map, refl, sym, ◌∙◌, ap, subst, arith, inl, inr, append_assoc}
 use Rattle.std.specs.Prelude.{All}
 use Rattle.std.specs.Bool.{MatchBool}
-use Rattle.std.proofs.Math.Seq.{take-append_seam, drop-append_seam}
-use Rattle.std.proofs.lemmas.List.{append-nil, map-append, length-append, length-map, take-map, drop-map, take-append-drop}
+use Rattle.std.proofs.Math.Seq.{take-append_seam}
+use Rattle.std.proofs.lemmas.List.{append-nil, map-append, length-append, take-map, take-append-drop}
 use Rattle.std.proofs.lemmas.List.Elements.{All-nil, All-take, All-tail}
-use Rattle.pet_base.specs.declared.limits.TheConstants.{MAX_GROUPS}
 use Rattle.mpeg_scan.specs.declared.piece.Piece.{Piece}
 use Rattle.mpeg_scan.specs.Refusals.{IsUndecided}
-use Rattle.mpeg_scan.specs.Pieces.{pieces_of, ended_pieces, StandOnEnd}
+use Rattle.mpeg_scan.specs.Pieces.{pieces_of, ended_pieces}
 use Rattle.mpeg_scan.specs.EndedLaws.{read_ended, ended_stay}
 use Rattle.priority_file.specs.Priority.{Priorities, layer_of}
 use Rattle.layer_split.specs.Groups.{groups_of, ended_groups}
 use Rattle.layer_split.specs.Faults.{is_too_long}
-use Rattle.layer_split.specs.Layers.{Cut, cut_of}
+use Rattle.layer_split.specs.Layers.{cut_of}
 use Rattle.layer_split.specs.CutLaws.{StandsIn}
 use Rattle.layer_split.specs.EndedLaws.{gone_ended, groups_stay, groups_grow}
 use Rattle.stream_session.specs.CutGroups.{CutGroup}
