@@ -22,7 +22,7 @@ use Rattle.stream_session.specs.EndedLaws.{groups_parted}
 use Rattle.stream_session.proofs.Looking.{all_looked, pieces_at}
 
 -- how many were given
-pub given_count : (cutter : GroupCutter) (priority : Priorities) (seen : List ℕ) (pieces : List Piece) (given : List CutGroup) (h : HasLooked cutter priority seen pieces given) → length given ≡ length (ended_groups h.looked)
+given_count : (cutter : GroupCutter) (priority : Priorities) (seen : List ℕ) (pieces : List Piece) (given : List CutGroup) (h : HasLooked cutter priority seen pieces given) → length given ≡ length (ended_groups h.looked)
 given_count cutter priority seen pieces given h =
     ap length (h.gives [])
     ∙ (length-map h.added.gone (cut_group priority (seen ++ [])) ∙ ap length (gone_ended cutter.splitter priority h.looked h.cuts h.added))

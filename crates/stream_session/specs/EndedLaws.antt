@@ -75,6 +75,7 @@ looked_ended cutter priority front behind pieces given h undecided ended =
       few = h.added.few;
     }
 
+-- they stay ended as the stream goes on
 pub ended_longer : (priority : Priorities) (stream portion : List ℕ) (groups : List CutGroup) → HaveEnded priority stream groups → HaveEnded priority (stream ++ portion) groups
 ended_longer priority stream portion groups h = record {
   front = h.front;
@@ -110,6 +111,7 @@ ended_by cutter priority stream given true over = elim over.left [
 pub given_ended : (cutter : GroupCutter) (priority : Priorities) (stream : List ℕ) (given : List CutGroup) → HasCut cutter priority stream given → HaveEnded priority stream given
 given_ended cutter priority stream given h = ended_by cutter priority stream given cutter.refused h.state
 
+-- no group at all
 pub none_ended : (priority : Priorities) (stream : List ℕ) → HaveEnded priority stream []
 none_ended priority stream = record {
   front = [];
@@ -146,6 +148,7 @@ ended_before priority stream groups more h =
       few = omega (arith, lengths, few);
     }
 
+-- they are the first groups of the stream
 pub ended_first : (priority : Priorities) (stream : List ℕ) (groups : List CutGroup) → HaveEnded priority stream groups → AreFirst priority stream groups
 ended_first priority stream groups h rest =
     let behind : List ℕ = h.behind ++ rest in
@@ -154,12 +157,11 @@ ended_first priority stream groups h rest =
     let later : List (List Piece) = h.later ++ more.0 in
     let split : groups_of (pieces_of (h.front ++ behind)) ≡ h.ended ++ later =
     more.1 ∙ (ap (λ l. l ++ more.0) h.first ∙ append_assoc h.ended h.later more.0) in
-    let cut = cut_group priority (h.front ++ behind) in
     let stand = All-front (StandsIn (length h.front)) h.ended h.later (subst (All (StandsIn (length h.front))) h.first (ended_stand h.front)) in
-    let same : map (cut_group priority (h.front ++ behind)) h.ended ≡ groups = cuts_stay priority h.front behind h.ended stand ∙ sym h.groups_are in (
-      map (cut_group priority (h.front ++ behind)) later,
+    let same : map (cut_group priority (h.front ++ behind)) h.ended ≡ groups = cuts_stay priority h.front behind h.ended stand ∙ sym h.groups_are in
+    let cuts : List CutGroup = map (cut_group priority (h.front ++ behind)) later in (
+      cuts,
       ap (cut_groups priority) parts
           ∙ (ap (map (cut_group priority (h.front ++ behind))) split
-          ∙ (map-append (cut_group priority (h.front ++ behind)) h.ended later
-          ∙ ap (λ l. l ++ map (cut_group priority (h.front ++ behind)) later) same)),
+          ∙ (map-append (cut_group priority (h.front ++ behind)) h.ended later ∙ ap (λ l. l ++ cuts) same)),
     )
