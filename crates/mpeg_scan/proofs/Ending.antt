@@ -75,21 +75,6 @@ end_by s u short NoMemory h = true≢false (sym h)
 alone : (s : List ℕ) (scan : Scan) → UndecidedWhole s → length s ≤ max_stream → holds s scan ≡ true → ((other : Scan) → EndBy s other → other ≡ scan) → Refuses s scan
 alone s scan u short h only = record { holding = h; first = λ other k. inl (only other (end_by s u short other k)) }
 
--- nothing was read
-empty_only : (s : List ℕ) → length s ≡ 0 → (other : Scan) → EndBy s other → other ≡ Empty
-empty_only s e Empty n = refl
-empty_only s e (NoHead q) n = absurd (let lt = n.1 in omega arith)
-empty_only s e (System p) n = absurd n
-empty_only s e (PictureType p t) n = absurd n
-empty_only s e (ShortPicture p) n = absurd (let w = n.0.within in omega arith)
-empty_only s e TooLong n = absurd n
-empty_only s e NoMemory n = absurd n
-
-pub ends_empty : (c : Scanner) → c.at ≡ 0 → (s : List ℕ) (p : List Piece) → HasRead c s p → DecidesAtEnd s (Some Empty)
-ends_empty c e s p r =
-    let l : length s ≡ 0 = sym r.at ∙ e in
-    alone s Empty (undecided_whole c s p r) r.bounded (eq-eqb _ _ l) (empty_only s l)
-
 -- before the first opener
 front_no_code : (s : List ℕ) (p : ℕ) → IsFront s → Stands s p → ⊥
 front_no_code s p (inl z) st =

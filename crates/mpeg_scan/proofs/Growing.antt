@@ -1,5 +1,5 @@
 -- What a call appended, and what calls one after another appended.
-use Rattle.std.proofs.Common.{◌≡◌, List, [], ◌++◌, length, drop, sym, ◌∙◌, ap, append_assoc}
+use Rattle.std.proofs.Common.{◌≡◌, List, ◌++◌, length, drop, sym, ◌∙◌, ap, append_assoc}
 use Rattle.std.proofs.Math.Seq.{drop-append_seam, drop-length}
 use Rattle.std.proofs.lemmas.List.{append-nil}
 use Rattle.mpeg_scan.specs.declared.piece.Piece.{Piece}
@@ -13,9 +13,6 @@ grown_by old new more e = e ∙ ap (λ l. old ++ l) (sym (added_by old new more 
 
 pub added_none : (old given : List Piece) → given ++ added old old ≡ given
 added_none old given = ap (λ l. given ++ l) (drop-length old) ∙ append-nil given
-
-pub grown_none : (old new : List Piece) → new ≡ old → HasGrown old new
-grown_none old new e = grown_by old new [] (e ∙ sym (append-nil old))
 
 both : (first middle last : List Piece) → HasGrown first middle → HasGrown middle last → last ≡ first ++ (added first middle ++ added middle last)
 both first middle last h k = k ∙ (ap (λ l. l ++ added middle last) h ∙ append_assoc first (added first middle) (added middle last))

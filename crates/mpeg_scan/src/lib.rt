@@ -2,9 +2,10 @@
 //!
 //! `specs/` defines on the whole stream where start codes stand, which refusal comes first, and the pieces. For every
 //! cutting of a stream the calls of `Scanner::feed` and one `finish` append exactly the pieces of an accepted stream
-//! and refuse any other by exactly its refusal. After a refusal the scanner gives that refusal again at every call and
-//! appends nothing, and what it appended before is a front of the stream's pieces. It keeps its last five bytes and the
-//! open piece, and no copy of the stream; want of memory for a piece is the one free answer.
+//! and refuse any other by exactly its refusal. Where a portion is refused, what was appended are exactly the pieces that
+//! had ended before the byte that decides it, which are a front of the stream's pieces; after that the scanner gives the
+//! same refusal at every call and appends nothing. It keeps its last five bytes and the open piece, and no copy of the
+//! stream; want of memory for a piece is the one free answer.
 #![tactic(auto)]
 
 mod codes;

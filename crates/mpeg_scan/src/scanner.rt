@@ -129,7 +129,7 @@ impl Scanner {
         ensures refusal { IfErr result (λ scan. scan ≢ Scan.NoMemory → (stream : List ℕ) (given : List Piece) → HasRead self.old stream given
             → (rest : List ℕ) → Refuses (stream ++ ahead.now ++ rest) scan) }
         ensures stopped { IfErr result (λ scan. scan ≢ Scan.NoMemory → (stream : List ℕ) (given : List Piece) → HasRead self.old stream given
-            → HasStopped (stream ++ ahead.now) scan given) }
+            → HasStopped (stream ++ ahead.now) scan (given ++ added pieces.old.items pieces.new.items)) }
         ensures kept { OnErr result (pieces.new.items ≡ pieces.old.items) }
         ensures refused { IfErr result (λ scan. HasRefused self.new scan) }
     {
@@ -151,7 +151,7 @@ impl Scanner {
         ensures refusal { IfErr result (λ scan. scan ≢ Scan.NoMemory → (stream : List ℕ) (given : List Piece) → HasRead self.old stream given
             → (rest : List ℕ) → Refuses (stream ++ byte ∷ rest) scan) }
         ensures stopped { IfErr result (λ scan. scan ≢ Scan.NoMemory → (stream : List ℕ) (given : List Piece) → HasRead self.old stream given
-            → HasStopped (stream ++ byte ∷ []) scan given) }
+            → HasStopped (stream ++ byte ∷ []) scan (given ++ added pieces.old.items pieces.new.items)) }
         ensures kept { OnErr result (pieces.new.items ≡ pieces.old.items) }
     {
         if let Some(scan) = self.refusal_by(byte) {

@@ -18,9 +18,11 @@ pub returns-in_err-read-clause-stopped : goal.returns-in_err-read-clause-stopped
 returns-in_err-read-clause-stopped c =
     let p = err_from_is_err_and c.from_residual.result c.from_residual.ensures.1 in
     rw (p.1, p.2) (λ ne s g r.
-    subst (λ ps. HasStopped (s ++ c.args.portion.now) c.in_err-read.field-0.0 (g ++ added c.args.pieces.now.items ps)) (sym c.in_err-read.ensures.kept)
-    (subst (λ S. HasStopped S c.in_err-read.field-0.0 (g ++ added c.args.pieces.now.items c.loop-read.pieces.items)) (slice_here s c.args.portion.now c.loop-read.read)
-    (c.in_err-read.ensures.stopped ne (s ++ take c.loop-read.read c.args.portion.now) (g ++ added c.args.pieces.now.items c.loop-read.pieces.items) (c.loop-read.invariant.front s g r))))
+    let given = g ++ added c.args.pieces.now.items c.loop-read.pieces.items in
+    subst (HasStopped (s ++ c.args.portion.now) c.in_err-read.field-0.0)
+    (added_both c.args.pieces.now.items c.loop-read.pieces.items c.read_on.new.pieces.items g c.loop-read.invariant.grows c.read_on.ensures.grows)
+    (subst (λ S. HasStopped S c.in_err-read.field-0.0 (given ++ added c.loop-read.pieces.items c.read_on.new.pieces.items)) (slice_here s c.args.portion.now c.loop-read.read)
+    (c.in_err-read.ensures.stopped ne (s ++ take c.loop-read.read c.args.portion.now) given (c.loop-read.invariant.front s g r))))
 
 pub returns-in_err-read-clause-front : goal.returns-in_err-read-clause-front
 returns-in_err-read-clause-front c s g r =

@@ -3,7 +3,7 @@ use Rattle.std.proofs.Common.{◌≡◌, ◌++◌, ◌∷◌, [], refl, sym, ◌
 use Rattle.std.specs.Prelude.{is_ok}
 use Rattle.std.proofs.lemmas.Bool.{iff_false, cond-true}
 use Rattle.mpeg_scan.specs.Pieces.{kind_of_type}
-use Rattle.mpeg_scan.specs.Scanning.{HasRead}
+use Rattle.mpeg_scan.specs.Scanning.{HasRead, HasStopped}
 use Rattle.mpeg_scan.proofs.Growing.{added_by, added_none}
 use Rattle.mpeg_scan.proofs.Reading.{no_type_at_code}
 use Rattle.mpeg_scan.proofs.Stopping.{stopped_by}
@@ -14,7 +14,9 @@ pub returns-in-Some-clause-refusal : goal.returns-in-Some-clause-refusal
 returns-in-Some-clause-refusal c _ s g r rest = (c.in-Some.ensures.decides s g r rest).0
 
 pub returns-in-Some-clause-stopped : goal.returns-in-Some-clause-stopped
-returns-in-Some-clause-stopped c _ s g r = stopped_by c.args.self.now s c.args.byte c.in-Some.scan g r (c.in-Some.ensures.decides s g r)
+returns-in-Some-clause-stopped c _ s g r =
+    subst (HasStopped (s ++ c.args.byte ∷ []) c.in-Some.scan) (sym (added_none c.args.pieces.now.items g))
+    (stopped_by c.args.self.now s c.args.byte c.in-Some.scan g r (c.in-Some.ensures.decides s g r))
 
 pub returns-then-self-clause-ok : goal.returns-then-self-clause-ok
 returns-then-self-clause-ok c s g r =
