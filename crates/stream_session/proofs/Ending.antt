@@ -1,12 +1,13 @@
 -- Where a splitter's groups end, one piece on and at the end.
-use Rattle.std.proofs.Common.{◌≡◌, Bool, true, false, List, [], ◌∷◌, ◌++◌, length, refl, sym, ◌∙◌, ap, subst, ◌&&◌, append_assoc, inl, inr}
+use Rattle.std.proofs.Common.{◌≡◌, Bool, true, false, List, [], ◌∷◌, ◌++◌, length, refl, sym, ◌∙◌, ap, subst, append_assoc}
 use Rattle.std.proofs.lemmas.List.{append-nil, map-append, same_from_push}
-use Rattle.std.proofs.lemmas.Bool.{cond-true, cond-false, cases_Bool, both_ways}
+use Rattle.std.proofs.lemmas.Bool.{cond-false}
 use Rattle.mpeg_scan.specs.declared.piece.Piece.{Piece}
 use Rattle.priority_file.specs.Priority.{Priorities, layer_of}
 use Rattle.layer_split.specs.declared.splitter.Splitter.{Splitter}
-use Rattle.layer_split.specs.Groups.{groups_of, is_group_head, begins_group, last_from, last_group}
+use Rattle.layer_split.specs.Groups.{groups_of, begins_group, last_from, last_group}
 use Rattle.layer_split.specs.Layers.{Cut, cut_of}
+use Rattle.layer_split.specs.EndedLaws.{none_begins, groups_begin, last_at}
 use Rattle.layer_split.specs.Splitting.{HasAdded, groups_after, cuts_of}
 
 pub push_not_nil : (xs : List Piece) (x : Piece) → xs ++ x ∷ [] ≡ [] → ⊥
@@ -27,26 +28,12 @@ parted splitter priority pieces cuts k gone current some e =
     same_from_push k.gone gone k.current current
     (sym (all_groups splitter priority pieces cuts k ∙ ap (λ l. k.gone ++ l) (after_nil k.current (λ none. some (k.fresh none)))) ∙ e)
 
-groups_stay : (current : List Piece) (p : Piece) → begins_group current p ≡ false → groups_after current (p ∷ []) ≡ (current ++ p ∷ []) ∷ []
-groups_stay [] p e = refl
-groups_stay (c ∷ cs) p e = cond-false (begins_group (c ∷ cs) p) _ _ e
-
-none_begins : (p : Piece) → begins_group [] p ≡ true → ⊥
-none_begins p e = elim (cases_Bool (is_group_head p)) [
-  | inl k ↦ both_ways _ (ap (λ b. b && false) k) e
-  | inr k ↦ both_ways _ (ap (λ b. b && false) k) e
-]
-
-groups_begin : (current : List Piece) (p : Piece) → begins_group current p ≡ true → groups_after current (p ∷ []) ≡ current ∷ ((p ∷ []) ∷ [])
-groups_begin [] p e = absurd (none_begins p e)
-groups_begin (c ∷ cs) p e = cond-true (begins_group (c ∷ cs) p) _ _ e
+group_goes_on : (current : List Piece) (p : Piece) → begins_group current p ≡ false → groups_after current (p ∷ []) ≡ (current ++ p ∷ []) ∷ []
+group_goes_on [] p e = refl
+group_goes_on (c ∷ cs) p e = cond-false (begins_group (c ∷ cs) p) _ _ e
 
 pub begins_some : (current : List Piece) (p : Piece) → begins_group current p ≡ true → current ≡ [] → ⊥
 begins_some current p e none = none_begins p (subst (λ l. begins_group l p ≡ true) none e)
-
-last_at : (d : List Piece) (gone : List (List Piece)) (group : List Piece) → last_from d (gone ++ group ∷ []) ≡ group
-last_at d [] group = refl
-last_at d (g ∷ gone) group = last_at g gone group
 
 last_of : (pieces current : List Piece) (gone : List (List Piece)) → (current ≡ [] → pieces ≡ []) → groups_of pieces ≡ gone ++ groups_after current [] → last_group pieces ≡ current
 last_of pieces [] gone fresh e = ap last_group (fresh refl)
@@ -60,13 +47,13 @@ begins_last splitter priority pieces cuts p b h e =
 pub stays : (old new : Splitter) (priority : Priorities) (pieces : List Piece) (cuts more : List Cut) (p : Piece) (h : HasAdded old priority pieces cuts) (k : HasAdded new priority (pieces ++ p ∷ []) more) → begins_group h.current p ≡ false → (k.gone ≡ h.gone) × (k.current ≡ h.current ++ p ∷ [])
 stays old new priority pieces cuts more p h k e =
     parted new priority (pieces ++ p ∷ []) more k h.gone (h.current ++ p ∷ []) (push_not_nil pieces p)
-    (h.groups (p ∷ []) ∙ ap (λ l. h.gone ++ l) (groups_stay h.current p e))
+    (h.groups (p ∷ []) ∙ ap (λ l. h.gone ++ l) (group_goes_on h.current p e))
 
 -- the piece begins another group
 pub begins : (old new : Splitter) (priority : Priorities) (pieces : List Piece) (cuts more : List Cut) (p : Piece) (h : HasAdded old priority pieces cuts) (k : HasAdded new priority (pieces ++ p ∷ []) more) → begins_group h.current p ≡ true → (k.gone ≡ h.gone ++ h.current ∷ []) × (k.current ≡ p ∷ [])
 begins old new priority pieces cuts more p h k e =
     parted new priority (pieces ++ p ∷ []) more k (h.gone ++ h.current ∷ []) (p ∷ []) (push_not_nil pieces p)
-    (h.groups (p ∷ []) ∙ (ap (λ l. h.gone ++ l) (groups_begin h.current p e) ∙ sym (append_assoc h.gone (h.current ∷ []) ((p ∷ []) ∷ []))))
+    (h.groups (p ∷ []) ∙ (ap (λ l. h.gone ++ l) (groups_begin h.current p [] e) ∙ sym (append_assoc h.gone (h.current ∷ []) ((p ∷ []) ∷ []))))
 
 -- the cut that came is that of the group that ended
 pub cut_is : (splitter : Splitter) (priority : Priorities) (pieces : List Piece) (cuts all : List Cut) (cut : Cut) (group : List Piece) (h : HasAdded splitter priority pieces cuts) → cuts ++ cut ∷ [] ≡ all → all ≡ cuts_of priority (h.gone ++ group ∷ []) → cut ≡ cut_of (layer_of priority) (length priority.layers) group

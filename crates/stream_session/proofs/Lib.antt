@@ -8,4 +8,5 @@ pub mod Passed
 pub mod Sourced
 pub mod Ending
 pub mod Looking
+pub mod Further
 pub mod Reading

@@ -6,7 +6,7 @@ use Rattle.mpeg_scan.specs.declared.piece.Piece.{Piece}
 use Rattle.mpeg_scan.specs.declared.refusal.Scan.{Scan}
 use Rattle.mpeg_scan.specs.Refusals.{Refuses, holds, max_stream}
 use Rattle.mpeg_scan.specs.Pieces.{pieces_of, StandOnEnd}
-use Rattle.mpeg_scan.specs.Scanning.{HasRead, IsFrontOf, HasGrown, added}
+use Rattle.mpeg_scan.specs.Scanning.{HasRead, HasStopped, IsFrontOf, HasGrown, added}
 use Rattle.priority_file.specs.Priority.{Priorities, layer_of}
 use Rattle.layer_split.specs.declared.splitter.Splitter.{Splitter}
 use Rattle.layer_split.specs.declared.fault.SplitFault.{SplitFault}
@@ -16,10 +16,11 @@ use Rattle.layer_split.specs.Layers.{Cut}
 use Rattle.layer_split.specs.Splitting.{HasAdded, groups_after}
 use Rattle.stream_session.specs.CutGroups.{CutGroup}
 use Rattle.stream_session.specs.declared.groups.GroupCutter.{GroupCutter}
-use Rattle.stream_session.specs.Cutting.{HasCut, HasLooked, HasEnded, IsLive, IsRefused, IsCuttable, AreFirst, KeepsPending, cut_group, cut_groups, groups_in, pending, pieces_left, end_of}
+use Rattle.stream_session.specs.Cutting.{HasCut, HasLooked, HasEnded, IsLive, IsRefused, IsCuttable, HaveEnded, NoneFurther, HasMetLimit, KeepsPending, cut_group, groups_in, pending, pieces_left, end_of}
 use Rattle.stream_session.specs.StandingLaws.{stand_end}
-use Rattle.stream_session.specs.CuttingLaws.{given_front}
+use Rattle.stream_session.specs.EndedLaws.{given_ended, ended_longer}
 use Rattle.stream_session.proofs.Looking.{ends_within}
+use Rattle.stream_session.proofs.Further.{stopped_by}
 
 pub live_of : (cutter : GroupCutter) (priority : Priorities) (stream : List ℕ) (given : List CutGroup) → HasCut cutter priority stream given → cutter.refused ≡ false → IsLive cutter priority stream given
 live_of cutter priority stream given h e = subst (λ b. MatchBool b (IsRefused cutter priority stream given) (IsLive cutter priority stream given)) e h.state
@@ -120,7 +121,11 @@ refused_more cutter priority stream portion given over = record {
   never = λ rest. subst (λ w. IsCuttable priority w → ⊥) (sym (append_assoc stream portion rest)) (over.never (portion ++ rest));
   left = elim over.left [
     | inl none ↦
-        inl (none.0, λ rest. subst (λ w. (later : List CutGroup) × (cut_groups priority w ≡ given ++ later)) (sym (append_assoc stream portion rest)) (none.1 (portion ++ rest)))
+        inl (record {
+          none_left = none.none_left;
+          ended = ended_longer priority stream portion given none.ended;
+          none_further = λ rest. subst (λ w. NoneFurther priority w given) (sym (append_assoc stream portion rest)) (none.none_further (portion ++ rest));
+        })
     | inr part ↦
         inr (record {
           seen = part.seen;
@@ -128,6 +133,9 @@ refused_more cutter priority stream portion given over = record {
           parts = ap (λ w. w ++ portion) part.parts ∙ append_assoc part.seen part.unseen portion;
           pieces = part.pieces;
           front = part.front;
+          scan = part.scan;
+          refuses = part.refuses;
+          stopped = part.stopped;
           looked = part.looked;
         })
   ];
@@ -140,10 +148,20 @@ pub not_accepted : (priority : Priorities) (stream : List ℕ) (scan : Scan) →
 not_accepted priority stream scan refuses cuttable = not_both (holds stream scan) refuses.holding (cuttable.0 scan)
 
 -- the portion refused the stream
-pub refuses_now : (cutter : GroupCutter) (priority : Priorities) (stream : List ℕ) (pieces : List Piece) (given : List CutGroup) (scan : Scan) → ((rest : List ℕ) → Refuses (stream ++ rest) scan) → IsFrontOf stream pieces → HasLooked cutter priority stream pieces given → IsRefused cutter priority stream given
-refuses_now cutter priority stream pieces given scan refuses front looked = record {
+pub refuses_now : (cutter : GroupCutter) (priority : Priorities) (stream : List ℕ) (pieces : List Piece) (given : List CutGroup) (scan : Scan) → ((rest : List ℕ) → Refuses (stream ++ rest) scan) → HasStopped stream scan pieces → IsFrontOf stream pieces → HasLooked cutter priority stream pieces given → IsRefused cutter priority stream given
+refuses_now cutter priority stream pieces given scan refuses stopped front looked = record {
   never = λ rest. not_accepted priority (stream ++ rest) scan (refuses rest);
-  left = inr (record { seen = stream; unseen = []; parts = sym (append-nil stream); pieces = pieces; front = front; looked = looked });
+  left = inr (record {
+    seen = stream;
+    unseen = [];
+    parts = sym (append-nil stream);
+    pieces = pieces;
+    front = front;
+    scan = scan;
+    refuses = refuses;
+    stopped = stopped;
+    looked = looked;
+  });
 }
 
 -- a group was given
@@ -158,11 +176,13 @@ gives_by old new group priority stream given true looks idle scanner over = reco
   never = over.never;
   left = elim over.left [
     | inl none ↦
-        (let same = idle none.0 in
-        inl (
-          subst (λ n. pieces_left n ≡ 0) (sym same.1) none.0,
-          subst (AreFirst priority stream) (sym (ap (λ g. given ++ groups_in g) same.0 ∙ append-nil given)) none.1,
-        ))
+        (let same = idle none.none_left in
+        let groups : given ≡ given ++ groups_in group = sym (ap (λ g. given ++ groups_in g) same.0 ∙ append-nil given) in
+        inl (record {
+          none_left = subst (λ n. pieces_left n ≡ 0) (sym same.1) none.none_left;
+          ended = subst (HaveEnded priority stream) groups none.ended;
+          none_further = λ rest. subst (NoneFurther priority (stream ++ rest)) groups (none.none_further rest);
+        }))
     | inr part ↦
         inr (record {
           seen = part.seen;
@@ -170,6 +190,9 @@ gives_by old new group priority stream given true looks idle scanner over = reco
           parts = part.parts;
           pieces = part.pieces;
           front = part.front;
+          scan = part.scan;
+          refuses = part.refuses;
+          stopped = part.stopped;
           looked = looks part.seen part.pieces part.looked;
         })
   ];
@@ -194,12 +217,16 @@ never_by : (old : GroupCutter) (priority : Priorities) (stream : List ℕ) (give
 never_by old priority stream given fault false faults live rest = faulty old priority stream rest live.pieces fault live.front (faults stream live.pieces live.looked)
 never_by old priority stream given fault true faults over rest = over.never rest
 
-pub stops : (old new : GroupCutter) (priority : Priorities) (stream : List ℕ) (given : List CutGroup) (fault : SplitFault) → ((seen : List ℕ) (pieces : List Piece) → HasLooked old priority seen pieces given → (later : List Piece) → fault_of (layer_of priority) (length priority.layers) (groups_of (pieces ++ later)) ≡ Some fault) → new.refused ≡ true → pieces_left new ≡ 0 → HasCut old priority stream given → HasCut new priority stream (given ++ [])
-stops old new priority stream given fault faults refused left h =
+pub stops : (old new : GroupCutter) (priority : Priorities) (stream : List ℕ) (given : List CutGroup) (fault : SplitFault) → ((seen : List ℕ) (pieces : List Piece) → HasLooked old priority seen pieces given → (later : List Piece) → fault_of (layer_of priority) (length priority.layers) (groups_of (pieces ++ later)) ≡ Some fault) → ((seen : List ℕ) (pieces : List Piece) → HasLooked old priority seen pieces given → HasMetLimit priority pieces given) → new.refused ≡ true → pieces_left new ≡ 0 → HasCut old priority stream given → HasCut new priority stream (given ++ [])
+stops old new priority stream given fault faults limits refused left h =
     subst (HasCut new priority stream) (sym (append-nil given))
     (cut_refused new priority stream given refused (record {
       never = never_by old priority stream given fault old.refused faults h.state;
-      left = inl (left, given_front old priority stream given h);
+      left = inl (record {
+        none_left = left;
+        ended = given_ended old priority stream given h;
+        none_further = stopped_by old priority stream given old.refused limits h.state;
+      });
     }))
 
 -- the stream has ended

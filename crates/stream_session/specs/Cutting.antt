@@ -5,14 +5,15 @@ use Rattle.std.specs.List.{flat_map}
 use Rattle.std.specs.Bool.{MatchBool}
 use Rattle.pet_base.specs.declared.limits.TheConstants.{MAX_GROUPS}
 use Rattle.mpeg_scan.specs.declared.piece.Piece.{Piece}
-use Rattle.mpeg_scan.specs.Refusals.{IsAccepted, IsUndecided, max_stream}
+use Rattle.mpeg_scan.specs.declared.refusal.Scan.{Scan}
+use Rattle.mpeg_scan.specs.Refusals.{IsAccepted, IsUndecided, Refuses, max_stream}
 use Rattle.mpeg_scan.specs.Pieces.{pieces_of, ended_pieces, StandOnEnd}
-use Rattle.mpeg_scan.specs.Scanning.{HasRead, IsFrontOf}
+use Rattle.mpeg_scan.specs.Scanning.{HasRead, HasStopped, IsFrontOf}
 use Rattle.priority_file.specs.Priority.{Priorities, layer_of}
 use Rattle.layer_split.specs.Groups.{groups_of, ended_groups}
 use Rattle.layer_split.specs.Layers.{Cut, cut_of}
 use Rattle.layer_split.specs.Faults.{fault_of, is_too_long}
-use Rattle.layer_split.specs.Splitting.{HasAdded, rebased}
+use Rattle.layer_split.specs.Splitting.{HasAdded, IsOneTooMany, rebased}
 use Rattle.stream_session.specs.CutGroups.{CutGroup}
 use Rattle.stream_session.specs.declared.groups.GroupCutter.{GroupCutter}
 
@@ -92,6 +93,9 @@ pub record IsSeen (cutter : GroupCutter) (priority : Priorities) (stream : List 
   pub parts : stream ≡ seen ++ unseen
   pub pieces : List Piece
   pub front : IsFrontOf seen pieces
+  pub scan : Scan
+  pub refuses : (rest : List ℕ) → Refuses (seen ++ rest) scan
+  pub stopped : HasStopped seen scan pieces
   pub looked : HasLooked cutter priority seen pieces given
 
 -- These groups are the first of the stream, and ended before it or its groups were refused: in a front of it by which nothing
@@ -112,14 +116,29 @@ pub record HaveEnded (priority : Priorities) (stream : List ℕ) (groups : List 
 abbrev pub NoneFurther : Priorities → List ℕ → List CutGroup → Type 0
 NoneFurther priority stream groups = (next : CutGroup) → HaveEnded priority stream (groups ++ next ∷ []) → ⊥
 
+-- These groups are all that had ended before one of these pieces, with which the groups are refused.
+pub record HasMetLimit (priority : Priorities) (pieces : List Piece) (given : List CutGroup) : Type 0 where
+  pub before : List Piece
+  pub piece : Piece
+  pub behind : List Piece
+  pub parts : pieces ≡ before ++ piece ∷ behind
+  pub count : length given ≡ length (ended_groups before)
+  pub limit : IsOneTooMany priority before piece
+
 -- these are the first groups of the stream, however it goes on
 abbrev pub AreFirst : Priorities → List ℕ → List CutGroup → Type 0
 AreFirst priority stream groups = (rest : List ℕ) → (later : List CutGroup) × (cut_groups priority (stream ++ rest) ≡ groups ++ later)
 
+-- the groups are refused, and of those that had ended before none is left
+pub record IsStopped (cutter : GroupCutter) (priority : Priorities) (stream : List ℕ) (given : List CutGroup) : Type 0 where
+  pub none_left : pieces_left cutter ≡ 0
+  pub ended : HaveEnded priority stream given
+  pub none_further : (rest : List ℕ) → NoneFurther priority (stream ++ rest) given
+
 -- the stream or its groups are refused, however it goes on
 pub record IsRefused (cutter : GroupCutter) (priority : Priorities) (stream : List ℕ) (given : List CutGroup) : Type 0 where
   pub never : (rest : List ℕ) → IsCuttable priority (stream ++ rest) → ⊥
-  pub left : ((pieces_left cutter ≡ 0) × AreFirst priority stream given) ⊎ IsSeen cutter priority stream given
+  pub left : IsStopped cutter priority stream given ⊎ IsSeen cutter priority stream given
 
 -- The cutter for this priority has read the stream, and has given these groups.
 pub record HasCut (cutter : GroupCutter) (priority : Priorities) (stream : List ℕ) (given : List CutGroup) : Type 0 where

@@ -1,54 +1,29 @@
 -- What callers know of the groups that a cutter gives: they are the first of the stream, their messages are those of
 -- the stream, and their layers have the lengths of its cuts. This project's own.
-use Rattle.std.proofs.Common.{◌≡◌, ℕ, suc, ◌+◌, ◌-◌, ◌≤◌, Bool, true, false, List, [], ◌∷◌, ◌++◌, length, take, drop, map, refl, sym, ◌∙◌, ap, subst, arith, inl, inr, append_assoc, drop-drop}
+use Rattle.std.proofs.Common.{◌≡◌, ℕ, suc, ◌+◌, ◌-◌, ◌≤◌, List, [], ◌∷◌, ◌++◌, length, take, drop, map, refl, sym, ◌∙◌, ap, arith, inl, inr, drop-drop}
 use Rattle.std.specs.Prelude.{◌==◌, All, if◌then◌else◌}
-use Rattle.std.specs.Bool.{MatchBool}
 use Rattle.std.specs.List.{flat_map, range_with_len}
 use Rattle.std.specs.Int.{to_be_bytes, w32}
 use Rattle.std.proofs.lemmas.Bool.{cond-true, cond-false, cases_Bool}
-use Rattle.std.proofs.lemmas.List.{append-nil, map-append, length-map, take-take, drop-take}
+use Rattle.std.proofs.lemmas.List.{append-nil, length-map, take-take, drop-take}
 use Rattle.mpeg_scan.specs.declared.piece.Piece.{Piece}
 use Rattle.mpeg_scan.specs.Pieces.{pieces_of, StandOnEnd}
-use Rattle.mpeg_scan.specs.Scanning.{IsFrontOf}
 use Rattle.priority_file.specs.Priority.{Priorities, layer_of}
 use Rattle.layer_split.specs.declared.cut.Run.{Run}
 use Rattle.layer_split.specs.Groups.{groups_of}
 use Rattle.layer_split.specs.Runs.{runs_of}
 use Rattle.layer_split.specs.Layers.{Cut, cut_of, run_table, run_entry, runs_in, bytes_of_run, layer_bytes, padded, message}
-use Rattle.layer_split.specs.Splitting.{rebased, cuts_of, groups_after}
+use Rattle.layer_split.specs.Splitting.{rebased, cuts_of}
 use Rattle.stream_session.specs.CutGroups.{CutGroup}
 use Rattle.stream_session.specs.declared.groups.GroupCutter.{GroupCutter}
-use Rattle.stream_session.specs.Cutting.{HasCut, HasLooked, IsLive, IsRefused, AreFirst, cut_group, cut_groups, bytes_of_pieces, pending}
+use Rattle.stream_session.specs.Cutting.{HasCut, AreFirst, cut_group, cut_groups, bytes_of_pieces}
 use Rattle.layer_split.specs.CutLaws.{LiesIn, StandsIn, runs_lie}
 use Rattle.stream_session.specs.StandingLaws.{stand_bytes, groups_stand}
+use Rattle.stream_session.specs.EndedLaws.{given_ended, ended_first}
 
 -- the groups that were given are the first of the stream
-pub looked_first : (cutter : GroupCutter) (priority : Priorities) (seen : List ℕ) (pieces : List Piece) (given : List CutGroup) → HasLooked cutter priority seen pieces given → IsFrontOf seen pieces → AreFirst priority seen given
-looked_first cutter priority seen pieces given h front more =
-    let all = front.front more in
-    let later : List (List Piece) = groups_after h.added.current (pending cutter ++ all.0) in
-    let groups : groups_of (pieces_of (seen ++ more)) ≡ h.added.gone ++ later =
-    ap groups_of all.1
-    ∙ (ap (λ l. groups_of (l ++ all.0)) h.whole
-    ∙ (ap groups_of (append_assoc h.looked (pending cutter) all.0) ∙ h.added.groups (pending cutter ++ all.0))) in (
-      map (cut_group priority (seen ++ more)) later,
-      ap (map (cut_group priority (seen ++ more))) groups
-          ∙ (map-append (cut_group priority (seen ++ more)) h.added.gone later
-          ∙ ap (λ l. l ++ map (cut_group priority (seen ++ more)) later) (sym (h.gives more))),
-    )
-
-first_by : (cutter : GroupCutter) (priority : Priorities) (stream : List ℕ) (given : List CutGroup) (b : Bool) → MatchBool b (IsRefused cutter priority stream given) (IsLive cutter priority stream given) → AreFirst priority stream given
-first_by cutter priority stream given false live = looked_first cutter priority stream live.pieces given live.looked live.front
-first_by cutter priority stream given true over = elim over.left [
-  | inl none ↦ none.1
-  | inr part ↦ (λ rest.
-      subst (λ w. (later : List CutGroup) × (cut_groups priority w ≡ given ++ later))
-      (sym (append_assoc part.seen part.unseen rest) ∙ ap (λ w. w ++ rest) (sym part.parts))
-      (looked_first cutter priority part.seen part.pieces given part.looked part.front (part.unseen ++ rest)))
-]
-
 pub given_front : (cutter : GroupCutter) (priority : Priorities) (stream : List ℕ) (given : List CutGroup) → HasCut cutter priority stream given → AreFirst priority stream given
-given_front cutter priority stream given h = first_by cutter priority stream given cutter.refused h.state
+given_front cutter priority stream given h = ended_first priority stream given (given_ended cutter priority stream given h)
 
 -- a run in the bytes from a to b of a stream
 run_bytes : (s : List ℕ) (a b : ℕ) (run : Run) → LiesIn a b run → bytes_of_run (take (b - a) (drop a s)) (rebased a run) ≡ bytes_of_run s run

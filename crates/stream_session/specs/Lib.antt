@@ -14,6 +14,7 @@ pub mod Cutting
 pub mod StandingLaws
 pub mod Marks
 pub mod Marking
+pub mod EndedLaws
 pub mod CuttingLaws
 pub mod FittingLaws
 pub mod FilledLaws

@@ -9,7 +9,7 @@ ghost use Rattle.layer_split.specs.Groups.{groups_of};
 ghost use Rattle.layer_split.specs.Faults.{fault_of};
 ghost use Rattle.layer_split.specs.Splitting.{rebased};
 ghost use Rattle.stream_session.specs.CutGroups.{CutGroup};
-ghost use Rattle.stream_session.specs.Cutting.{HasCut, HasLooked, HasEnded, AreAll, IsCuttable, KeepsPieces, KeepsPending, Ends, cut_groups, group_from, groups_in, pieces_left};
+ghost use Rattle.stream_session.specs.Cutting.{HasCut, HasLooked, HasEnded, AreAll, IsCuttable, NoneFurther, HasMetLimit, KeepsPieces, KeepsPending, Ends, cut_groups, group_from, groups_in, pieces_left};
 
 use layer_split::{GroupCut, SplitFault, Splitter};
 use mpeg_scan::{Piece, Scan, Scanner};
@@ -57,7 +57,8 @@ pub struct GroupCutter {
 impl GroupCutter {
     /// A cutter for this priority that has read nothing.
     pub fn new(alloc: Global, priority: &Priority) -> Result<GroupCutter, NoMemory>
-        ensures { IfOk result (λ cutter. HasCut cutter priority.now [] []) }
+        ensures cut { IfOk result (λ cutter. HasCut cutter priority.now [] []) }
+        ensures none_left { IfOk result (λ cutter. pieces_left cutter ≡ 0) }
     {
         Ok(GroupCutter {
             alloc,
@@ -120,6 +121,9 @@ impl GroupCutter {
             → HasCut self.old priority stream given → AreAll priority stream (given ++ left.items))) }
         ensures refused { IfOk result (λ groups. IfNone groups ((priority : Priorities) (stream : List ℕ) (given : List CutGroup)
             → HasCut self.old priority stream given → IsCuttable priority stream → ⊥)) }
+        // Where all that was read was looked at, every group that had ended before the refusal was given.
+        ensures further { IfOk result (λ groups. IfNone groups ((priority : Priorities) (stream : List ℕ) (given : List CutGroup)
+            → HasCut self.old priority stream given → pieces_left self.old ≡ 0 → NoneFurther priority stream given)) }
     {
         if self.refused {
             return Ok(None);
@@ -160,6 +164,8 @@ impl GroupCutter {
         ensures fault { IfErr result (λ fault. fault ≢ SplitFault.NoMemory → (priority : Priorities) (seen : List ℕ) (pieces : List Piece) (given : List CutGroup)
             → HasLooked self.old priority seen pieces given → (later : List Piece)
             → fault_of (layer_of priority) (length priority.layers) (groups_of (pieces ++ later)) ≡ Some fault) }
+        ensures limit { IfErr result (λ fault. fault ≢ SplitFault.NoMemory → (priority : Priorities) (seen : List ℕ) (pieces : List Piece) (given : List CutGroup)
+            → HasLooked self.old priority seen pieces given → HasMetLimit priority pieces given) }
         ensures fewer { IfOk result (λ group. IsSome group → pieces_left self.new < pieces_left self.old) }
         ensures done { IfOk result (λ group. IfNone group (pieces_left self.new ≡ 0)) }
         ensures idle { pieces_left self.old ≡ 0 → (result ≡ Ok None) × (self.new ≡ self.old) }
@@ -181,6 +187,8 @@ impl GroupCutter {
         ensures fault { IfErr result (λ fault. fault ≢ SplitFault.NoMemory → (priority : Priorities) (seen : List ℕ) (pieces : List Piece) (given : List CutGroup)
             → HasLooked self.old priority seen pieces given → (later : List Piece)
             → fault_of (layer_of priority) (length priority.layers) (groups_of (pieces ++ later)) ≡ Some fault) }
+        ensures limit { IfErr result (λ fault. fault ≢ SplitFault.NoMemory → (priority : Priorities) (seen : List ℕ) (pieces : List Piece) (given : List CutGroup)
+            → HasLooked self.old priority seen pieces given → HasMetLimit priority pieces given) }
         ensures fewer { OnOk result (pieces_left self.new < pieces_left self.old) }
         ensures rest { (self.new.scanner ≡ self.old.scanner) × (self.new.refused ≡ self.old.refused) }
     {

@@ -29,5 +29,6 @@ returns-in_ok-pass_on_scan-in-Err c priority stream given h =
     let read = subst (λ s. HasRead s stream live.pieces) (sym keeps.scanner) live.read in
     let front = c.feed.ensures.front stream live.pieces read in
     cut_refused _ priority _ given refl
-    (refuses_now _ priority _ _ given c.in-Err.scan (c.in-Err.ensures.refusal c.in_ok-pass_on_scan-in-Err.ensures stream live.pieces read) front
+    (refuses_now _ priority _ _ given c.in-Err.scan (c.in-Err.ensures.refusal c.in_ok-pass_on_scan-in-Err.ensures stream live.pieces read)
+    (c.in-Err.ensures.stopped c.in_ok-pass_on_scan-in-Err.ensures stream live.pieces read) front
     (feeds c.args.self.now c.forget_looked.new.self _ priority stream c.args.portion.now given live keeps c.feed.ensures.grows refl refl refl c.in_ok-extend_from_slice.ensures.items front))

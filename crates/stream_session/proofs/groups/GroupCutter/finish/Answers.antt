@@ -5,6 +5,7 @@ use Rattle.std.proofs.lemmas.List.{append-nil}
 use Rattle.std.proofs.lemmas.Result.{IfOk-weaker}
 use Rattle.stream_session.specs.Cutting.{IsCuttable}
 use Rattle.stream_session.proofs.Reading.{live_of, refused_of, ends}
+use Rattle.stream_session.proofs.Further.{none_further}
 use Rattle.stream_session.proofs.groups.GroupCutter.finish.Goals as goal
 
 some_by : {X : Type 0} (o : Option X) (P Q : X → Type 0) → ((x : X) → P x → Q x) → IfSome o P → IfSome o Q
@@ -18,6 +19,15 @@ none_by (Some x) P Q f h = h
 pub returns-then-self-clause-refused : goal.returns-then-self-clause-refused
 returns-then-self-clause-refused c priority stream given h cuttable =
     (refused_of c.args.self.now priority stream given h c.if-self.true).never [] (subst (IsCuttable priority) (sym (append-nil stream)) cuttable)
+
+pub returns-then-self-clause-further : goal.returns-then-self-clause-further
+returns-then-self-clause-further c = none_further c.args.self.now
+
+pub returns-in-Ok-clause-further : goal.returns-in-Ok-clause-further
+returns-in-Ok-clause-further c = IfOk-weaker c.last_groups.result _ _ (λ groups. none_by groups _ _ (λ _. none_further c.args.self.now)) c.last_groups.ensures.refused
+
+pub returns-in_ok-pass_on_scan-in-Err-clause-further : goal.returns-in_ok-pass_on_scan-in-Err-clause-further
+returns-in_ok-pass_on_scan-in-Err-clause-further c = none_further c.args.self.now
 
 pub returns-in-Ok-clause-whole : goal.returns-in-Ok-clause-whole
 returns-in-Ok-clause-whole c =

@@ -19,4 +19,5 @@ pub returns-in_ok-pass_on_fault-in-Err-clause-cut : goal.returns-in_ok-pass_on_f
 returns-in_ok-pass_on_fault-in-Err-clause-cut c priority stream given h =
     stops c.args.self.now c.stop.new.self priority stream given c.in-Err.fault
     (λ seen pieces. c.in-Err.ensures.fault c.in_ok-pass_on_fault-in-Err.ensures priority seen pieces given)
+    (λ seen pieces. c.in-Err.ensures.limit c.in_ok-pass_on_fault-in-Err.ensures priority seen pieces given)
     c.stop.ensures.0 c.stop.ensures.1 h
