@@ -3,6 +3,7 @@ use Rattle.std.proofs.Common.{◌≡◌, ◌≢◌, ℕ, ◌<◌, ◌≤◌, Boo
 use Rattle.std.proofs.lemmas.Bool.{cases_lt}
 use Rattle.std.proofs.lemmas.List.{append-nil}
 use Rattle.std.specs.Prelude.{Result, Ok, Err, OnErr, IfOk, IfSome, IsTrue, ◌⊎◌, ◌↔◌}
+use Rattle.pet_base.specs.declared.faults.Stop.{Stop}
 use Rattle.pet_base.specs.declared.limits.TheConstants.{MAX_DATAGRAMS}
 use Rattle.pet_base.specs.declared.place.Side.TheVariants.{Read, Written}
 use Rattle.pet_base.specs.Causes.{Blames}
@@ -16,7 +17,6 @@ use Rattle.pet_receive.specs.ShownBytes.{IsComplete, shown_in_all}
 use Rattle.pet_text.specs.declared.status.Status.{Status}
 use Rattle.pet_text.specs.declared.status.Status.TheVariants.{Done, Usage, NoMemory, PlaceFault, OutFault, BadStream, BadPriority, BadPlan, Incomplete, TurnsSpent, NotLeast, Changed}
 use Rattle.pet_text.specs.Lines.{receive_text}
-use Rattle.pet_tool.specs.declared.outcome.Stop.{Stop}
 use Rattle.pet_tool.specs.declared.receive.Totals.{Totals}
 use Rattle.pet_tool.specs.Finished.{nothing_of, kept_of, numbers_text, AreRead, Reads, Ends, Tells, LeavesFront}
 use Rattle.pet_tool.specs.Outcome.{IsOf, Opened}

@@ -6,6 +6,8 @@ use Rattle.std.specs.Io.KnownBytes.{prepend_known, IsAtEnd}
 use Rattle.std.proofs.lemmas.List.{append-nil, length-append, length-map, map-append}
 use Rattle.std.proofs.lemmas.Option.{none-some, same_Some}
 use lib.Seq.{get_or-append_seam}
+use Rattle.pet_base.specs.declared.faults.Stop.{Stop}
+use Rattle.pet_base.specs.declared.faults.Stop.TheVariants as stop
 use Rattle.pet_base.specs.declared.limits.TheConstants.{MAX_STREAM}
 use Rattle.pet_base.specs.Seen.{Seen}
 use Rattle.mpeg_scan.specs.declared.piece.Piece.{Piece}
@@ -30,8 +32,6 @@ use Rattle.stream_session.specs.MarkLaws.{mark_found}
 use Rattle.stream_session.specs.Marks.{mark_of, no_mark, mark_at, group_marks, marks_of}
 use Rattle.stream_session.specs.Tables.{table_of, tables_of, sizes_of, cuts_of_stream}
 use Rattle.stream_session.specs.Accepted.{session_of, group_of}
-use Rattle.pet_tool.specs.declared.outcome.Stop.{Stop}
-use Rattle.pet_tool.specs.declared.outcome.Stop.TheVariants as stop
 use Rattle.pet_tool.specs.declared.second.SendStop.{SendStop}
 use Rattle.pet_tool.specs.declared.second.SendStop.TheVariants.{Changed}
 use Rattle.pet_tool.specs.declared.sent_group.Change.{Change}
@@ -229,8 +229,8 @@ changed_stop source marks old new F None result is h = subst (λ r. IfErr r (IsS
 changed_stop source marks old new F (Some c) result is h = subst (λ r. IfErr r (IsSendStop source marks old new F)) (sym is) h
 
 told_part_stop : (text : List ℕ) (old new : Seen) (stop : Stop) → PutsPart text old new → IsToldStop text old new (of_stop stop)
-told_part_stop text old new stop.Memory part = part
-told_part_stop text old new stop.Place part = part
+told_part_stop text old new stop.NoMemory part = part
+told_part_stop text old new stop.Failed part = part
 
 pub told_stop : (p b : List ℕ) (source : Source) (marks : List GroupMark) (old new : Seen) (stop : Stop) (result : SendStop) → result ≡ of_stop stop → SentPart source marks old new → IsFirstPass p b source marks → old.rest ≡ Some b
     → IsToldStop (datagrams_text (session_of p b)) old new result

@@ -6,6 +6,8 @@ use Rattle.std.specs.Prelude.{Result, Ok, Err, OnOk, OnErr, length}
 use Rattle.std.specs.Io.KnownBytes.{append_known}
 use Rattle.pet_base.specs.Causes.{Rose, HasCause}
 use Rattle.pet_base.specs.declared.faults.Failed.{Failed}
+use Rattle.pet_base.specs.declared.faults.Stop.{Stop}
+use Rattle.pet_base.specs.declared.faults.Stop.TheVariants as stop
 use Rattle.pet_base.specs.Seen.{Seen, HadFault}
 use Rattle.pet_text.specs.declared.status.Status.{Status}
 use Rattle.pet_text.specs.declared.status.Status.TheVariants.{NoMemory}
@@ -14,8 +16,6 @@ use Rattle.pet_text.specs.declared.words.Command.TheVariants.{Receive}
 use Rattle.pet_text.specs.declared.words.End.{End}
 use Rattle.pet_text.specs.declared.words.End.TheVariants.{File}
 use Rattle.pet_text.specs.Lines.{fault_text}
-use Rattle.pet_tool.specs.declared.outcome.Stop.{Stop}
-use Rattle.pet_tool.specs.declared.outcome.Stop.TheVariants.{Memory, Place}
 use Rattle.pet_tool.specs.Outcome.{status_of, Licensed, IsOf}
 use Rattle.pet_tool.specs.Finished.{LeavesFront, ReceiveTells, Receives, ForReceive}
 use Rattle.pet_tool.specs.Reports.{Prints}
@@ -52,8 +52,8 @@ Prints-after lines last before mid after fb fm fa first later p = (
 module _ (session from layers : List ℕ) (old new : Seen) (so sn : ℕ) where
   -- it stopped before
   pub tells_stop : (stop : Stop) → LeavesFront session from layers old new → Licensed (HadFault old new (IsOf from layers)) stop → ReceiveTells session from layers old new so sn (status_of stop) []
-  tells_stop Memory front cause = (front, refl)
-  tells_stop Place front cause = (cause, front, refl)
+  tells_stop stop.NoMemory front cause = (front, refl)
+  tells_stop stop.Failed front cause = (cause, front, refl)
 
 -- what holds of the words that were read
 pub for_these : (o : Option Command) (from session layers : List ℕ) (P : List ℕ → List ℕ → List ℕ → Type 0) → o ≡ Some (Receive (File from) session layers) → P from session layers → ForReceive o P

@@ -1,21 +1,21 @@
 -- When a command stops early, what it then answers, and what it has opened before. This project's own.
 use Rattle.std.specs.Prelude.{ℕ, ◌≡◌, ◌⊎◌, List, [], true, option_map}
+use Rattle.pet_base.specs.declared.faults.Stop.{Stop}
+use Rattle.pet_base.specs.declared.faults.Stop.TheVariants as stop
 use Rattle.pet_base.specs.declared.place.Side.TheVariants.{Read, Written}
 use Rattle.pet_base.specs.Seen.{Seen, Blame, Names, bytes_at, with_file}
 use Rattle.pet_text.specs.declared.status.Status.{Status}
 use Rattle.pet_text.specs.declared.status.Status.TheVariants.{NoMemory, PlaceFault}
-use Rattle.pet_tool.specs.declared.outcome.Stop.{Stop}
-use Rattle.pet_tool.specs.declared.outcome.Stop.TheVariants.{Memory, Place}
 
 -- the status of each
 abbrev pub status_of : Stop → Status
-status_of Memory = NoMemory
-status_of Place = PlaceFault
+status_of stop.NoMemory = NoMemory
+status_of stop.Failed = PlaceFault
 
 -- when each comes: want of memory at any time, the other where a call of the place failed
 abbrev pub Licensed : Type 0 → Stop → Type 0
-Licensed failed Memory = Unit {0}
-Licensed failed Place = failed
+Licensed failed stop.NoMemory = Unit {0}
+Licensed failed stop.Failed = failed
 
 -- the place's fault was of this call: of the file that is read, or of the one that is written
 abbrev pub IsOf : List ℕ → List ℕ → Blame → Type 0

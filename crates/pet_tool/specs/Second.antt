@@ -1,5 +1,7 @@
 -- Where the second pass of `send` stands between its steps. This project's own.
 use Rattle.std.specs.Prelude.{◌≡◌, ◌≢◌, ◌⊎◌, ℕ, ◌<◌, ◌≤◌, List, [], ◌∷◌, ◌++◌, length, drop, Option, None, Some, slice_get, sum_by, MatchOption}
+use Rattle.pet_base.specs.declared.faults.Stop.{Stop}
+use Rattle.pet_base.specs.declared.faults.Stop.TheVariants as stop
 use Rattle.pet_base.specs.Seen.{Seen}
 use Rattle.stripe_plan.specs.Sizes.{Sizes}
 use Rattle.priority_file.specs.Priority.{Priorities}
@@ -10,8 +12,6 @@ use Rattle.stream_session.specs.CutGroups.{CutGroup}
 use Rattle.stream_session.specs.Cutting.{HasCut, AreFirst}
 use Rattle.stream_session.specs.Marks.{mark_of, no_mark, mark_at}
 use Rattle.stream_session.specs.Tables.{table_of}
-use Rattle.pet_tool.specs.declared.outcome.Stop.{Stop}
-use Rattle.pet_tool.specs.declared.outcome.Stop.TheVariants as stop
 use Rattle.pet_tool.specs.declared.sent_group.Change.{Change}
 use Rattle.pet_tool.specs.declared.second.SecondPass.{SecondPass}
 use Rattle.pet_tool.specs.declared.second.SendStop.{SendStop}
@@ -91,5 +91,5 @@ NoneLost marks sent = (k : ℕ) → sent ≤ k → mark_at marks k ≡ no_mark
 
 -- the answer of an early stop
 abbrev pub of_stop : Stop → SendStop
-of_stop stop.Memory = Memory
-of_stop stop.Place = Place
+of_stop stop.NoMemory = Memory
+of_stop stop.Failed = Place

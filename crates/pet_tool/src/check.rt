@@ -11,10 +11,10 @@ ghost use Rattle.pet_tool.specs.Checking.{HasLists, HasNoLists, HasNoListsIn, Ar
 
 use crate::least::is_least;
 use crate::report::{group_tables, put_text, source_status};
-use pet_base::{MAX_PLAN_FILE, NoMemory, Place, Sink};
+use pet_base::{MAX_PLAN_FILE, NoMemory, Place, Sink, Stop};
 use pet_text::{PlanFault, PlanKind, Repeat, Status, least_line, read_plan};
 use std::alloc::Global;
-use stream_session::{InputFault, SourceFault, read_file, read_source};
+use stream_session::{SourceFault, read_file, read_source};
 use stripe_plan::Table;
 
 /// Why `check` does not say that the lists are certificates, in the order in which it looks.
@@ -152,8 +152,8 @@ fn read_lists<P: Place>(
 {
     match read_file(alloc, plan, MAX_PLAN_FILE, place) {
         Ok(bytes) => lists_in(alloc, bytes.as_slice()),
-        Err(InputFault::NoMemory) => Err(CheckFault::NoMemory),
-        Err(InputFault::Failed) => Err(CheckFault::Failed),
+        Err(Stop::NoMemory) => Err(CheckFault::NoMemory),
+        Err(Stop::Failed) => Err(CheckFault::Failed),
     }
 }
 

@@ -8,8 +8,7 @@ ghost use Rattle.pet_tool.specs.Outcome.{Licensed};
 ghost use Rattle.pet_tool.specs.Packets.{packet_entry, group_entries};
 ghost use Rattle.pet_tool.specs.Reading.{Puts, PutsPart};
 
-use crate::outcome::Stop;
-use pet_base::{NoMemory, Place, Steps};
+use pet_base::{NoMemory, Place, Steps, Stop};
 use pet_encode::Encoder;
 use pet_field::Gf16Plain;
 use std::alloc::Global;

@@ -22,10 +22,11 @@ ghost use Rattle.pet_tool.specs.Reading.{IsTextAt, Puts, PutsPart, SoFar, HasRec
 ghost use Rattle.pet_tool.specs.Records.{layers_in, AreShownText};
 ghost use Rattle.pet_tool.specs.Steps.{steps_of};
 
-use crate::outcome::Stop;
+use crate::outcome::stop_status;
 use crate::records::{put_records, shown_layers};
 use pet_base::{
-    Entry, Failed, MAX_DATAGRAMS, MAX_ENTRY, MAX_SESSION, NoMemory, Place, Sink, Steps, next_entry,
+    Entry, Failed, MAX_DATAGRAMS, MAX_ENTRY, MAX_SESSION, NoMemory, Place, Sink, Steps, Stop,
+    next_entry,
 };
 use pet_field::Gf16Plain;
 use pet_receive::{LayerSet, Receiver, Verdict, group_of};
@@ -76,7 +77,7 @@ pub(crate) fn receive<P: Place, S: Sink, L: Ledger>(
             Ok(()) => ending.status,
             Err(_) => Status::OutFault,
         },
-        Err(stop) => stop.status(),
+        Err(stop) => stop_status(stop),
     }
 }
 

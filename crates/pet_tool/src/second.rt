@@ -17,9 +17,8 @@ ghost use Rattle.pet_tool.specs.Reading.{Puts, PutsPart};
 ghost use Rattle.pet_tool.specs.Second.{Knows, HasGone, Stands, Ends, IsFirstLost, NoneLost, cost_left, of_stop};
 ghost use Rattle.pet_tool.specs.Sending.{words_cost, IsFront, AreFound, HasSentSome, IsPart, IsTaken, HasSent, SentPart, HasChanged, IsFirstPass, IsSendStop, IsToldStop};
 
-use crate::outcome::Stop;
 use crate::sent_group::{Change, first_mark, send_group};
-use pet_base::{MAX_STREAM, Place, Steps};
+use pet_base::{MAX_STREAM, Place, Steps, Stop};
 use std::alloc::Global;
 use std::sync::ledger::Ledger;
 use stream_session::{Group, GroupCutter, GroupMark, Source, portion_room, take_portion};
@@ -94,8 +93,8 @@ fn stopped(stop: Stop) -> SendStop
     ensures { result ≡ of_stop stop }
 {
     match stop {
-        Stop::Memory => SendStop::Memory,
-        Stop::Place => SendStop::Place,
+        Stop::NoMemory => SendStop::Memory,
+        Stop::Failed => SendStop::Place,
     }
 }
 

@@ -14,12 +14,11 @@ ghost use Rattle.pet_tool.specs.Reading.{Puts, PutsPart};
 ghost use Rattle.pet_tool.specs.Second.{SendsGroup, SendsPart, Differs, cost_at};
 ghost use Rattle.pet_tool.specs.Sending.{encoding_of};
 
-use crate::outcome::Stop;
 use crate::packets::put_group;
 use arrayvec::ArrayVec;
 use layer_split::{GroupCut, message};
 use packet_frame::Header;
-use pet_base::{MAX_LAYERS, NoMemory, Place, Steps};
+use pet_base::{MAX_LAYERS, NoMemory, Place, Steps, Stop};
 use pet_encode::Encoder;
 use pet_field::Gf16Plain;
 use priority_file::Priority;

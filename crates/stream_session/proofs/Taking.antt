@@ -4,12 +4,12 @@ use Rattle.std.proofs.lemmas.List.{append-nil, length-append}
 use Rattle.std.specs.Prelude.{IfSome, IsSome, Result, Ok, Err, IfOk}
 use Rattle.std.specs.Io.KnownBytes.{prepend_known, IsAtEnd}
 use Rattle.pet_base.proofs.Filled.{prepend-prepend}
+use Rattle.pet_base.specs.declared.faults.Stop.{Stop}
+use Rattle.pet_base.specs.declared.faults.Stop.TheVariants.{NoMemory, Failed}
 use Rattle.pet_base.specs.declared.place.Side.TheVariants.{Read}
 use Rattle.pet_base.specs.Causes.{Blames}
 use Rattle.pet_base.specs.Seen.{Seen, Files, Names, OnlyReads, HadFault, bytes_at}
 use Rattle.pet_base.specs.SeenLaws.{Blames-named, HadFault-since}
-use Rattle.stream_session.specs.declared.input.InputFault.{InputFault}
-use Rattle.stream_session.specs.declared.input.InputFault.TheVariants.{NoMemory, Failed}
 use Rattle.stream_session.specs.Inputs.{IsFrontOf, IsRead, InputFailed, HasTaken, HasTakenAll}
 
 prepend_none : (known : Option (List ℕ)) → known ≡ prepend_known [] known
@@ -82,8 +82,8 @@ front_ok items (Ok bytes) limit name old entered new rest found all = front_of l
 front_ok items (Err e) limit name old entered new rest found all = tt
 
 -- a fault of the reading is one at the file that was entered
-pub failed_at : (name : List ℕ) (fault : InputFault) (old entered new : Seen) → Names old.files entered.source name → old.faults ≤ entered.faults
-    → InputFailed (HadFault entered new (Blames Read entered.source)) fault → InputFailed (HadFault old new (IsRead name)) fault
+pub failed_at : (name : List ℕ) (stop : Stop) (old entered new : Seen) → Names old.files entered.source name → old.faults ≤ entered.faults
+    → InputFailed (HadFault entered new (Blames Read entered.source)) stop → InputFailed (HadFault old new (IsRead name)) stop
 failed_at name NoMemory old entered new is later failed = tt
 failed_at name Failed old entered new is later failed = HadFault-since old entered new _ _ later (λ b. Blames-named old.files entered.source name Read b is) failed
 

@@ -1,10 +1,10 @@
 -- What a file of a place gave that was read to its end, or to one byte past a limit. This project's own.
 use Rattle.std.specs.Prelude.{◌≡◌, ℕ, ◌+◌, ◌≤◌, List, [], ◌++◌, length, Option, Some, IfSome}
 use Rattle.std.specs.Io.KnownBytes.{prepend_known, IsAtEnd}
+use Rattle.pet_base.specs.declared.faults.Stop.{Stop}
+use Rattle.pet_base.specs.declared.faults.Stop.TheVariants.{NoMemory, Failed}
 use Rattle.pet_base.specs.declared.place.Side.TheVariants.{Read}
 use Rattle.pet_base.specs.Seen.{Seen, Files, Blame, OnlyReads}
-use Rattle.stream_session.specs.declared.input.InputFault.{InputFault}
-use Rattle.stream_session.specs.declared.input.InputFault.TheVariants.{NoMemory, Failed}
 
 -- the file of this name has these bytes, wherever the files are told
 abbrev pub IsFile : Option Files → List ℕ → List ℕ → Type 0
@@ -18,7 +18,7 @@ pub record IsFrontOf (limit : ℕ) (bytes : List ℕ) (files : Option Files) (na
   pub few : length bytes ≤ limit + 1
 
 -- when a reading fails: want of memory at any time, and else a fault of the place
-abbrev pub InputFailed : Type 0 → InputFault → Type 0
+abbrev pub InputFailed : Type 0 → Stop → Type 0
 InputFailed place NoMemory = Unit {0}
 InputFailed place Failed = place
 

@@ -1,5 +1,7 @@
 -- The session of a stream and a priority file that a place holds, and why there is none. This project's own.
 use Rattle.std.specs.Prelude.{◌≡◌, ◌≢◌, ◌⊎◌, ℕ, List, Option, None, Some}
+use Rattle.pet_base.specs.declared.faults.Stop.{Stop}
+use Rattle.pet_base.specs.declared.faults.Stop.TheVariants as stop
 use Rattle.pet_base.specs.Seen.{Seen, Files, HadFault}
 use Rattle.mpeg_scan.specs.Refusals.{Refuses, IsAccepted}
 use Rattle.mpeg_scan.specs.Pieces.{pieces_of}
@@ -7,8 +9,6 @@ use Rattle.priority_file.specs.declared.fault.PriorityFault.{PriorityFault}
 use Rattle.priority_file.specs.declared.fault.PriorityFault.TheVariants as rules
 use Rattle.priority_file.specs.Refusals.{refusal_of, priorities_of}
 use Rattle.stream_session.specs.declared.fault.SessionFault.TheVariants as session
-use Rattle.stream_session.specs.declared.input.InputFault.{InputFault}
-use Rattle.stream_session.specs.declared.input.InputFault.TheVariants as input
 use Rattle.stream_session.specs.declared.pass.StreamFault.{StreamFault}
 use Rattle.stream_session.specs.declared.pass.StreamFault.TheVariants as pass
 use Rattle.stream_session.specs.declared.source.Source.{Source}
@@ -21,9 +21,9 @@ use Rattle.stream_session.specs.Accepted.{IsAcceptedSession}
 use Rattle.stream_session.specs.Inputs.{IsFile, IsRead}
 
 -- each cause as one of both files
-abbrev pub of_input : InputFault → SourceFault
-of_input input.NoMemory = NoMemory
-of_input input.Failed = Failed
+abbrev pub of_stop : Stop → SourceFault
+of_stop stop.NoMemory = NoMemory
+of_stop stop.Failed = Failed
 
 abbrev pub of_priority : PriorityFault → SourceFault
 of_priority rules.NoMemory = NoMemory

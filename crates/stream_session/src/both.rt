@@ -9,10 +9,10 @@ ghost use Rattle.priority_file.specs.Refusals.{priorities_of};
 ghost use Rattle.stream_session.specs.Inputs.{IsFrontOf, IsRead, InputFailed, HasTakenAll};
 ghost use Rattle.stream_session.specs.Sources.{BothFiles, IsSourceFault};
 
-use crate::input::{InputFault, portion_room, read_file, take_portion};
+use crate::input::{portion_room, read_file, take_portion};
 use crate::reader::StreamReader;
 use crate::source::SourceFault;
-use pet_base::{MAX_PRIORITY_FILE, MAX_STREAM, Place};
+use pet_base::{MAX_PRIORITY_FILE, MAX_STREAM, Place, Stop};
 use priority_file::{Priority, read_priority};
 use std::alloc::Global;
 
@@ -45,7 +45,7 @@ fn read_through<P: Place, R: StreamReader>(
     priority: &Priority,
     file: &[u8],
     place: &mut P,
-) -> Result<R, InputFault>
+) -> Result<R, Stop>
     requires { length file.now < 2 ^ 32 }
     ensures read { IfOk result (λ reader. (stream : List ℕ) × IsFrontOf MAX_STREAM stream (P.seen place.old).files name.now
         × R.has_read reader priority.now file.now stream) }
@@ -65,7 +65,7 @@ fn pass_over<P: Place, R: StreamReader>(
     place: &mut P,
     buffer: &mut [u8],
     reader: &mut R,
-) -> Result<(), InputFault>
+) -> Result<(), Stop>
     requires input { (P.seen place.old).has_input ≡ true }
     requires room { length buffer.old ≡ 65536 }
     ensures passed { OnOk result ((stream : List ℕ) × HasTakenAll MAX_STREAM stream (P.seen place.old) (P.seen place.new)

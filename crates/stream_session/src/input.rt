@@ -6,47 +6,8 @@ ghost use Rattle.pet_base.specs.Causes.{Blames};
 ghost use Rattle.pet_base.specs.Seen.{Seen, KeepsOutput, OnlyReads, HasBlame, HadFault};
 ghost use Rattle.stream_session.specs.Inputs.{IsFrontOf, InputFailed, IsRead, HasTakenAll};
 
-use pet_base::{Failed, NoMemory, Place};
+use pet_base::{Failed, Place, Stop};
 use std::alloc::{AllocError, Global};
-
-/// Why a file is not read.
-#[derive(Clone, Copy, Debug, PartialEq, Eq)]
-pub enum InputFault {
-    /// No memory was found.
-    NoMemory,
-    /// A call of the place failed.
-    Failed,
-}
-
-impl From<AllocError> for InputFault {
-    ghost use Rattle.stream_session.specs.declared.input.InputFault.TheVariants.{NoMemory};
-
-    ghost from_gives = { λ _ fault. fault ≡ NoMemory };
-
-    fn from(_e: AllocError) -> InputFault {
-        InputFault::NoMemory
-    }
-}
-
-impl From<NoMemory> for InputFault {
-    ghost use Rattle.stream_session.specs.declared.input.InputFault.TheVariants.{NoMemory};
-
-    ghost from_gives = { λ _ fault. fault ≡ NoMemory };
-
-    fn from(_e: NoMemory) -> InputFault {
-        InputFault::NoMemory
-    }
-}
-
-impl From<Failed> for InputFault {
-    ghost use Rattle.stream_session.specs.declared.input.InputFault.TheVariants.{Failed};
-
-    ghost from_gives = { λ _ fault. fault ≡ Failed };
-
-    fn from(_e: Failed) -> InputFault {
-        InputFault::Failed
-    }
-}
 
 /// Reads the file of this name to its end, or one byte past the limit.
 ///
@@ -58,7 +19,7 @@ pub fn read_file<P: Place>(
     name: &str,
     limit: u64,
     place: &mut P,
-) -> Result<Vec<u8>, InputFault>
+) -> Result<Vec<u8>, Stop>
     ensures read { IfOk result (λ bytes. IsFrontOf limit bytes.items (P.seen place.old).files name.now) }
     ensures others { KeepsOutput (P.seen place.old) (P.seen place.new) }
     ensures later { (P.seen place.old).faults ≤ (P.seen place.new).faults }
@@ -75,7 +36,7 @@ fn read_entered<P: Place>(
     limit: u64,
     place: &mut P,
     buffer: &mut [u8],
-) -> Result<Vec<u8>, InputFault>
+) -> Result<Vec<u8>, Stop>
     requires input { (P.seen place.old).has_input ≡ true }
     requires room { length buffer.old ≡ 65536 }
     ensures read { IfOk result (λ bytes. HasTakenAll limit bytes.items (P.seen place.old) (P.seen place.new)) }

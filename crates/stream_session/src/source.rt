@@ -5,10 +5,9 @@ ghost use Rattle.stream_session.specs.Sources.{IsSource, IsSourceFault};
 
 use crate::both::read_both;
 use crate::fault::SessionFault;
-use crate::input::InputFault;
 use crate::pass::{Pass, SessionPlan, StreamFault};
 use mpeg_scan::Scan;
-use pet_base::Place;
+use pet_base::{Place, Stop};
 use priority_file::{Priority, PriorityFault};
 use std::alloc::Global;
 use stripe_plan::Table;
@@ -52,15 +51,15 @@ pub enum SourceFault {
     Plan(SessionFault),
 }
 
-impl From<InputFault> for SourceFault {
-    ghost use Rattle.stream_session.specs.Sources.{of_input};
+impl From<Stop> for SourceFault {
+    ghost use Rattle.stream_session.specs.Sources.{of_stop};
 
-    ghost from_gives = { λ e fault. fault ≡ of_input e };
+    ghost from_gives = { λ e fault. fault ≡ of_stop e };
 
-    fn from(e: InputFault) -> SourceFault {
+    fn from(e: Stop) -> SourceFault {
         match e {
-            InputFault::NoMemory => SourceFault::NoMemory,
-            InputFault::Failed => SourceFault::Failed,
+            Stop::NoMemory => SourceFault::NoMemory,
+            Stop::Failed => SourceFault::Failed,
         }
     }
 }

@@ -19,5 +19,5 @@ pub returns-clause-tells : goal.returns-clause-tells
 returns-clause-tells g c =
     let old = g.P.Place.seen c.args.place.now in
     let new = g.P.Place.seen c.read_ending.new.place in
-    stop_tells (ReceiveTells c.args.session c.args.from.now c.args.layers.now old new c.args.steps.now c.read_ending.new.steps) (status_of c.in-Err.stop) c.status.result (g.S.Sink.written c.args.out.now) c.status.ensures.status
+    stop_tells (ReceiveTells c.args.session c.args.from.now c.args.layers.now old new c.args.steps.now c.read_ending.new.steps) (status_of c.in-Err.stop) c.stop_status.result (g.S.Sink.written c.args.out.now) c.stop_status.ensures.status
     (tells_stop c.args.session c.args.from.now c.args.layers.now old new c.args.steps.now c.read_ending.new.steps c.in-Err.stop c.in-Err.ensures.front c.in-Err.ensures.cause)
