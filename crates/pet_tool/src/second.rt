@@ -5,6 +5,7 @@ ghost use Rattle.pet_base.specs.declared.limits.TheConstants.{MAX_GROUPS};
 ghost use Rattle.pet_base.specs.declared.place.Side.TheVariants.{Read, Written};
 ghost use Rattle.pet_base.specs.Causes.{Blames};
 ghost use Rattle.pet_base.specs.Seen.{Seen, OnlyWrites, KeepsNames, HadFault};
+ghost use Rattle.stream_session.specs.declared.input.TheConstants.{MAX_PORTION};
 ghost use Rattle.stream_session.specs.CutGroups.{CutGroup};
 ghost use Rattle.stream_session.specs.Cutting.{AreFirst, cut_groups};
 ghost use Rattle.stream_session.specs.Accepted.{session_of};
@@ -140,7 +141,7 @@ fn read_again<P: Place, L: Ledger>(
 ) -> Result<Option<Change>, Stop>
     requires input { (P.seen place.old).has_input ≡ true }
     requires output { (P.seen place.old).has_output ≡ true }
-    requires room { length buffer.old ≡ 65536 }
+    requires room { length buffer.old ≡ MAX_PORTION }
     requires marks { length marks.now ≡ length source.now.tables.items }
     requires groups { length source.now.tables.items ≤ MAX_GROUPS }
     requires begun { HasGone source.now marks.now [] pass.old (P.seen place.old) (P.seen place.old) }

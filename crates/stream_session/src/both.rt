@@ -6,6 +6,7 @@ ghost use Rattle.pet_base.specs.Causes.{Blames};
 ghost use Rattle.pet_base.specs.Seen.{Seen, KeepsOutput, OnlyReads, HadFault};
 ghost use Rattle.priority_file.specs.Priority.{Priorities};
 ghost use Rattle.priority_file.specs.Refusals.{priorities_of};
+ghost use Rattle.stream_session.specs.declared.input.TheConstants.{MAX_PORTION};
 ghost use Rattle.stream_session.specs.Inputs.{IsFrontOf, IsRead, InputFailed, HasTakenAll};
 ghost use Rattle.stream_session.specs.Sources.{BothFiles, IsSourceFault};
 
@@ -67,7 +68,7 @@ fn pass_over<P: Place, R: StreamReader>(
     reader: &mut R,
 ) -> Result<(), Stop>
     requires input { (P.seen place.old).has_input ≡ true }
-    requires room { length buffer.old ≡ 65536 }
+    requires room { length buffer.old ≡ MAX_PORTION }
     ensures passed { OnOk result ((stream : List ℕ) × HasTakenAll MAX_STREAM stream (P.seen place.old) (P.seen place.new)
         × ((priority : Priorities) (file : List ℕ) → R.has_read reader.old priority file [] → R.has_read reader.new priority file stream)) }
     ensures others { OnlyReads (P.seen place.old) (P.seen place.new) }

@@ -4,10 +4,14 @@ ghost use Rattle.std.specs.Io.KnownBytes.{prepend_known, IsAtEnd};
 ghost use Rattle.pet_base.specs.declared.place.Side.TheVariants.{Read};
 ghost use Rattle.pet_base.specs.Causes.{Blames};
 ghost use Rattle.pet_base.specs.Seen.{Seen, KeepsOutput, OnlyReads, HasBlame, HadFault};
+ghost use Rattle.stream_session.specs.declared.input.TheConstants.{MAX_PORTION};
 ghost use Rattle.stream_session.specs.Inputs.{IsFrontOf, InputFailed, IsRead, HasTakenAll};
 
 use pet_base::{Failed, Place, Stop};
 use std::alloc::{AllocError, Global};
+
+/// The most bytes of a portion.
+pub const MAX_PORTION: usize = 65_536;
 
 /// Reads the file of this name to its end, or one byte past the limit.
 ///
@@ -38,7 +42,7 @@ fn read_entered<P: Place>(
     buffer: &mut [u8],
 ) -> Result<Vec<u8>, Stop>
     requires input { (P.seen place.old).has_input ≡ true }
-    requires room { length buffer.old ≡ 65536 }
+    requires room { length buffer.old ≡ MAX_PORTION }
     ensures read { IfOk result (λ bytes. HasTakenAll limit bytes.items (P.seen place.old) (P.seen place.new)) }
     ensures others { OnlyReads (P.seen place.old) (P.seen place.new) }
     ensures later { (P.seen place.old).faults ≤ (P.seen place.new).faults }
@@ -62,21 +66,21 @@ fn read_entered<P: Place>(
 /// The call of the place failed, and then its count of faults rose.
 pub fn take_portion<P: Place>(place: &mut P, left: u64, buffer: &mut [u8]) -> Result<usize, Failed>
     requires input { (P.seen place.old).has_input ≡ true }
-    requires room { length buffer.old ≡ 65536 }
-    ensures bound { IfOk result (λ n. n ≤ 65536) }
+    requires room { length buffer.old ≡ MAX_PORTION }
+    ensures bound { IfOk result (λ n. n ≤ MAX_PORTION) }
     ensures few { IfOk result (λ n. n ≤ left + 1) }
     ensures taken { IfOk result (λ n. (P.seen place.old).rest ≡ prepend_known (take n buffer.new) (P.seen place.new).rest) }
     ensures end { IfOk result (λ n. n ≡ 0 → IsAtEnd (P.seen place.old).rest) }
     ensures others { OnlyReads (P.seen place.old) (P.seen place.new) }
     ensures cause { HasBlame (P.seen place.old) (P.seen place.new) result (Blames Read (P.seen place.old).source) }
 {
-    let most = left.min(65_535) as usize + 1;
+    let most = left.min(MAX_PORTION as u64 - 1) as usize + 1;
     place.take(&mut buffer[..most])
 }
 
 /// Room for the longest portion.
 pub fn portion_room(alloc: Global) -> Result<Vec<u8>, AllocError>
-    ensures { IfOk result (λ room. vec_len room ≡ 65536) }
+    ensures { IfOk result (λ room. vec_len room ≡ MAX_PORTION) }
 {
-    vec![in alloc; 0u8; 65_536]
+    vec![in alloc; 0u8; MAX_PORTION]
 }

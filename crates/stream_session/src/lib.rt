@@ -24,7 +24,7 @@ mod total;
 
 pub use fault::SessionFault;
 pub use groups::{Group, GroupCutter};
-pub use input::{portion_room, read_file, take_portion};
+pub use input::{MAX_PORTION, portion_room, read_file, take_portion};
 pub use mark::GroupMark;
 pub use marked::{MarkedSource, read_marked};
 pub use pass::{Pass, SessionPlan, StreamFault};
