@@ -23,7 +23,9 @@ pub mod Printed
 pub mod Checked
 pub mod Datagrams
 pub mod SentGroup
+pub mod SentFound
 pub mod SentSoFar
+pub mod SentChange
 pub mod SentAgain
 pub mod Sent
 pub mod SentReading

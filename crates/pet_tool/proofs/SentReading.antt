@@ -13,7 +13,8 @@ use Rattle.mpeg_scan.specs.declared.refusal.Scan.TheVariants.{TooLong}
 use Rattle.mpeg_scan.specs.Refusals.{IsAccepted}
 use Rattle.priority_file.specs.Priority.{Priorities}
 use Rattle.stream_session.specs.CutGroups.{CutGroup}
-use Rattle.stream_session.specs.Cutting.{HasCut, AreFirst, cut_groups}
+use Rattle.stream_session.specs.Cutting.{HasCut, HaveEnded, cut_groups}
+use Rattle.stream_session.specs.EndedLaws.{none_ended, ended_first}
 use Rattle.pet_tool.specs.declared.sent_group.Change.{Change}
 use Rattle.pet_tool.specs.declared.second.SecondPass.{SecondPass}
 use Rattle.pet_tool.specs.Reading.{IsPrefix, Puts}
@@ -27,12 +28,12 @@ prefix_at : (stream : List ℕ) (now : Option (List ℕ)) → IfSome (prepend_kn
 prefix_at stream None = tt
 prefix_at stream (Some more) = (more, refl)
 
-told_at : (priority : Priorities) (stream : List ℕ) (groups : List CutGroup) (now : Option (List ℕ)) → AreFirst priority stream groups → IfSome (prepend_known stream now) (λ bytes. IsFront priority bytes groups)
-told_at priority stream groups None firsts = tt
-told_at priority stream groups (Some more) firsts = firsts more
+told_at : (priority : Priorities) (stream : List ℕ) (groups : List CutGroup) (now : Option (List ℕ)) → HaveEnded priority stream groups → IfSome (prepend_known stream now) (λ bytes. IsFront priority bytes groups)
+told_at priority stream groups None ended = tt
+told_at priority stream groups (Some more) ended = ended_first priority stream groups ended more
 
 -- what was read stands at the front of the input
-pub part_read : (source : Source) (marks : List GroupMark) (stream : List ℕ) (known : Option (List ℕ)) (first now : Seen) → first.rest ≡ prepend_known stream known → IsPart source marks (AreFirst source.priority stream) first now → SentPart source marks first now
+pub part_read : (source : Source) (marks : List GroupMark) (stream : List ℕ) (known : Option (List ℕ)) (first now : Seen) → first.rest ≡ prepend_known stream known → IsPart source marks (HaveEnded source.priority stream) first now → SentPart source marks first now
 part_read source marks stream known first now rest part = record {
   stream = stream;
   read = subst (λ (o : Option (List ℕ)). IfSome o (IsPrefix stream)) (sym rest) (prefix_at stream known);
@@ -58,8 +59,8 @@ part_end source marks stream first mid now taken part = record {
   part = part;
   told = subst (λ (o : Option (List ℕ)). IfSome o (λ bytes. IsFront source.priority bytes part.groups)) (sym taken.rest)
       (elim part.first_groups [
-        | inl firsts ↦ told_at source.priority stream part.groups mid.rest firsts
-        | inr ended ↦ ended_at source.priority stream part.groups mid.rest (taken.whole (short_stream stream ended.0.0)) ended.1
+        | inl ended ↦ told_at source.priority stream part.groups mid.rest ended
+        | inr all ↦ ended_at source.priority stream part.groups mid.rest (taken.whole (short_stream stream all.0.0)) all.1
       ]);
 }
 
@@ -76,12 +77,8 @@ some_read source marks groups first before after reads h = record {
 
 -- reading changes nothing that was sent
 pub stands_read : (source : Source) (marks : List GroupMark) (stream : List ℕ) (change : Option Change) (pass : SecondPass) (first before after : Seen) → OnlyReads before after → Stands source marks stream change pass first before → Stands source marks stream change pass first after
-stands_read source marks stream None pass first before after reads h = record {
-  groups = h.groups;
-  cut = h.cut;
-  number = h.number;
-  sent = some_read source marks h.groups first before after reads h.sent;
-}
+stands_read source marks stream None pass first before after reads h =
+    (record { groups = h.0.groups; cut = h.0.cut; number = h.0.number; sent = some_read source marks h.0.groups first before after reads h.0.sent }, h.1)
 stands_read source marks stream (Some c) pass first before after reads h =
     (record { least = h.0.least; sent = some_read source marks h.0.least.before first before after reads h.0.sent }, h.1, h.2)
 
@@ -122,7 +119,7 @@ part_start source marks s = record {
   read = prefix_none s.rest;
   part = record {
     groups = [];
-    first_groups = inl (λ rest. (cut_groups source.priority rest, refl));
+    first_groups = inl (none_ended source.priority []);
     agree = λ k lt. absurd (omega (arith, lt));
     few = omega arith;
     puts = part_nothing (sent_text source []) s;

@@ -1,6 +1,6 @@
 -- The groups that the second pass has sent, and one group more.
 use Rattle.std.proofs.Common.{◌≡◌, ℕ, zero, suc, ◌+◌, ◌<◌, ◌≤◌, List, [], ◌∷◌, ◌++◌, length, take, drop, get_or, Option, Some, None, refl, sym, ◌∙◌, ap, subst, arith, inl, inr, append_assoc}
-use Rattle.std.specs.Prelude.{slice_get, sum_by, All, IfSome, IfNone, MatchOption, is_some, true, false, Result, Ok, Err, IfOk, OnErr}
+use Rattle.std.specs.Prelude.{slice_get, sum_by, All, is_some, false}
 use Rattle.std.specs.List.{flat_map}
 use Rattle.std.proofs.lemmas.Bool.{cases_lt}
 use Rattle.std.proofs.lemmas.List.{append-nil, length-append, length-map, map_push, get_or_append_left, get_or_past, take-append-drop, take_more, length-take-le, get_or-append-add}
@@ -14,21 +14,21 @@ use Rattle.pet_encode.specs.Encoding.{Encoding}
 use Rattle.stream_session.specs.declared.mark.GroupMark.{GroupMark}
 use Rattle.stream_session.specs.declared.source.Source.{Source}
 use Rattle.stream_session.specs.CutGroups.{CutGroup}
-use Rattle.stream_session.specs.Cutting.{HasCut, AreFirst, IsCuttable, AreAll, cut_groups}
+use Rattle.stream_session.specs.Cutting.{HasCut, HaveEnded, AreAll, cut_groups, pieces_left}
+use Rattle.stream_session.specs.EndedLaws.{given_ended, ended_longer, ended_before}
 use Rattle.stream_session.specs.declared.groups.GroupCutter.{GroupCutter}
-use Rattle.stream_session.specs.CuttingLaws.{given_front}
 use Rattle.stream_session.specs.FilledLaws.{IsFilled, given_filled}
 use Rattle.stream_session.specs.FittingLaws.{IsWhole, given_whole}
-use Rattle.stream_session.specs.Tables.{table_of}
 use Rattle.stream_session.specs.Marks.{mark_of, no_mark, mark_at, group_marks}
 use Rattle.pet_tool.specs.declared.sent_group.Change.{Change}
 use Rattle.pet_tool.specs.declared.second.SecondPass.{SecondPass}
 use Rattle.pet_tool.specs.Packets.{group_entries}
 use Rattle.pet_tool.specs.Reading.{Puts, PutsPart}
-use Rattle.pet_tool.specs.Sending.{encoding_of, encodings_from, sent_text, words_cost, AgreeBelow, IsNext, HasSentSome, IsChange, IsAllSent, IsPart, IsFront, AreFound}
-use Rattle.pet_tool.specs.Second.{HasGone, HasMetChange, Stands, Ends, Knows, cost_at, cost_left, SendsGroup, SendsPart, Differs, IsFirstLost, NoneLost}
+use Rattle.pet_tool.specs.Sending.{encoding_of, encodings_from, sent_text, words_cost, AgreeBelow, HasSentSome, IsPart, AreFound}
+use Rattle.pet_tool.specs.Second.{HasGone, Stands, Knows, cost_at, cost_left, SendsGroup, SendsPart}
 use Rattle.pet_tool.proofs.Datagrams.{part_after}
 use Rattle.pet_tool.proofs.Fronts.{puts_then}
+use Rattle.pet_tool.proofs.SentFound.{found_of_all}
 
 -- the steps that one group may take, and those of the groups after it
 pub cost_step : (tables : List Sizes) (n : ℕ) → cost_at (slice_get tables n) + cost_left tables (suc n) ≡ cost_left tables n
@@ -102,58 +102,8 @@ some_more source marks groups g first before after h sends target = record {
   puts = subst (λ (t : List ℕ). Puts t first after) (sym (text_more source groups g)) (puts_then (sent_text source groups) (group_entries (encoding_of source (length groups) g)) first before after h.target h.puts sends.1);
 }
 
--- the groups before are the first too
-pub first_before : (priority : Priorities) (stream : List ℕ) (groups more : List CutGroup) → AreFirst priority stream (groups ++ more) → AreFirst priority stream groups
-first_before priority stream groups more h rest = let f = h rest in (more ++ f.0, f.1 ∙ append_assoc groups more f.0)
-
--- and of a longer stream
-pub first_longer : (priority : Priorities) (stream portion : List ℕ) (groups : List CutGroup) → AreFirst priority stream groups → AreFirst priority (stream ++ portion) groups
-first_longer priority stream portion groups h rest =
-    subst (λ w. (later : List CutGroup) × (cut_groups priority w ≡ groups ++ later)) (sym (append_assoc stream portion rest)) (h (portion ++ rest))
-
--- of the stream, where it ends here
-pub front_of : (priority : Priorities) (stream : List ℕ) (groups : List CutGroup) → AreFirst priority stream groups → IsFront priority stream groups
-front_of priority stream groups h = let f = h [] in (f.0, ap (cut_groups priority) (sym (append-nil stream)) ∙ f.1)
-
-front_before : (priority : Priorities) (stream : List ℕ) (groups more : List CutGroup) → IsFront priority stream (groups ++ more) → IsFront priority stream groups
-front_before priority stream groups more f = (more ++ f.0, f.1 ∙ append_assoc groups more f.0)
-
--- the next group is another
-next_at : (source : Source) (marks : List GroupMark) (stream : List ℕ) (groups : List CutGroup) (g : CutGroup) (before after : Seen) (change : Change) → IsFront source.priority stream (groups ++ g ∷ [])
-    → Differs source marks (length groups) g before after change → IsNext source.priority source.tables.items stream groups change.group change.second
-next_at source marks stream groups g before after change firsts d = record {
-  next = g;
-  at = d.group;
-  first_groups = firsts;
-  marked = elim d.marked [
-    | inl is ↦ inl is
-    | inr other ↦ inr (other.0, λ e. other.1 (subst (λ n. slice_get source.tables.items n ≡ Some (table_of source.priority g.cut)) d.group e))
-  ];
-}
-
-change_is : (source : Source) (marks : List GroupMark) (stream : List ℕ) (groups : List CutGroup) (g : CutGroup) (first before after : Seen) (change : Change) → HasSentSome source marks groups first before → IsFront source.priority stream (groups ++ g ∷ [])
-    → Differs source marks (length groups) g before after change → IsChange source marks stream change first after
-change_is source marks stream groups g first before after change h firsts d = record {
-  least = record {
-    before = groups;
-    first_groups = front_before source.priority stream groups (g ∷ []) firsts;
-    agree = subst (AgreeBelow marks groups) (sym d.group) h.agree;
-    first_is = d.first_is ∙ ap (mark_at marks) (sym d.group);
-    second_is = inl (next_at source marks stream groups g before after change firsts d);
-    differ = d.differ;
-  };
-  sent = subst (HasSentSome source marks groups first) (sym d.still) h;
-}
-
-pub change_at : (source : Source) (marks : List GroupMark) (stream : List ℕ) (groups : List CutGroup) (g : CutGroup) (first before after : Seen) (change : Change) → HasSentSome source marks groups first before → AreFirst source.priority stream (groups ++ g ∷ [])
-    → Differs source marks (length groups) g before after change → HasMetChange source marks stream first after change
-unfolding change_is next_at
-change_at source marks stream groups g first before after change h firsts d =
-    let front = front_of source.priority stream (groups ++ g ∷ []) firsts in
-    (change_is source marks stream groups g first before after change h front d, next_at source marks stream groups g before after change front d, firsts)
-
 -- a front of the next group's packets
-pub part_at : (source : Source) (marks : List GroupMark) (First : List CutGroup → Type 0) (groups : List CutGroup) (g : CutGroup) (first before after : Seen) → HasSentSome source marks groups first before → First (groups ++ g ∷ [])
+part_at : (source : Source) (marks : List GroupMark) (First : List CutGroup → Type 0) (groups : List CutGroup) (g : CutGroup) (first before after : Seen) → HasSentSome source marks groups first before → First (groups ++ g ∷ [])
     → SendsPart source marks (length groups) g before after → IsPart source marks First first after
 part_at source marks First groups g first before after h firsts sends = record {
   groups = groups ++ g ∷ [];
@@ -167,7 +117,7 @@ part_whole : (bytes : List ℕ) (old new : Seen) → Puts bytes old new → Puts
 part_whole bytes old new puts = (bytes, ([], sym (append-nil bytes)), puts)
 
 -- a failure before a group's packets
-pub part_some : (source : Source) (marks : List GroupMark) (First : List CutGroup → Type 0) (groups : List CutGroup) (first now : Seen) → HasSentSome source marks groups first now → First groups → IsPart source marks First first now
+part_some : (source : Source) (marks : List GroupMark) (First : List CutGroup → Type 0) (groups : List CutGroup) (first now : Seen) → HasSentSome source marks groups first now → First groups → IsPart source marks First first now
 part_some source marks First groups first now h firsts = record {
   groups = groups;
   first_groups = firsts;
@@ -176,43 +126,13 @@ part_some source marks First groups first now h firsts = record {
   puts = part_whole (sent_text source groups) first now h.puts;
 }
 
-pub part_gone : (source : Source) (marks : List GroupMark) (stream : List ℕ) (pass : SecondPass) (first now : Seen) → HasGone source marks stream pass first now → IsPart source marks (AreFirst source.priority stream) first now
-part_gone source marks stream pass first now h = part_some source marks (AreFirst source.priority stream) h.groups first now h.sent (given_front pass.cutter source.priority stream h.groups h.cut)
+pub part_gone : (source : Source) (marks : List GroupMark) (stream : List ℕ) (pass : SecondPass) (first now : Seen) → HasGone source marks stream pass first now → IsPart source marks (HaveEnded source.priority stream) first now
+part_gone source marks stream pass first now h = part_some source marks (HaveEnded source.priority stream) h.groups first now h.sent (given_ended pass.cutter source.priority stream h.groups h.cut)
 
-pub part_stands : (source : Source) (marks : List GroupMark) (stream : List ℕ) (change : Option Change) (pass : SecondPass) (first now : Seen) → Stands source marks stream change pass first now → IsPart source marks (AreFirst source.priority stream) first now
-part_stands source marks stream None pass first now h = part_gone source marks stream pass first now h
+pub part_stands : (source : Source) (marks : List GroupMark) (stream : List ℕ) (change : Option Change) (pass : SecondPass) (first now : Seen) → Stands source marks stream change pass first now → IsPart source marks (HaveEnded source.priority stream) first now
+part_stands source marks stream None pass first now h = part_gone source marks stream pass first now h.0
 part_stands source marks stream (Some change) pass first now h =
-    part_some source marks (AreFirst source.priority stream) h.0.least.before first now h.0.sent (first_before source.priority stream h.0.least.before (h.1.next ∷ []) h.2)
-
--- a change stays one, however the stream goes on
-pub change_longer : (source : Source) (marks : List GroupMark) (stream portion : List ℕ) (change : Change) (first now : Seen) → HasMetChange source marks stream first now change → HasMetChange source marks (stream ++ portion) first now change
-change_longer source marks stream portion change first now h =
-    let priority = source.priority in
-    let firsts : AreFirst priority (stream ++ portion) (h.0.least.before ++ h.1.next ∷ []) = first_longer priority stream portion (h.0.least.before ++ h.1.next ∷ []) h.2 in
-    let next : IsNext priority source.tables.items (stream ++ portion) h.0.least.before change.group change.second =
-    record { next = h.1.next; at = h.1.at; first_groups = front_of priority (stream ++ portion) (h.0.least.before ++ h.1.next ∷ []) firsts; marked = h.1.marked } in (
-      record {
-        least = record {
-          before = h.0.least.before;
-          first_groups = front_of priority (stream ++ portion) h.0.least.before (first_before priority (stream ++ portion) h.0.least.before (h.1.next ∷ []) firsts);
-          agree = h.0.least.agree;
-          first_is = h.0.least.first_is;
-          second_is = inl next;
-          differ = h.0.least.differ;
-        };
-        sent = h.0.sent;
-      },
-      next,
-      firsts,
-    )
-
-pub stands_longer : (source : Source) (marks : List GroupMark) (stream portion : List ℕ) (c : Change) (change : Option Change) (pass : SecondPass) (first now : Seen) → change ≡ Some c → Stands source marks stream change pass first now → Stands source marks (stream ++ portion) change pass first now
-stands_longer source marks stream portion c None pass first now some h = absurd cc
-stands_longer source marks stream portion c (Some change) pass first now some h = change_longer source marks stream portion change first now h
-
-pub ends_before : (source : Source) (marks : List GroupMark) (stream : List ℕ) (c : Change) (change : Option Change) (pass : SecondPass) (first now : Seen) → change ≡ Some c → Stands source marks stream change pass first now → Ends source marks stream change first now
-ends_before source marks stream c None pass first now some h = absurd cc
-ends_before source marks stream c (Some change) pass first now some h = h.0
+    part_some source marks (HaveEnded source.priority stream) h.0.least.before first now h.0.sent (ended_before source.priority stream h.0.least.before (h.1.next ∷ []) h.2)
 
 -- one group more has ended and was sent
 pub gone_more : (source : Source) (marks : List GroupMark) (stream : List ℕ) (old new : SecondPass) (g : CutGroup) (first before after : Seen) → HasGone source marks stream old first before
@@ -225,18 +145,11 @@ gone_more source marks stream old new g first before after h cut sent sends targ
   sent = some_more source marks h.groups g first before after h.sent (subst (λ n. SendsGroup source marks n g before after) h.number sends) target;
 }
 
-pub gone_change : (source : Source) (marks : List GroupMark) (stream : List ℕ) (old : SecondPass) (cutter : GroupCutter) (g : CutGroup) (first before after : Seen) (change : Change) → HasGone source marks stream old first before
-    → ((given : List CutGroup) → HasCut old.cutter source.priority stream given → HasCut cutter source.priority stream (given ++ g ∷ []))
-    → Differs source marks old.sent g before after change → HasMetChange source marks stream first after change
-gone_change source marks stream old cutter g first before after change h cut d =
-    change_at source marks stream h.groups g first before after change h.sent (given_front cutter source.priority stream (h.groups ++ g ∷ []) (cut h.groups h.cut))
-    (subst (λ n. Differs source marks n g before after change) h.number d)
-
 pub gone_part : (source : Source) (marks : List GroupMark) (stream : List ℕ) (old : SecondPass) (cutter : GroupCutter) (g : CutGroup) (first before after : Seen) → HasGone source marks stream old first before
     → ((given : List CutGroup) → HasCut old.cutter source.priority stream given → HasCut cutter source.priority stream (given ++ g ∷ []))
-    → SendsPart source marks old.sent g before after → IsPart source marks (AreFirst source.priority stream) first after
+    → SendsPart source marks old.sent g before after → IsPart source marks (HaveEnded source.priority stream) first after
 gone_part source marks stream old cutter g first before after h cut sends =
-    part_at source marks (AreFirst source.priority stream) h.groups g first before after h.sent (given_front cutter source.priority stream (h.groups ++ g ∷ []) (cut h.groups h.cut))
+    part_at source marks (HaveEnded source.priority stream) h.groups g first before after h.sent (given_ended cutter source.priority stream (h.groups ++ g ∷ []) (cut h.groups h.cut))
     (subst (λ n. SendsPart source marks n g before after) h.number sends)
 
 -- the last of the groups that a cutter has given
@@ -252,79 +165,10 @@ knows_whole old new priority g k cut = at_last (IsWhole (length priority.layers)
 pub knows_filled : (old new : GroupCutter) (priority : Priorities) (g : CutGroup) → Knows old priority → ((p : Priorities) (stream : List ℕ) (given : List CutGroup) → HasCut old p stream given → HasCut new p stream (given ++ g ∷ [])) → IsFilled g
 knows_filled old new priority g k cut = at_last IsFilled k.given g (given_filled new priority k.stream (k.given ++ g ∷ []) (cut priority k.stream k.given k.cut))
 
--- the next of these groups is not the first pass's, or there is none
-agree_past : (marks : List GroupMark) (groups : List CutGroup) (limit : ℕ) → AgreeBelow marks groups (length groups) → ((k : ℕ) → length groups ≤ k → k < limit → mark_at marks k ≡ no_mark) → AgreeBelow marks groups limit
-agree_past marks groups limit agree none k lt = elim (cases_lt k (length groups)) [
-  | inl below ↦ agree k below
-  | inr from ↦ none k from lt ∙ sym (mark_past groups k from)
-]
-
-pub lost_change : (source : Source) (marks : List GroupMark) (stream : List ℕ) (groups : List CutGroup) (from : ℕ) (first now : Seen) (change : Change) → from ≡ length groups → HasSentSome source marks groups first now → IsFront source.priority stream groups
-    → (IsCuttable source.priority stream → cut_groups source.priority stream ≡ groups) → IsFirstLost marks from change → IsChange source marks stream change first now
-lost_change source marks stream groups from first now change at h firsts all lost = record {
-  least = record {
-    before = groups;
-    first_groups = firsts;
-    agree = agree_past marks groups change.group h.agree (λ k le lt. lost.before k (omega (arith, at, le)) lt);
-    first_is = lost.first_is;
-    second_is = inr (record { beyond = omega (arith, at, lost.beyond); all = all; none = lost.none });
-    differ = lost.differ;
-  };
-  sent = h;
-}
-
-pub all_sent : (source : Source) (marks : List GroupMark) (stream : List ℕ) (groups : List CutGroup) (from : ℕ) (first now : Seen) → from ≡ length groups → HasSentSome source marks groups first now → IsFront source.priority stream groups
-    → NoneLost marks from → IsAllSent source marks stream first now
-all_sent source marks stream groups from first now at h firsts none = record {
-  groups = groups;
-  first_groups = firsts;
-  sent = h;
-  agree = λ k. agree_past marks groups (suc k) h.agree (λ j le lt. none j (omega (arith, at, le))) k (omega arith);
-}
-
-pub ends_lost : (source : Source) (marks : List GroupMark) (stream : List ℕ) (groups : List CutGroup) (from : ℕ) (first now : Seen) (change : Option Change) → from ≡ length groups → HasSentSome source marks groups first now → IsFront source.priority stream groups
-    → (IsCuttable source.priority stream → cut_groups source.priority stream ≡ groups) → IfSome change (IsFirstLost marks from) → IfNone change (NoneLost marks from) → Ends source marks stream change first now
-ends_lost source marks stream groups from first now None at h firsts all lost none = all_sent source marks stream groups from first now at h firsts none
-ends_lost source marks stream groups from first now (Some change) at h firsts all lost none = lost_change source marks stream groups from first now change at h firsts all lost
-
--- what `send_group` answered
-pub stands_change : (source : Source) (marks : List GroupMark) (stream : List ℕ) (old new : SecondPass) (cutter : GroupCutter) (g : CutGroup) (first before after : Seen) (change : Option Change) → is_some change ≡ true
-    → MatchOption change (SendsGroup source marks old.sent g before after) (Differs source marks old.sent g before after) → HasGone source marks stream old first before
-    → ((given : List CutGroup) → HasCut old.cutter source.priority stream given → HasCut cutter source.priority stream (given ++ g ∷ []))
-    → Stands source marks stream change new first after
-stands_change source marks stream old new cutter g first before after None some sends h cut = absurd cc
-stands_change source marks stream old new cutter g first before after (Some c) some sends h cut = gone_change source marks stream old cutter g first before after c h cut sends
-
-pub sends_none : (A : Type 0) (B : Change → Type 0) (change : Option Change) → is_some change ≡ false → MatchOption change A B → A
-sends_none A B None none a = a
-sends_none A B (Some c) none b = absurd cc
-
-pub is_change : (change : Option Change) → is_some change ≡ true → (c : Change) × (change ≡ Some c)
-is_change None some = absurd cc
-is_change (Some c) some = (c, refl)
-
-pub not_change : {P : Type 0} (change : Option Change) → is_some change ≡ false → IfNone change P → P
-not_change None none p = p
-not_change (Some c) none p = absurd cc
-
-pub none_change : (change : Option Change) → is_some change ≡ false → change ≡ None
-none_change None none = refl
-none_change (Some c) none = absurd cc
-
-pub knows_stands : (source : Source) (marks : List GroupMark) (stream : List ℕ) (change : Option Change) (pass : SecondPass) (first now : Seen) → Stands source marks stream change pass first now → IfNone change (Knows pass.cutter source.priority)
-knows_stands source marks stream None pass first now h = record { stream = stream; given = h.groups; cut = h.cut }
-knows_stands source marks stream (Some c) pass first now h = tt
-
 -- groups on end, the last of the stream
-pub left_change : (source : Source) (marks : List GroupMark) (stream : List ℕ) (sent : List CutGroup) (g : CutGroup) (later : List CutGroup) (first before after : Seen) (change : Option Change) → is_some change ≡ true
-    → cut_groups source.priority stream ≡ (sent ++ g ∷ []) ++ later → HasSentSome source marks sent first before
-    → MatchOption change (SendsGroup source marks (length sent) g before after) (Differs source marks (length sent) g before after) → Ends source marks stream change first after
-left_change source marks stream sent g later first before after None some all h sends = absurd cc
-left_change source marks stream sent g later first before after (Some c) some all h sends = change_is source marks stream sent g first before after c h (later, all) sends
-
 pub left_part : (source : Source) (marks : List GroupMark) (stream : List ℕ) (sent : List CutGroup) (g : CutGroup) (later : List CutGroup) (first before after : Seen)
-    → cut_groups source.priority stream ≡ (sent ++ g ∷ []) ++ later → HasSentSome source marks sent first before → SendsPart source marks (length sent) g before after → IsPart source marks (IsFront source.priority stream) first after
-left_part source marks stream sent g later first before after all h sends = part_at source marks (IsFront source.priority stream) sent g first before after h (later, all) sends
+    → AreAll source.priority stream ((sent ++ g ∷ []) ++ later) → HasSentSome source marks sent first before → SendsPart source marks (length sent) g before after → IsPart source marks (AreFound source.priority stream) first after
+left_part source marks stream sent g later first before after all h sends = part_at source marks (AreFound source.priority stream) sent g first before after h (found_of_all source.priority stream (sent ++ g ∷ []) later all) sends
 
 -- the groups so far, the next, and the rest
 pub left_split : (before groups : List CutGroup) (i : ℕ) (g : CutGroup) → i < length groups → get_or groups i g ≡ g → (before ++ take (i + 1) groups ≡ (before ++ take i groups) ++ g ∷ []) × (before ++ groups ≡ ((before ++ take i groups) ++ g ∷ []) ++ drop (i + 1) groups)
@@ -338,18 +182,11 @@ left_split before groups i g lt is =
 pub left_length : (before groups : List CutGroup) (i from number : ℕ) → i < length groups → from ≡ length before → number ≡ from + i → number ≡ length (before ++ take i groups)
 left_length before groups i from number lt at count = omega (arith, length-append before (take i groups), length-take-le i groups (omega arith), at, count)
 
--- a stream that has ended and is told
-pub stands_none : (source : Source) (marks : List GroupMark) (stream : List ℕ) (change : Option Change) (pass : SecondPass) (first now : Seen) → is_some change ≡ false → Stands source marks stream change pass first now → HasGone source marks stream pass first now
+-- no change was found so far
+pub stands_none : (source : Source) (marks : List GroupMark) (stream : List ℕ) (change : Option Change) (pass : SecondPass) (first now : Seen) → is_some change ≡ false → Stands source marks stream change pass first now
+    → HasGone source marks stream pass first now × (pieces_left pass.cutter ≡ 0)
 stands_none source marks stream None pass first now none h = h
 stands_none source marks stream (Some c) pass first now none h = absurd cc
-
-pub some_at : {A : Type 0} (P : A → Type 0) (o : Option A) (x : A) → o ≡ Some x → IfSome o P → P x
-some_at P None x e p = absurd cc
-some_at P (Some y) x e p = let same : y ≡ x = cc in subst P same p
-
-pub none_at : {A P : Type 0} (o : Option A) → o ≡ None → IfNone o P → P
-none_at None e p = p
-none_at (Some x) e p = absurd cc
 
 all_suffix : (P : CutGroup → Type 0) (xs ys : List CutGroup) → All P (xs ++ ys) → All P ys
 all_suffix P xs ys h i d lt = subst P (get_or-append-add xs ys i d) (h (length xs + i) d (omega (arith, lt, length-append xs ys)))
@@ -360,39 +197,16 @@ pub left_all : (P : CutGroup → Type 0) (priority : Priorities) (cutter : Group
 left_all P priority cutter items groups each k all is =
     subst (All P) (sym is) (all_suffix P k.given items (subst (All P) (sym (all priority k.stream k.given k.cut).all) (each k.stream)))
 
--- the front of a stream that has ended without a refusal
-pub part_ended : (source : Source) (marks : List GroupMark) (stream : List ℕ) (first now : Seen) → IsCuttable source.priority stream → IsPart source marks (IsFront source.priority stream) first now → IsPart source marks (AreFound source.priority stream) first now
-part_ended source marks stream first now cuttable h = record { groups = h.groups; first_groups = inr (cuttable, h.first_groups); agree = h.agree; few = h.few; puts = h.puts }
-
-pub part_found : (source : Source) (marks : List GroupMark) (stream : List ℕ) (first now : Seen) → IsPart source marks (AreFirst source.priority stream) first now → IsPart source marks (AreFound source.priority stream) first now
+-- groups that had ended were found
+pub part_found : (source : Source) (marks : List GroupMark) (stream : List ℕ) (first now : Seen) → IsPart source marks (HaveEnded source.priority stream) first now → IsPart source marks (AreFound source.priority stream) first now
 part_found source marks stream first now h = record { groups = h.groups; first_groups = inl h.first_groups; agree = h.agree; few = h.few; puts = h.puts }
 
-pub if_err : {A E : Type 0} {P Q : Type 0} (r : Result A E) → (P → Q) → OnErr r P → OnErr r Q
-if_err (Ok x) h p = tt
-if_err (Err e) h p = h p
-
-pub part_longer : (source : Source) (marks : List GroupMark) (stream portion : List ℕ) (first now : Seen) → IsPart source marks (AreFirst source.priority stream) first now → IsPart source marks (AreFirst source.priority (stream ++ portion)) first now
+-- and did, however the stream goes on
+pub part_longer : (source : Source) (marks : List GroupMark) (stream portion : List ℕ) (first now : Seen) → IsPart source marks (HaveEnded source.priority stream) first now → IsPart source marks (HaveEnded source.priority (stream ++ portion)) first now
 part_longer source marks stream portion first now h = record {
   groups = h.groups;
-  first_groups = first_longer source.priority stream portion h.groups h.first_groups;
+  first_groups = ended_longer source.priority stream portion h.groups h.first_groups;
   agree = h.agree;
   few = h.few;
   puts = h.puts;
 }
-
--- a portion more was read
-pub gone_fed : (source : Source) (marks : List GroupMark) (stream portion : List ℕ) (change : Option Change) (old new : SecondPass) (first now : Seen) → is_some change ≡ false → Stands source marks stream change old first now → new.sent ≡ old.sent
-    → ((priority : Priorities) (stream : List ℕ) (given : List CutGroup) → HasCut old.cutter priority stream given → HasCut new.cutter priority (stream ++ portion) given)
-    → HasGone source marks (stream ++ portion) new first now
-gone_fed source marks stream portion None old new first now none h sent cut = record {
-  groups = h.groups;
-  cut = cut source.priority stream h.groups h.cut;
-  number = sent ∙ h.number;
-  sent = h.sent;
-}
-gone_fed source marks stream portion (Some c) old new first now none h sent cut = absurd cc
-
--- what a call ensured of its answer, of which another fact follows
-pub if_ok : {A E : Type 0} {P Q : A → Type 0} (r : Result A E) → ((x : A) → P x → Q x) → IfOk r P → IfOk r Q
-if_ok (Ok x) h p = h x p
-if_ok (Err e) h p = p

@@ -1,10 +1,10 @@
 -- What the second pass answers where the input is the stream of the first pass.
 use Rattle.std.proofs.Common.{◌≡◌, ℕ, zero, suc, ◌+◌, ◌≤◌, List, [], ◌∷◌, ◌++◌, length, map, get_or, Option, Some, None, refl, sym, ◌∙◌, ap, ap₂, subst, arith, inl, inr, append_assoc}
-use Rattle.std.specs.Prelude.{slice_get, All, IfSome, IfErr, MatchOption, MatchResult, Result, Ok, Err}
+use Rattle.std.specs.Prelude.{slice_get, All, IfErr, MatchOption, MatchResult, Result, Ok, Err}
 use Rattle.std.specs.List.{flat_map}
 use Rattle.std.specs.Io.KnownBytes.{prepend_known, IsAtEnd}
 use Rattle.std.proofs.lemmas.List.{append-nil, length-append, length-map, map-append}
-use Rattle.std.proofs.lemmas.Option.{none-some, same_Some}
+use Rattle.std.proofs.lemmas.Option.{MatchOption-at_some, none-some, same_Some}
 use lib.Seq.{get_or-append_seam}
 use Rattle.pet_base.specs.declared.faults.Stop.{Stop}
 use Rattle.pet_base.specs.declared.faults.Stop.TheVariants as stop
@@ -24,11 +24,9 @@ use Rattle.stream_session.specs.declared.source.Source.{Source}
 use Rattle.stream_session.specs.CutGroups.{CutGroup}
 use Rattle.stream_session.specs.Cutting.{IsCuttable, cut_group, cut_groups}
 use Rattle.stream_session.specs.CuttingLaws.{message_rebased}
-use Rattle.stream_session.specs.FilledLaws.{IsFilled, groups_filled}
 use Rattle.stream_session.specs.FitLaws.{no_cause}
 use Rattle.layer_split.specs.CutLaws.{StandsIn}
 use Rattle.stream_session.specs.StandingLaws.{groups_stand}
-use Rattle.stream_session.specs.MarkLaws.{mark_found}
 use Rattle.stream_session.specs.Marks.{mark_of, no_mark, mark_at, group_marks, marks_of}
 use Rattle.stream_session.specs.Tables.{table_of, tables_of, sizes_of, cuts_of_stream}
 use Rattle.stream_session.specs.Accepted.{session_of, group_of}
@@ -40,6 +38,7 @@ use Rattle.pet_tool.specs.Reading.{IsPrefix, Puts, PutsPart}
 use Rattle.pet_tool.specs.Sending.{encoding_of, encodings_from, sent_text, IsFront, IsNext, IsLost, IsChange, IsAllSent, IsTaken, HasSent, HasChanged, SentPart, IsFirstPass, IsSendStop, IsToldStop}
 use Rattle.pet_tool.specs.Second.{of_stop}
 use Rattle.pet_tool.proofs.Datagrams.{groups_make_datagrams, part_within}
+use Rattle.pet_tool.proofs.SentFound.{found_front}
 use Rattle.pet_tool.proofs.SentReading.{short_stream}
 use Rattle.pet_tool.proofs.SentSoFar.{text_append, mark_past}
 
@@ -149,30 +148,15 @@ mark_seam groups g later =
     ∙ ap (λ n. get_or (group_marks groups ++ mark_of g.bytes ∷ group_marks later) n no_mark) (sym (length-map groups (λ (x : CutGroup). mark_of x.bytes)))
     ∙ get_or-append_seam (group_marks groups) (mark_of g.bytes) (group_marks later) no_mark
 
-filled_seam : (groups : List CutGroup) (g : CutGroup) (later : List CutGroup) → All IsFilled (groups ++ g ∷ later) → IsFilled g
-filled_seam groups g later all = subst IsFilled (get_or-append_seam groups g later g) (all (length groups) g (omega (arith, length-append groups (g ∷ later))))
-
--- where all marks agree, these are all groups
-all_groups : (priority : Priorities) (b : List ℕ) (marks : List GroupMark) (groups later : List CutGroup) → marks ≡ group_marks (cut_groups priority b) → cut_groups priority b ≡ groups ++ later
-    → ((k : ℕ) → mark_at marks k ≡ mark_at (group_marks groups) k) → groups ≡ cut_groups priority b
-all_groups priority b marks groups [] are front agree = sym (append-nil groups) ∙ sym front
-all_groups priority b marks groups (g ∷ later) are front agree =
-    let marked : mark_at marks (length groups) ≡ mark_of g.bytes = ap (λ ms. mark_at ms (length groups)) (are ∙ ap group_marks front) ∙ mark_seam groups g later in
-    let filled = filled_seam groups g later (subst (All IsFilled) front (groups_filled priority b)) in
-    absurd (mark_found g.bytes filled (sym marked ∙ agree (length groups) ∙ mark_past groups (length groups) (omega arith)))
-
 pub told_sent : (p b : List ℕ) (source : Source) (marks : List GroupMark) (old new : Seen) → IsFirstPass p b source marks → old.rest ≡ Some b → HasSent source marks old new → Puts (datagrams_text (session_of p b)) old new
 told_sent p b source marks old new f told h =
     let all = subst (λ s. IsAllSent source marks s old new) (taken_told p b h.stream source marks old new f told h.taken) h.all in
-    let groups = all_groups source.priority b marks all.groups all.first_groups.0 (marks_here p b source marks f) all.first_groups.1 all.agree in
+    let groups : all.groups ≡ cut_groups source.priority b = sym (all.all.all (cuttable_here p b source marks f)) in
     subst (λ (t : List ℕ). Puts t old new) (ap (sent_text source) groups ∙ text_all p b source marks f) all.sent.puts
-
-some_is : {A : Type 0} (P : A → Type 0) (o : Option A) (x : A) → o ≡ Some x → IfSome o P → P x
-some_is P o x e h = subst (λ k. IfSome k P) e h
 
 pub told_part : (p b : List ℕ) (source : Source) (marks : List GroupMark) (old new : Seen) → IsFirstPass p b source marks → old.rest ≡ Some b → SentPart source marks old new → PutsPart (datagrams_text (session_of p b)) old new
 told_part p b source marks old new f told h =
-    let front = some_is (λ bytes. IsFront source.priority bytes h.part.groups) old.rest b told h.told in
+    let front = MatchOption-at_some {o = old.rest} (Unit {0}) (λ bytes. IsFront source.priority bytes h.part.groups) b told h.told in
     part_within (sent_text source h.part.groups) (datagrams_text (session_of p b)) old new (text_front p b source marks f h.part.groups front) h.part.puts
 
 tables_by : (priority : Priorities) (s : List ℕ) (groups : List (List Piece)) → tables_of priority (cuts_of priority groups) ≡ map (λ (g : CutGroup). table_of priority g.cut) (map (cut_group priority s) groups)
@@ -186,8 +170,9 @@ there_seam f (y ∷ xs) x ys = there_seam f xs x ys
 same_next : (p b : List ℕ) (source : Source) (marks : List GroupMark) (before : List CutGroup) (group : ℕ) (second : GroupMark) → IsFirstPass p b source marks → IsNext source.priority source.tables.items b before group second → mark_at marks group ≡ second
 same_next p b source marks before group second f n =
     let priority = source.priority in
-    let later = n.first_groups.0 in
-    let all : cut_groups priority b ≡ (before ++ n.next ∷ []) ++ later = n.first_groups.1 in
+    let front = found_front priority b (before ++ n.next ∷ []) n.found in
+    let later = front.0 in
+    let all : cut_groups priority b ≡ (before ++ n.next ∷ []) ++ later = front.1 in
     let whole : cut_groups priority b ≡ before ++ n.next ∷ later = all ∙ append_assoc before (n.next ∷ []) later in
     let marked : mark_at marks group ≡ mark_of n.next.bytes =
     ap (mark_at marks) n.at ∙ ap (λ ms. mark_at ms (length before)) (marks_here p b source marks f ∙ ap group_marks whole) ∙ mark_seam before n.next later in
@@ -202,7 +187,7 @@ same_next p b source marks before group second f n =
 
 same_lost : (p b : List ℕ) (source : Source) (marks : List GroupMark) (before : List CutGroup) (group : ℕ) (second : GroupMark) → IsFirstPass p b source marks → IsLost source.priority b before group second → mark_at marks group ≡ second
 same_lost p b source marks before group second f l =
-    let groups = l.all (cuttable_here p b source marks f) in
+    let groups = l.all.all (cuttable_here p b source marks f) in
     ap (λ ms. mark_at ms group) (marks_here p b source marks f ∙ ap group_marks groups) ∙ mark_past before group l.beyond ∙ sym l.none
 
 pub told_changed : (p b : List ℕ) (source : Source) (marks : List GroupMark) (change : Change) (old new : Seen) → IsFirstPass p b source marks → old.rest ≡ Some b → HasChanged source marks change old new → ⊥

@@ -9,7 +9,7 @@ use Rattle.stream_session.specs.declared.groups.GroupCutter.{GroupCutter}
 use Rattle.stream_session.specs.declared.mark.GroupMark.{GroupMark}
 use Rattle.stream_session.specs.declared.source.Source.{Source}
 use Rattle.stream_session.specs.CutGroups.{CutGroup}
-use Rattle.stream_session.specs.Cutting.{HasCut, AreFirst}
+use Rattle.stream_session.specs.Cutting.{HasCut, HaveEnded, pieces_left}
 use Rattle.stream_session.specs.Marks.{mark_of, no_mark, mark_at}
 use Rattle.stream_session.specs.Tables.{table_of}
 use Rattle.pet_tool.specs.declared.sent_group.Change.{Change}
@@ -37,12 +37,12 @@ pub record HasGone (source : Source) (marks : List GroupMark) (stream : List ℕ
 abbrev pub HasMetChange : Source → List GroupMark → List ℕ → Seen → Seen → Change → Type 0
 HasMetChange source marks stream old new change =
     (h : IsChange source marks stream change old new) × (next : IsNext source.priority source.tables.items stream h.least.before change.group change.second)
-    × AreFirst source.priority stream (h.least.before ++ next.next ∷ [])
+    × HaveEnded source.priority stream (h.least.before ++ next.next ∷ [])
 
--- so far, or to a change
+-- so far, where all that was read was looked at, or to a change
 abbrev pub Stands : Source → List GroupMark → List ℕ → Option Change → SecondPass → Seen → Seen → Type 0
 Stands source marks stream change pass old new =
-    MatchOption change (HasGone source marks stream pass old new) (HasMetChange source marks stream old new)
+    MatchOption change (HasGone source marks stream pass old new × (pieces_left pass.cutter ≡ 0)) (HasMetChange source marks stream old new)
 
 -- all of the stream, or to a change
 abbrev pub Ends : Source → List GroupMark → List ℕ → Option Change → Seen → Seen → Type 0

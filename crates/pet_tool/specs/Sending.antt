@@ -11,7 +11,7 @@ use Rattle.pet_encode.specs.Encoding.{Encoding}
 use Rattle.stream_session.specs.declared.mark.GroupMark.{GroupMark}
 use Rattle.stream_session.specs.declared.source.Source.{Source}
 use Rattle.stream_session.specs.CutGroups.{CutGroup}
-use Rattle.stream_session.specs.Cutting.{AreFirst, IsCuttable, cut_groups}
+use Rattle.stream_session.specs.Cutting.{HaveEnded, NoneFurther, IsCuttable, cut_groups}
 use Rattle.stream_session.specs.Marks.{mark_of, no_mark, mark_at, group_marks, marks_of}
 use Rattle.stream_session.specs.Tables.{table_of, tables_of, cuts_of_stream}
 use Rattle.stream_session.specs.Number.{session_number}
@@ -52,29 +52,35 @@ AgreeBelow marks groups limit = (k : ℕ) → k < limit → mark_at marks k ≡ 
 abbrev pub IsFront : Priorities → List ℕ → List CutGroup → Type 0
 IsFront priority stream groups = (later : List CutGroup) × (cut_groups priority stream ≡ groups ++ later)
 
--- or however it goes on
+-- A pass finds these groups first: they ended before the stream or its groups were refused, or nothing of it is refused.
 abbrev pub AreFound : Priorities → List ℕ → List CutGroup → Type 0
-AreFound priority stream groups = AreFirst priority stream groups ⊎ (IsCuttable priority stream × IsFront priority stream groups)
+AreFound priority stream groups = HaveEnded priority stream groups ⊎ (IsCuttable priority stream × IsFront priority stream groups)
+
+-- and it finds no further one
+pub record AreAllFound (priority : Priorities) (stream : List ℕ) (groups : List CutGroup) : Type 0 where
+  pub found : AreFound priority stream groups
+  pub all : IsCuttable priority stream → cut_groups priority stream ≡ groups
+  pub none_further : NoneFurther priority stream groups
 
 -- The group after these in the stream, as the second pass marks it: it has no mark where its table is not the first pass's.
 pub record IsNext (priority : Priorities) (tables : List Sizes) (stream : List ℕ) (before : List CutGroup) (group : ℕ) (second : GroupMark) : Type 0 where
   pub next : CutGroup
   pub at : group ≡ length before
-  pub first_groups : IsFront priority stream (before ++ next ∷ [])
+  pub found : AreFound priority stream (before ++ next ∷ [])
   pub marked : (second ≡ mark_of next.bytes)
       ⊎ ((second ≡ no_mark) × (slice_get tables group ≢ Some (table_of priority next.cut)))
 
--- The group was not found: these are all groups of the stream, or it is refused.
+-- The group was not found: these are all that were.
 pub record IsLost (priority : Priorities) (stream : List ℕ) (before : List CutGroup) (group : ℕ) (second : GroupMark) : Type 0 where
   pub beyond : length before ≤ group
-  pub all : IsCuttable priority stream → cut_groups priority stream ≡ before
+  pub all : AreAllFound priority stream before
   pub none : second ≡ no_mark
 
 -- The least group of the stream whose mark is not that of the first pass, which found these tables and marks: the groups
 -- before it have its marks.
 pub record IsLeastChange (priority : Priorities) (tables : List Sizes) (marks : List GroupMark) (stream : List ℕ) (change : Change) : Type 0 where
   pub before : List CutGroup
-  pub first_groups : IsFront priority stream before
+  pub found : AreFound priority stream before
   pub agree : AgreeBelow marks before change.group
   pub first_is : change.first ≡ mark_at marks change.group
   pub second_is : IsNext priority tables stream before change.group change.second ⊎ IsLost priority stream before change.group change.second
@@ -95,7 +101,7 @@ pub record IsChange (source : Source) (marks : List GroupMark) (stream : List �
 -- All marks agree: the output has grown by the packets of all groups of both passes.
 pub record IsAllSent (source : Source) (marks : List GroupMark) (stream : List ℕ) (old new : Seen) : Type 0 where
   pub groups : List CutGroup
-  pub first_groups : IsFront source.priority stream groups
+  pub all : AreAllFound source.priority stream groups
   pub sent : HasSentSome source marks groups old new
   pub agree : (k : ℕ) → mark_at marks k ≡ mark_at (group_marks groups) k
 

@@ -7,7 +7,7 @@ ghost use Rattle.pet_base.specs.Causes.{Blames};
 ghost use Rattle.pet_base.specs.Seen.{Seen, OnlyWrites, KeepsNames, HadFault};
 ghost use Rattle.stream_session.specs.declared.input.TheConstants.{MAX_PORTION};
 ghost use Rattle.stream_session.specs.CutGroups.{CutGroup};
-ghost use Rattle.stream_session.specs.Cutting.{AreFirst, cut_groups};
+ghost use Rattle.stream_session.specs.Cutting.{HaveEnded, AreAll};
 ghost use Rattle.stream_session.specs.Accepted.{session_of};
 ghost use Rattle.stream_session.specs.FilledLaws.{IsFilled};
 ghost use Rattle.stream_session.specs.FittingLaws.{IsWhole};
@@ -16,7 +16,7 @@ ghost use Rattle.pet_tool.specs.declared.second.SendStop.TheVariants.{Changed};
 ghost use Rattle.pet_tool.specs.Packets.{datagrams_text};
 ghost use Rattle.pet_tool.specs.Reading.{Puts, PutsPart};
 ghost use Rattle.pet_tool.specs.Second.{Knows, HasGone, Stands, Ends, IsFirstLost, NoneLost, cost_left, of_stop};
-ghost use Rattle.pet_tool.specs.Sending.{words_cost, IsFront, AreFound, HasSentSome, IsPart, IsTaken, HasSent, SentPart, HasChanged, IsFirstPass, IsSendStop, IsToldStop};
+ghost use Rattle.pet_tool.specs.Sending.{words_cost, AreFound, HasSentSome, IsPart, IsTaken, HasSent, SentPart, HasChanged, IsFirstPass, IsSendStop, IsToldStop};
 
 use crate::sent_group::{Change, first_mark, send_group};
 use pet_base::{MAX_STREAM, Place, Steps, Stop};
@@ -144,7 +144,7 @@ fn read_again<P: Place, L: Ledger>(
     requires room { length buffer.old ≡ MAX_PORTION }
     requires marks { length marks.now ≡ length source.now.tables.items }
     requires groups { length source.now.tables.items ≤ MAX_GROUPS }
-    requires begun { HasGone source.now marks.now [] pass.old (P.seen place.old) (P.seen place.old) }
+    requires begun { Stands source.now marks.now [] None pass.old (P.seen place.old) (P.seen place.old) }
     ensures stands { IfOk result (λ change. (stream : List ℕ) × IsTaken stream (P.seen place.old) (P.seen place.new)
         × Stands source.now marks.now stream change pass.new (P.seen place.old) (P.seen place.new)) }
     ensures part { OnErr result (SentPart source.now marks.now (P.seen place.old) (P.seen place.new)) }
@@ -186,7 +186,7 @@ fn read_on<P: Place, L: Ledger>(
     ensures stands { IfOk result (λ after. (stream : List ℕ) (first : Seen) → Stands source.now marks.now stream change pass.old first (P.seen place.old)
         → Stands source.now marks.now (stream ++ portion.now) after pass.new first (P.seen place.new)) }
     ensures part { OnErr result ((stream : List ℕ) (first : Seen) → Stands source.now marks.now stream change pass.old first (P.seen place.old)
-        → IsPart source.now marks.now (AreFirst source.now.priority (stream ++ portion.now)) first (P.seen place.new)) }
+        → IsPart source.now marks.now (HaveEnded source.now.priority (stream ++ portion.now)) first (P.seen place.new)) }
     ensures others { OnlyWrites (P.seen place.old) (P.seen place.new) }
     ensures later { (P.seen place.old).faults ≤ (P.seen place.new).faults }
     ensures cause { IfErr result (Licensed (HadFault (P.seen place.old) (P.seen place.new) (Blames Written (P.seen place.old).target))) }
@@ -216,7 +216,7 @@ fn send_ended<P: Place, L: Ledger>(
     ensures stands { IfOk result (λ after. (stream : List ℕ) (first : Seen) → HasGone source.now marks.now stream pass.old first (P.seen place.old)
         → Stands source.now marks.now stream after pass.new first (P.seen place.new)) }
     ensures part { OnErr result ((stream : List ℕ) (first : Seen) → HasGone source.now marks.now stream pass.old first (P.seen place.old)
-        → IsPart source.now marks.now (AreFirst source.now.priority stream) first (P.seen place.new)) }
+        → IsPart source.now marks.now (HaveEnded source.now.priority stream) first (P.seen place.new)) }
     ensures others { OnlyWrites (P.seen place.old) (P.seen place.new) }
     ensures later { (P.seen place.old).faults ≤ (P.seen place.new).faults }
     ensures cause { IfErr result (Licensed (HadFault (P.seen place.old) (P.seen place.new) (Blames Written (P.seen place.old).target))) }
@@ -281,13 +281,13 @@ fn send_left<P: Place, L: Ledger>(
     requires whole { All (IsWhole (length source.now.priority.layers)) groups.now }
     requires filled { All IsFilled groups.now }
     ensures all { IfOk result (λ after. (stream : List ℕ) (first : Seen) (before : List CutGroup) → from ≡ length before
-        → cut_groups source.now.priority stream ≡ before ++ groups.now
+        → AreAll source.now.priority stream (before ++ groups.now)
         → HasSentSome source.now marks.now before first (P.seen place.old)
         → Ends source.now marks.now stream after first (P.seen place.new)) }
     ensures part { OnErr result ((stream : List ℕ) (first : Seen) (before : List CutGroup) → from ≡ length before
-        → cut_groups source.now.priority stream ≡ before ++ groups.now
+        → AreAll source.now.priority stream (before ++ groups.now)
         → HasSentSome source.now marks.now before first (P.seen place.old)
-        → IsPart source.now marks.now (IsFront source.now.priority stream) first (P.seen place.new)) }
+        → IsPart source.now marks.now (AreFound source.now.priority stream) first (P.seen place.new)) }
     ensures others { OnlyWrites (P.seen place.old) (P.seen place.new) }
     ensures later { (P.seen place.old).faults ≤ (P.seen place.new).faults }
     ensures cause { IfErr result (Licensed (HadFault (P.seen place.old) (P.seen place.new) (Blames Written (P.seen place.old).target))) }

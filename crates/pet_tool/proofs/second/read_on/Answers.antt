@@ -1,6 +1,7 @@
 use Rattle.std.proofs.Common.{◌∙◌, sym}
 use Rattle.pet_base.specs.Through.{on_any_err}
-use Rattle.pet_tool.proofs.SentSoFar.{is_change, stands_longer, part_longer, part_stands}
+use Rattle.pet_tool.proofs.SentChange.{is_change, stands_longer}
+use Rattle.pet_tool.proofs.SentSoFar.{part_longer, part_stands}
 use Rattle.pet_tool.proofs.second.read_on.Goals as goal
 
 pub returns-then-is_some-clause-stands : goal.returns-then-is_some-clause-stands

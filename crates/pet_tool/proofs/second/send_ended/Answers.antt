@@ -5,7 +5,8 @@ use Rattle.pet_base.specs.Through.{on_any_err}
 use Rattle.stream_session.specs.CutGroups.{CutGroup}
 use Rattle.stream_session.specs.Cutting.{HasCut, groups_in}
 use Rattle.pet_tool.specs.Second.{SendsGroup, Differs}
-use Rattle.pet_tool.proofs.SentSoFar.{cost_next, gone_more, gone_part, part_gone, knows_more, knows_whole, knows_filled, stands_change, sends_none}
+use Rattle.pet_tool.proofs.SentChange.{stands_change, sends_none}
+use Rattle.pet_tool.proofs.SentSoFar.{cost_next, gone_more, gone_part, part_gone, knows_more, knows_whole, knows_filled}
 use Rattle.pet_tool.proofs.second.send_ended.Goals as goal
 
 pub loop-group-init : goal.loop-group-init

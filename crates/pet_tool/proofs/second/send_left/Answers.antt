@@ -1,12 +1,15 @@
-use Rattle.std.proofs.Common.{◌≡◌, ◌+◌, ◌++◌, [], ◌∙◌, take, drop, get_or, sym, subst, rules, arith, append-nil, ℕ, List}
+use Rattle.std.proofs.Common.{◌≡◌, ◌+◌, ◌++◌, ◌∙◌, take, drop, get_or, sym, subst, rules, arith, ℕ, List}
 use Rattle.std.proofs.lemmas.List.{take_all, length-append}
 use Rattle.pet_base.specs.SeenLaws.{OnlyWrites-then}
 use Rattle.pet_base.specs.Through.{on_any_err}
 use Rattle.stream_session.specs.CutGroups.{CutGroup}
+use Rattle.stream_session.specs.Cutting.{AreAll}
 use Rattle.pet_tool.specs.Sending.{HasSentSome}
 use Rattle.pet_tool.specs.Second.{SendsGroup, SendsPart, Differs}
 use Rattle.std.specs.Prelude.{MatchOption}
-use Rattle.pet_tool.proofs.SentSoFar.{cost_next, some_more, sends_none, left_part, left_change, left_split, left_length, ends_lost}
+use Rattle.pet_tool.proofs.SentChange.{sends_none, left_change, ends_lost}
+use Rattle.pet_tool.proofs.SentFound.{all_found}
+use Rattle.pet_tool.proofs.SentSoFar.{cost_next, some_more, left_part, left_split, left_length}
 use Rattle.pet_tool.proofs.second.send_left.Goals as goal
 
 pub returns-in_err-change-clause-part : goal.returns-in_err-change-clause-part
@@ -23,7 +26,7 @@ returns-in_err-change-clause-part g c =
     (λ stream first before at all h.
     let split = left_split before groups i item c.loop-group-test.true is in
     let number = left_length before groups i c.args.from c.loop-group.number c.loop-group-test.true at c.loop-group.invariant.count in
-    left_part source marks stream (before ++ take i groups) item (drop (i + 1) groups) first old new (all ∙ split.1) (c.loop-group.invariant.sent first before at h)
+    left_part source marks stream (before ++ take i groups) item (drop (i + 1) groups) first old new (subst (AreAll source.priority stream) split.1 all) (c.loop-group.invariant.sent first before at h)
     (subst (λ n. SendsPart source marks n item old new) number c.in_err-change.ensures.part))
 
 pub returns-in_err-change-clause-cost : goal.returns-in_err-change-clause-cost
@@ -41,7 +44,7 @@ returns-then-is_some-clause-all g c stream first before at all h =
     let is : get_or groups i item ≡ item = search rules in
     let split = left_split before groups i item c.loop-group-test.true is in
     let number = left_length before groups i c.args.from c.loop-group.number c.loop-group-test.true at c.loop-group.invariant.count in
-    left_change source marks stream (before ++ take i groups) item (drop (i + 1) groups) first old new c.in_ok-change.change (sym c.is_some.ensures ∙ c.if-is_some.true) (all ∙ split.1)
+    left_change source marks stream (before ++ take i groups) item (drop (i + 1) groups) first old new c.in_ok-change.change (sym c.is_some.ensures ∙ c.if-is_some.true) (subst (AreAll source.priority stream) split.1 all)
     (c.loop-group.invariant.sent first before at h)
     (subst (λ n. MatchOption c.in_ok-change.change (SendsGroup source marks n item old new) (Differs source marks n item old new)) number c.in_ok-change.ensures.sends)
 
@@ -79,4 +82,4 @@ returns-clause-all g c stream first before at all h =
     ends_lost source marks stream (before ++ groups) c.loop-group.number first now c.first_lost.result
     (omega (arith, length-append before groups, at, c.loop-group.invariant.count, c.loop-group-test.false, c.loop-group.auto.group-index-end))
     (subst (λ (l : List CutGroup). HasSentSome source marks (before ++ l) first now) whole (c.loop-group.invariant.sent first before at h))
-    ([], all ∙ sym (append-nil (before ++ groups))) (λ k. all) c.first_lost.ensures.lost c.first_lost.ensures.none
+    (all_found source.priority stream (before ++ groups) all) c.first_lost.ensures.lost c.first_lost.ensures.none
