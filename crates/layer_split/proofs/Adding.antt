@@ -12,11 +12,11 @@ use Rattle.mpeg_scan.specs.declared.piece.Piece.{Piece}
 use Rattle.priority_file.specs.Priority.{Priorities, layer_of}
 use Rattle.layer_split.specs.declared.fault.SplitFault.TheVariants.{TooManyGroups, GroupTooLong}
 use Rattle.layer_split.specs.declared.splitter.Splitter.{Splitter}
-use Rattle.layer_split.specs.Groups.{groups_of, is_picture, is_group_head, begins_group, last_from, last_group}
+use Rattle.layer_split.specs.Groups.{groups_of, is_picture, is_group_head, begins_group, last_group}
 use Rattle.layer_split.specs.Layers.{Cut, cut_of}
 use Rattle.layer_split.specs.Faults.{is_too_long, fault_of, fault_by}
 use Rattle.layer_split.specs.Splitting.{HasAdded, IsOneTooMany, AreOf, Holds, groups_after, cuts_of}
-use Rattle.layer_split.specs.EndedLaws.{none_begins, groups_begin, some_group, last_at}
+use Rattle.layer_split.specs.EndedLaws.{none_begins, groups_begin, some_group, after_nil, all_groups, last_now}
 
 -- the first that is too long
 from_some : {X : Type 0} (p : X → Bool) (i k : ℕ) (xs : List X) (x : X) (ys : List X) → All (λ y. p y ≡ false) xs → p x ≡ true → length xs < k → position_from p i (take k (xs ++ x ∷ ys)) ≡ Some (i + length xs)
@@ -81,25 +81,11 @@ piece_joins : (current : List Piece) (p : Piece) (later : List Piece) → begins
 piece_joins [] p later e = refl
 piece_joins (c ∷ cs) p later e = cond-false (begins_group (c ∷ cs) p) _ _ e
 
-after_nil : (current : List Piece) → (current ≡ [] → ⊥) → groups_after current [] ≡ current ∷ []
-after_nil [] some = absurd (some refl)
-after_nil (c ∷ cs) some = refl
-
-last_of : (pieces current : List Piece) (gone : List (List Piece)) → (current ≡ [] → pieces ≡ []) → groups_of pieces ≡ gone ++ groups_after current [] → last_group pieces ≡ current
-last_of pieces [] gone fresh e = ap last_group (fresh refl)
-last_of pieces (c ∷ cs) gone fresh e = ap (last_from []) e ∙ last_at [] gone (c ∷ cs)
-
-all_groups : (splitter : Splitter) (priority : Priorities) (pieces : List Piece) (cuts : List Cut) (h : HasAdded splitter priority pieces cuts) → groups_of pieces ≡ h.gone ++ groups_after h.current []
-all_groups splitter priority pieces cuts h = ap groups_of (sym (append-nil pieces)) ∙ h.groups []
-
 ends : (splitter : Splitter) (priority : Priorities) (pieces : List Piece) (cuts : List Cut) (h : HasAdded splitter priority pieces cuts) → (h.current ≡ [] → ⊥) → groups_of pieces ≡ h.gone ++ h.current ∷ []
 ends splitter priority pieces cuts h some = all_groups splitter priority pieces cuts h ∙ ap (λ l. h.gone ++ l) (after_nil h.current some)
 
 begins_now : (splitter : Splitter) (priority : Priorities) (pieces : List Piece) (cuts : List Cut) (p : Piece) (b : Bool) (h : HasAdded splitter priority pieces cuts) → (is_group_head p && splitter.has_picture) ≡ b → begins_group h.current p ≡ b
 begins_now splitter priority pieces cuts p b h e = ap (λ k. is_group_head p && k) (sym h.picture) ∙ e
-
-last_now : (splitter : Splitter) (priority : Priorities) (pieces : List Piece) (cuts : List Cut) (h : HasAdded splitter priority pieces cuts) → last_group pieces ≡ h.current
-last_now splitter priority pieces cuts h = last_of pieces h.current h.gone h.fresh (all_groups splitter priority pieces cuts h)
 
 pub begins_last : (splitter : Splitter) (priority : Priorities) (pieces : List Piece) (cuts : List Cut) (p : Piece) (b : Bool) → HasAdded splitter priority pieces cuts → (is_group_head p && splitter.has_picture) ≡ b → b ≡ begins_group (last_group pieces) p
 begins_last splitter priority pieces cuts p b h e =

@@ -96,6 +96,23 @@ ended_behind gone current later =
     let next = some_group current later in
     ap (λ l. but_last (gone ++ l)) next.2 ∙ (but_last_behind gone next.0 next.1 ∙ sym (ap (λ l. gone ++ but_last l) next.2))
 
+-- a group with a piece, at the end
+pub after_nil : (current : List Piece) → (current ≡ [] → ⊥) → groups_after current [] ≡ current ∷ []
+after_nil [] some = absurd (some refl)
+after_nil (c ∷ cs) some = refl
+
+-- the groups of the pieces that were added
+pub all_groups : (splitter : Splitter) (priority : Priorities) (pieces : List Piece) (cuts : List Cut) (h : HasAdded splitter priority pieces cuts) → groups_of pieces ≡ h.gone ++ groups_after h.current []
+all_groups splitter priority pieces cuts h = ap groups_of (sym (append-nil pieces)) ∙ h.groups []
+
+last_of : (pieces current : List Piece) (gone : List (List Piece)) → (current ≡ [] → pieces ≡ []) → groups_of pieces ≡ gone ++ groups_after current [] → last_group pieces ≡ current
+last_of pieces [] gone fresh e = ap last_group (fresh refl)
+last_of pieces (c ∷ cs) gone fresh e = ap (last_from []) e ∙ last_at [] gone (c ∷ cs)
+
+-- the last of them
+pub last_now : (splitter : Splitter) (priority : Priorities) (pieces : List Piece) (cuts : List Cut) (h : HasAdded splitter priority pieces cuts) → last_group pieces ≡ h.current
+last_now splitter priority pieces cuts h = last_of pieces h.current h.gone h.fresh (all_groups splitter priority pieces cuts h)
+
 -- the groups whose cuts were answered
 ended_by : (pieces current : List Piece) (gone : List (List Piece)) → (current ≡ [] → pieces ≡ []) → groups_of pieces ≡ gone ++ groups_after current [] → gone ≡ ended_groups pieces
 ended_by pieces [] gone fresh e =
@@ -104,7 +121,7 @@ ended_by pieces [] gone fresh e =
 ended_by pieces (first ∷ current) gone fresh e = sym (ap but_last e ∙ but_last_push gone (first ∷ current))
 
 pub gone_ended : (splitter : Splitter) (priority : Priorities) (pieces : List Piece) (cuts : List Cut) (h : HasAdded splitter priority pieces cuts) → h.gone ≡ ended_groups pieces
-gone_ended splitter priority pieces cuts h = ended_by pieces h.current h.gone h.fresh (ap groups_of (sym (append-nil pieces)) ∙ h.groups [])
+gone_ended splitter priority pieces cuts h = ended_by pieces h.current h.gone h.fresh (all_groups splitter priority pieces cuts h)
 
 -- they are the first groups, whatever comes
 pub groups_stay : (pieces later : List Piece) → (more : List (List Piece)) × (groups_of (pieces ++ later) ≡ ended_groups pieces ++ more)

@@ -1,5 +1,5 @@
 -- What `send` tells at its end, and that it is done wherever no cause of another status holds.
-use Rattle.std.proofs.Common.{◌≡◌, ℕ, ◌+◌, ◌*◌, ◌≤◌, false, List, [], ◌++◌, length, Option, Some, None, refl, sym, ap, subst, ◌∙◌, arith, inl, inr}
+use Rattle.std.proofs.Common.{◌≡◌, ℕ, ◌+◌, ◌*◌, ◌≤◌, true, false, List, [], ◌++◌, length, Option, Some, None, refl, sym, ap, subst, ◌∙◌, arith, inl, inr}
 use Rattle.std.proofs.lemmas.List.{append-nil}
 use Rattle.std.specs.Prelude.{◌⊎◌, option_map, Result, Ok, Err, OnErr}
 use Rattle.std.specs.List.{sum_by}
@@ -8,7 +8,7 @@ use Rattle.std.specs.Io.KnownBytes.{append_known}
 use Rattle.pet_base.specs.Seen.{Seen, Files, with_file}
 use Rattle.pet_base.specs.SeenLaws.{HadFault-since}
 use Rattle.stripe_plan.specs.Sizes.{Sizes}
-use Rattle.priority_file.specs.Priority.{Priorities}
+use Rattle.priority_file.specs.Priority.{Priorities, is_priority}
 use Rattle.priority_file.specs.Refusals.{priorities_of}
 use Rattle.stream_session.specs.declared.fault.SessionFault.TheVariants as session
 use Rattle.stream_session.specs.declared.mark.GroupMark.{GroupMark}
@@ -39,21 +39,31 @@ use Rattle.pet_tool.specs.declared.second.SendStop.TheVariants as stopped
 use Rattle.pet_tool.specs.Sending.{words_cost, IsLeastChange, IsFirstPass, IsSendStop, IsToldStop, SentPart}
 use Rattle.pet_tool.specs.SendParts.{SessionSent, SessionLeft, SessionStops}
 use Rattle.pet_tool.specs.Sources.{HasSession, tables_in, status_of_source}
-use Rattle.pet_tool.proofs.Reporting.{priority_is, stream_is, no_fault}
-
--- the first pass of a session that was read
-pub first_pass : (files : Option Files) (stream priority : List ℕ) (source : Source) (marks : List GroupMark) (is : IsSource files stream priority source) → marks ≡ marks_of (priorities_of is.file) is.bytes
-    → IsFirstPass is.file is.bytes source marks
-first_pass files stream priority source marks is marked =
-    record { accepted = is.accepted; rules = is.rules; number = is.number; tables = is.tables; marks_are = marked }
+use Rattle.pet_tool.proofs.Reporting.{priority_is, stream_is, no_fault, session_in}
 
 -- the line of a session that was read
-pub line_of_source : (files : Option Files) (stream priority : List ℕ) (source : Source) (is : IsSource files stream priority source)
+line_of_source : (files : Option Files) (stream priority : List ℕ) (source : Source) (is : IsSource files stream priority source)
     → send_text source.number (length source.tables.items) (length source.tables.items * source.priority.packets) ≡ sent_line_text is.file is.bytes
 line_of_source files stream priority source is =
     ap (λ (n : List ℕ). send_text n (length source.tables.items) (length source.tables.items * source.priority.packets)) is.number
     ∙ ap (λ (r : Priorities). send_text (session_number is.file is.bytes) (length source.tables.items) (length source.tables.items * r.packets)) is.rules
     ∙ ap (λ (ts : List Sizes). send_text (session_number is.file is.bytes) (length ts) (length ts * (priorities_of is.file).packets)) is.tables
+
+-- The session that was read with its marks: what the first pass knows of it, and the line that is printed.
+pub record IsSessionRead (old : Seen) (stream priority : List ℕ) (source : Source) (marks : List GroupMark) : Type 0 where
+  pub session : HasSession old stream priority
+  pub first : IsFirstPass session.priority_bytes session.stream_bytes source marks
+  pub line : send_text source.number (length source.tables.items) (length source.tables.items * source.priority.packets) ≡ sent_line_text session.priority_bytes session.stream_bytes
+
+pub session_read : (old : Seen) (stream priority : List ℕ) (source : Source) (marks : List GroupMark) → (is : IsSource old.files stream priority source) × (marks ≡ marks_of (priorities_of is.file) is.bytes)
+    → is_priority source.priority ≡ true → IsSessionRead old stream priority source marks
+session_read old stream priority source marks read lawful =
+    let is = read.0 in
+    record {
+      session = session_in old stream priority source is lawful;
+      first = record { accepted = is.accepted; rules = is.rules; number = is.number; tables = is.tables; marks_are = read.1 };
+      line = line_of_source old.files stream priority source is;
+    }
 
 -- what is left of the session that was read
 pub left_of : (old mid new : Seen) (stream priority to : List ℕ) (source : Source) (marks : List GroupMark) (s : HasSession old stream priority) → IsFirstPass s.priority_bytes s.stream_bytes source marks
@@ -86,13 +96,13 @@ least_of p b source marks again change first least =
     (subst (λ (ms : List GroupMark). IsLeastChange source.priority source.tables.items ms again change) first.marks_are least))
 
 -- why the sending stopped
-pub stops_of : (old mid new : Seen) (stream priority to : List ℕ) (source : Source) (marks : List GroupMark) (f : SendFault) (s : HasSession old stream priority) → IsFirstPass s.priority_bytes s.stream_bytes source marks
-    → mid.files ≡ old.files → old.faults ≤ mid.faults → SessionStops source marks stream to mid new f → IsSendFault old new stream priority to f
-stops_of old mid new stream priority to source marks fault.NoMemory s first same later stops = tt
-stops_of old mid new stream priority to source marks fault.Failed s first same later stops =
+pub stops_of : (old mid new : Seen) (stream priority to : List ℕ) (source : Source) (marks : List GroupMark) (s : HasSession old stream priority) → IsFirstPass s.priority_bytes s.stream_bytes source marks
+    → mid.files ≡ old.files → old.faults ≤ mid.faults → (f : SendFault) → SessionStops source marks stream to mid new f → IsSendFault old new stream priority to f
+stops_of old mid new stream priority to source marks s first same later fault.NoMemory stops = tt
+stops_of old mid new stream priority to source marks s first same later fault.Failed stops =
     HadFault-since old mid new _ _ later (λ b is. elim is [ inl read ↦ inl (inl read) | inr written ↦ inr written ]) stops
-stops_of old mid new stream priority to source marks (fault.Source refused) s first same later stops = absurd stops
-stops_of old mid new stream priority to source marks (fault.Changed group one other) s first same later stops = record {
+stops_of old mid new stream priority to source marks s first same later (fault.Source refused) stops = absurd stops
+stops_of old mid new stream priority to source marks s first same later (fault.Changed group one other) stops = record {
   session = s;
   again = stops.0;
   least = least_of s.priority_bytes s.stream_bytes source marks stops.0 (record { group = group; first = one; second = other }) first stops.1;

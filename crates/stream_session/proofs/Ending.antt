@@ -1,26 +1,18 @@
 -- Where a splitter's groups end, one piece on and at the end.
 use Rattle.std.proofs.Common.{◌≡◌, Bool, true, false, List, [], ◌∷◌, ◌++◌, length, refl, sym, ◌∙◌, ap, subst, append_assoc}
-use Rattle.std.proofs.lemmas.List.{append-nil, map-append, same_from_push}
+use Rattle.std.proofs.lemmas.List.{map-append, same_from_push}
 use Rattle.std.proofs.lemmas.Bool.{cond-false}
 use Rattle.mpeg_scan.specs.declared.piece.Piece.{Piece}
 use Rattle.priority_file.specs.Priority.{Priorities, layer_of}
 use Rattle.layer_split.specs.declared.splitter.Splitter.{Splitter}
-use Rattle.layer_split.specs.Groups.{groups_of, begins_group, last_from, last_group}
+use Rattle.layer_split.specs.Groups.{groups_of, begins_group, last_group}
 use Rattle.layer_split.specs.Layers.{Cut, cut_of}
-use Rattle.layer_split.specs.EndedLaws.{none_begins, groups_begin, last_at}
+use Rattle.layer_split.specs.EndedLaws.{none_begins, groups_begin, after_nil, all_groups, last_now}
 use Rattle.layer_split.specs.Splitting.{HasAdded, groups_after, cuts_of}
 
 pub push_not_nil : (xs : List Piece) (x : Piece) → xs ++ x ∷ [] ≡ [] → ⊥
 push_not_nil [] x e = cc
 push_not_nil (y ∷ ys) x e = cc
-
--- a group with a piece, at the end
-pub after_nil : (current : List Piece) → (current ≡ [] → ⊥) → groups_after current [] ≡ current ∷ []
-after_nil [] some = absurd (some refl)
-after_nil (c ∷ cs) some = refl
-
-pub all_groups : (splitter : Splitter) (priority : Priorities) (pieces : List Piece) (cuts : List Cut) (h : HasAdded splitter priority pieces cuts) → groups_of pieces ≡ h.gone ++ groups_after h.current []
-all_groups splitter priority pieces cuts h = ap groups_of (sym (append-nil pieces)) ∙ h.groups []
 
 -- the groups that are gone and the current one are told by the pieces
 pub parted : (splitter : Splitter) (priority : Priorities) (pieces : List Piece) (cuts : List Cut) (k : HasAdded splitter priority pieces cuts) (gone : List (List Piece)) (current : List Piece) → (pieces ≡ [] → ⊥) → groups_of pieces ≡ gone ++ current ∷ [] → (k.gone ≡ gone) × (k.current ≡ current)
@@ -35,13 +27,9 @@ group_goes_on (c ∷ cs) p e = cond-false (begins_group (c ∷ cs) p) _ _ e
 pub begins_some : (current : List Piece) (p : Piece) → begins_group current p ≡ true → current ≡ [] → ⊥
 begins_some current p e none = none_begins p (subst (λ l. begins_group l p ≡ true) none e)
 
-last_of : (pieces current : List Piece) (gone : List (List Piece)) → (current ≡ [] → pieces ≡ []) → groups_of pieces ≡ gone ++ groups_after current [] → last_group pieces ≡ current
-last_of pieces [] gone fresh e = ap last_group (fresh refl)
-last_of pieces (c ∷ cs) gone fresh e = ap (last_from []) e ∙ last_at [] gone (c ∷ cs)
-
 pub begins_last : (splitter : Splitter) (priority : Priorities) (pieces : List Piece) (cuts : List Cut) (p : Piece) (b : Bool) (h : HasAdded splitter priority pieces cuts) → b ≡ begins_group (last_group pieces) p → begins_group h.current p ≡ b
 begins_last splitter priority pieces cuts p b h e =
-    sym (e ∙ ap (λ group. begins_group group p) (last_of pieces h.current h.gone h.fresh (all_groups splitter priority pieces cuts h)))
+    sym (e ∙ ap (λ group. begins_group group p) (last_now splitter priority pieces cuts h))
 
 -- the piece goes to the current group
 pub stays : (old new : Splitter) (priority : Priorities) (pieces : List Piece) (cuts more : List Cut) (p : Piece) (h : HasAdded old priority pieces cuts) (k : HasAdded new priority (pieces ++ p ∷ []) more) → begins_group h.current p ≡ false → (k.gone ≡ h.gone) × (k.current ≡ h.current ++ p ∷ [])

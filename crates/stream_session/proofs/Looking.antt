@@ -16,7 +16,8 @@ use Rattle.stream_session.specs.Cutting.{HasLooked, HasEnded, KeepsPieces, Ends,
 use Rattle.mpeg_scan.specs.StandingLaws.{stand_le, stand_push}
 use Rattle.layer_split.specs.CutLaws.{runs_lie}
 use Rattle.stream_session.specs.StandingLaws.{stand_end, stand_tail, end_push, stand_bytes}
-use Rattle.stream_session.proofs.Ending.{after_nil, all_groups, begins_last, begins_some, stays, begins, cut_is}
+use Rattle.layer_split.specs.EndedLaws.{after_nil, all_groups}
+use Rattle.stream_session.proofs.Ending.{begins_last, begins_some, stays, begins, cut_is}
 
 -- the current group lies in what was seen, up to the pieces that are pending
 pub ends_within : (cutter : GroupCutter) (priority : Priorities) (seen : List ℕ) (pieces : List Piece) (given : List CutGroup) (h : HasLooked cutter priority seen pieces given) → (cutter.from ≤ end_of 0 h.looked) × (end_of 0 h.looked ≤ length seen)

@@ -1,6 +1,7 @@
 -- From the tables that are kept to what the pieces have.
-use Rattle.std.proofs.Common.{◌≡◌, ◌≢◌, ℕ, suc, ◌<◌, Bool, true, false, List, [], ◌∷◌, ◌++◌, length, map, Option, Some, None, is_some, refl, sym, ◌∙◌, ap, subst, arith, inl, inr, append-nil, append_assoc}
+use Rattle.std.proofs.Common.{◌≡◌, ◌≢◌, ℕ, suc, ◌<◌, true, false, List, [], ◌∷◌, ◌++◌, length, map, Option, Some, None, is_some, refl, sym, ◌∙◌, ap, subst, arith, inl, inr, append-nil, append_assoc}
 use Rattle.std.specs.Prelude.{All}
+use Rattle.std.proofs.lemmas.Bool.{both_ways}
 use Rattle.pet_base.specs.declared.limits.TheConstants.{MAX_GROUPS, MAX_SESSION}
 use Rattle.mpeg_scan.specs.declared.piece.Piece.{Piece}
 use Rattle.priority_file.specs.Priority.{Priorities, layer_of}
@@ -73,11 +74,8 @@ Keeps old new cut = (priority : Priorities) (cuts : List Cut) → length cuts < 
 pub keeps_some : (old new : Planner) (told : Option Cut) (cut : Cut) → told ≡ Some cut → ((priority : Priorities) (cuts : List Cut) → length cuts < MAX_GROUPS → IsFit priority cut → HasTables old priority cuts → HasTables new priority (cuts ++ cut ∷ [])) → Keeps old new told
 keeps_some old new told cut is one = subst (Keeps old new) (sym is) (λ priority cuts few fit h. one priority cuts few (fit 0 cut (omega arith)) h)
 
-not_both : (b : Bool) → b ≡ true → b ≡ false → ⊥
-not_both b t f = cc
-
 pub stays_live : (old new : Planner) (splitter : Splitter) (piece : Piece) (cut : Option Cut) → is_some old.refused ≡ false → Adds old.splitter splitter piece cut → KeepsRest (record old { splitter = splitter }) new → Keeps (record old { splitter = splitter }) new cut → (priority : Priorities) (pieces : List Piece) → HasPlanned old priority pieces → HasPlanned new priority (pieces ++ piece ∷ [])
-stays_live old new splitter piece cut live adds rest keeps priority pieces (inr h) = absurd (not_both (is_some old.refused) h.some live)
+stays_live old new splitter piece cut live adds rest keeps priority pieces (inr h) = absurd (both_ways (is_some old.refused) live h.some)
 stays_live old new splitter piece cut live adds rest keeps priority pieces (inl h) =
     let added = adds priority pieces h.cuts h.added in
     let fit = last_fits priority h.cuts (cuts_in cut) added.gone added.cut added.fit in
@@ -89,7 +87,7 @@ stays_live old new splitter piece cut live adds rest keeps priority pieces (inl 
     })
 
 pub becomes_refused : (old new : Planner) (piece : Piece) (fault : SplitFault) → is_some old.refused ≡ false → HasRefused new fault → ((priority : Priorities) (pieces : List Piece) (cuts : List Cut) → HasAdded old.splitter priority pieces cuts → (later : List Piece) → fault_of (layer_of priority) (length priority.layers) (groups_of (pieces ++ piece ∷ later)) ≡ Some fault) → (priority : Priorities) (pieces : List Piece) → HasPlanned old priority pieces → HasPlanned new priority (pieces ++ piece ∷ [])
-becomes_refused old new piece fault live refused is priority pieces (inr h) = absurd (not_both (is_some old.refused) h.some live)
+becomes_refused old new piece fault live refused is priority pieces (inr h) = absurd (both_ways (is_some old.refused) live h.some)
 becomes_refused old new piece fault live refused is priority pieces (inl h) =
     inr (record {
       some = refused.some;

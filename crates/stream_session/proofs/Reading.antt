@@ -2,6 +2,7 @@
 use Rattle.std.proofs.Common.{◌≡◌, ℕ, ◌≤◌, Bool, true, false, List, [], ◌∷◌, ◌++◌, length, drop, map, Option, Some, None, refl, sym, ◌∙◌, ap, subst, arith, append_assoc, length-append, inl, inr}
 use Rattle.std.specs.Bool.{MatchBool}
 use Rattle.std.proofs.lemmas.List.{append-nil, drop-append-le}
+use Rattle.std.proofs.lemmas.Bool.{both_ways}
 use Rattle.mpeg_scan.specs.declared.piece.Piece.{Piece}
 use Rattle.mpeg_scan.specs.declared.refusal.Scan.{Scan}
 use Rattle.mpeg_scan.specs.Refusals.{Refuses, holds, max_stream}
@@ -141,11 +142,8 @@ refused_more cutter priority stream portion given over = record {
   ];
 }
 
-not_both : (b : Bool) → b ≡ true → b ≡ false → ⊥
-not_both b e k = cc
-
 pub not_accepted : (priority : Priorities) (stream : List ℕ) (scan : Scan) → Refuses stream scan → IsCuttable priority stream → ⊥
-not_accepted priority stream scan refuses cuttable = not_both (holds stream scan) refuses.holding (cuttable.0 scan)
+not_accepted priority stream scan refuses cuttable = both_ways (holds stream scan) (cuttable.0 scan) refuses.holding
 
 -- the portion refused the stream
 pub refuses_now : (cutter : GroupCutter) (priority : Priorities) (stream : List ℕ) (pieces : List Piece) (given : List CutGroup) (scan : Scan) → ((rest : List ℕ) → Refuses (stream ++ rest) scan) → HasStopped stream scan pieces → IsFrontOf stream pieces → HasLooked cutter priority stream pieces given → IsRefused cutter priority stream given
