@@ -5,6 +5,8 @@ use Rattle.std.specs.Prelude.{◌⊎◌, option_map, Result, Ok, Err, OnErr}
 use Rattle.std.specs.List.{sum_by}
 use Rattle.std.specs.Str.{bytes_eq}
 use Rattle.std.specs.Io.KnownBytes.{append_known}
+use Rattle.pet_base.specs.declared.faults.Stop.{Stop}
+use Rattle.pet_base.specs.declared.faults.Stop.TheVariants as stop
 use Rattle.pet_base.specs.Seen.{Seen, Files, with_file}
 use Rattle.pet_base.specs.SeenLaws.{HadFault-since}
 use Rattle.stripe_plan.specs.Sizes.{Sizes}
@@ -98,14 +100,14 @@ least_of p b source marks again change first least =
 -- why the sending stopped
 pub stops_of : (old mid new : Seen) (stream priority to : List ℕ) (source : Source) (marks : List GroupMark) (s : HasSession old stream priority) → IsFirstPass s.priority_bytes s.stream_bytes source marks
     → mid.files ≡ old.files → old.faults ≤ mid.faults → (f : SendFault) → SessionStops source marks stream to mid new f → IsSendFault old new stream priority to f
-stops_of old mid new stream priority to source marks s first same later fault.NoMemory stops = tt
-stops_of old mid new stream priority to source marks s first same later fault.Failed stops =
+stops_of old mid new stream priority to source marks s first same later (fault.Stopped stop.NoMemory) stops = tt
+stops_of old mid new stream priority to source marks s first same later (fault.Stopped stop.Failed) stops =
     HadFault-since old mid new _ _ later (λ b is. elim is [ inl read ↦ inl (inl read) | inr written ↦ inr written ]) stops
 stops_of old mid new stream priority to source marks s first same later (fault.Source refused) stops = absurd stops
-stops_of old mid new stream priority to source marks s first same later (fault.Changed group one other) stops = record {
+stops_of old mid new stream priority to source marks s first same later (fault.Changed change) stops = record {
   session = s;
   again = stops.0;
-  least = least_of s.priority_bytes s.stream_bytes source marks stops.0 (record { group = group; first = one; second = other }) first stops.1;
+  least = least_of s.priority_bytes s.stream_bytes source marks stops.0 change first stops.1;
   untold = sym same ∙ stops.2 s.priority_bytes s.stream_bytes first (subst (λ (o : Option Files). IsFile o stream s.stream_bytes) (sym same) s.stream_file);
 }
 
@@ -116,9 +118,9 @@ costs_of old stream priority source marks s before after first few = inr (s, sub
 
 -- a fault of it
 pub send_refused : (stream priority to : List ℕ) (old new : Seen) (f : SendFault) → IsSendFault old new stream priority to f → LeavesSent stream priority to old new → SendTells stream priority to old new (status_of_send f) []
-send_refused stream priority to old new fault.NoMemory is left = (fault.NoMemory, is, refl, left, refl)
-send_refused stream priority to old new fault.Failed is left = (fault.Failed, is, refl, left, refl)
-send_refused stream priority to old new (fault.Changed group first second) is left = (fault.Changed group first second, is, refl, left, refl)
+send_refused stream priority to old new (fault.Stopped stop.NoMemory) is left = (fault.Stopped stop.NoMemory, is, refl, left, refl)
+send_refused stream priority to old new (fault.Stopped stop.Failed) is left = (fault.Stopped stop.Failed, is, refl, left, refl)
+send_refused stream priority to old new (fault.Changed change) is left = (fault.Changed change, is, refl, left, refl)
 send_refused stream priority to old new (fault.Source source.NoMemory) is left = (fault.Source source.NoMemory, is, refl, left, refl)
 send_refused stream priority to old new (fault.Source source.Failed) is left = (fault.Source source.Failed, is, refl, left, refl)
 send_refused stream priority to old new (fault.Source (source.Priority refused)) is left = (fault.Source (source.Priority refused), is, refl, left, refl)
@@ -132,7 +134,7 @@ send_refused stream priority to old new (fault.Source (source.Plan session.NoMem
 -- memory was not found before anything was done
 pub send_no_memory : (stream priority to : List ℕ) (seen : Seen) (before after : Option (List ℕ)) (fb fa : ℕ) → Prints [] (fault_text NoMemory) before after fb fa → Sends stream priority to seen seen before after fb fa NoMemory
 send_no_memory stream priority to seen before after fb fa p =
-    record { text = []; tells = (fault.NoMemory, tt, refl, inl refl, refl); rose = λ is. absurd (cc); prints = p }
+    record { text = []; tells = (fault.Stopped stop.NoMemory, tt, refl, inl refl, refl); rose = λ is. absurd (cc); prints = p }
 
 none_some : {A : Type 0} (o : Option A) (x : A) → o ≡ None → o ≡ Some x → ⊥
 none_some o x p q = cc
@@ -140,11 +142,11 @@ none_some o x p q = cc
 module _ (stream priority to p b : List ℕ) (old new : Seen) (before after : Option (List ℕ)) (fb fa : ℕ) (status : Status) (can : CanSend stream priority to p b old new fb fa status) where
   -- no fault holds
   no_cause : (f : SendFault) → status ≡ status_of_send f → IsSendFault old new stream priority to f → ⊥
-  no_cause fault.NoMemory same is = can.memory same
-  no_cause fault.Failed same is = can.place_well is
+  no_cause (fault.Stopped stop.NoMemory) same is = can.memory same
+  no_cause (fault.Stopped stop.Failed) same is = can.place_well is
   no_cause (fault.Source refused) same is =
       no_fault old new stream priority p b can.given refused (λ none. can.memory (same ∙ ap status_of_source none)) (λ had. can.place_well (HadFault-since old old new _ _ (omega arith) (λ b read. inl read) had)) is.0
-  no_cause (fault.Changed group first second) same is = none_some old.files can.given.files is.untold can.given.told
+  no_cause (fault.Changed change) same is = none_some old.files can.given.files is.untold can.given.told
 
   bytes_are : (s : HasSession old stream priority) → (s.priority_bytes ≡ p) × (s.stream_bytes ≡ b)
   bytes_are s = (priority_is old new stream priority p b can.given s.priority_bytes s.priority_file, stream_is old new stream priority p b can.given s.stream_bytes s.stream_file)
@@ -214,17 +216,11 @@ each_failed (Ok x) P Q h p = tt
 each_failed (Err e) P Q h p = h p
 
 -- what a stop of the second pass leaves
-pub memory_part : (source : Source) (marks : List GroupMark) (old new : Seen) (F : Type 0) (stop : SendStop) → stop ≡ stopped.Memory → IsSendStop source marks old new F stop → SentPart source marks old new
-memory_part source marks old new F stop is stops = subst (IsSendStop source marks old new F) is stops
+pub stopped_part : (source : Source) (marks : List GroupMark) (old new : Seen) (F : Type 0) (why : SendStop) (stop : Stop) → why ≡ stopped.Stopped stop → IsSendStop source marks old new F why → SentPart source marks old new
+stopped_part source marks old new F why stop is stops = (subst (IsSendStop source marks old new F) is stops).1
 
-pub place_part : (source : Source) (marks : List GroupMark) (old new : Seen) (F : Type 0) (stop : SendStop) → stop ≡ stopped.Place → IsSendStop source marks old new F stop → SentPart source marks old new
-place_part source marks old new F stop is stops = (subst (IsSendStop source marks old new F) is stops).1
-
-pub memory_told : (text : List ℕ) (old new : Seen) (stop : SendStop) → stop ≡ stopped.Memory → IsToldStop text old new stop → PutsPart text old new
-memory_told text old new stop is told = subst (IsToldStop text old new) is told
-
-pub place_told : (text : List ℕ) (old new : Seen) (stop : SendStop) → stop ≡ stopped.Place → IsToldStop text old new stop → PutsPart text old new
-place_told text old new stop is told = subst (IsToldStop text old new) is told
+pub stopped_told : (text : List ℕ) (old new : Seen) (why : SendStop) (stop : Stop) → why ≡ stopped.Stopped stop → IsToldStop text old new why → PutsPart text old new
+stopped_told text old new why stop is told = subst (IsToldStop text old new) is told
 
 -- the file that the words of `send` name is another than the stream
 pub differs_in : (words : List (List ℕ)) (command : Command) (stream priority name to : List ℕ) (end : End) → command_of words ≡ Some command → command ≡ Send stream priority end → name ≡ stream → end ≡ File to

@@ -1,13 +1,12 @@
 -- What the second pass answers where the input is the stream of the first pass.
 use Rattle.std.proofs.Common.{◌≡◌, ℕ, zero, suc, ◌+◌, ◌≤◌, List, [], ◌∷◌, ◌++◌, length, map, get_or, Option, Some, None, refl, sym, ◌∙◌, ap, ap₂, subst, arith, inl, inr, append_assoc}
-use Rattle.std.specs.Prelude.{slice_get, All, IfErr, MatchOption, MatchResult, Result, Ok, Err}
+use Rattle.std.specs.Prelude.{slice_get, All, IsErrAnd, MatchResult, Result, Ok, Err}
 use Rattle.std.specs.List.{flat_map}
 use Rattle.std.specs.Io.KnownBytes.{prepend_known, IsAtEnd}
 use Rattle.std.proofs.lemmas.List.{append-nil, length-append, length-map, map-append}
 use Rattle.std.proofs.lemmas.Option.{MatchOption-at_some, none-some, same_Some}
 use lib.Seq.{get_or-append_seam}
 use Rattle.pet_base.specs.declared.faults.Stop.{Stop}
-use Rattle.pet_base.specs.declared.faults.Stop.TheVariants as stop
 use Rattle.pet_base.specs.declared.limits.TheConstants.{MAX_STREAM}
 use Rattle.pet_base.specs.Seen.{Seen}
 use Rattle.mpeg_scan.specs.declared.piece.Piece.{Piece}
@@ -31,12 +30,11 @@ use Rattle.stream_session.specs.Marks.{mark_of, no_mark, mark_at, group_marks, m
 use Rattle.stream_session.specs.Tables.{table_of, tables_of, sizes_of, cuts_of_stream}
 use Rattle.stream_session.specs.Accepted.{session_of, group_of}
 use Rattle.pet_tool.specs.declared.second.SendStop.{SendStop}
-use Rattle.pet_tool.specs.declared.second.SendStop.TheVariants.{Changed}
+use Rattle.pet_tool.specs.declared.second.SendStop.TheVariants.{Stopped}
 use Rattle.pet_tool.specs.declared.sent_group.Change.{Change}
 use Rattle.pet_tool.specs.Packets.{datagrams_text, AreEncoders, group_entries}
 use Rattle.pet_tool.specs.Reading.{IsPrefix, Puts, PutsPart}
-use Rattle.pet_tool.specs.Sending.{encoding_of, encodings_from, sent_text, IsFront, IsNext, IsLost, IsChange, IsAllSent, IsTaken, HasSent, HasChanged, SentPart, IsFirstPass, IsSendStop, IsToldStop}
-use Rattle.pet_tool.specs.Second.{of_stop}
+use Rattle.pet_tool.specs.Sending.{encoding_of, encodings_from, sent_text, IsFront, IsNext, IsLost, IsChange, IsAllSent, IsTaken, HasSent, HasChanged, SentPart, IsFirstPass, IsToldStop}
 use Rattle.pet_tool.proofs.Datagrams.{groups_make_datagrams, part_within}
 use Rattle.pet_tool.proofs.SentFound.{found_front}
 use Rattle.pet_tool.proofs.SentReading.{short_stream}
@@ -200,24 +198,8 @@ told_changed p b source marks change old new f told h =
     ] in
     least.differ (least.first_is ∙ same)
 
--- the answers that this makes
-pub told_ok : (p b : List ℕ) (source : Source) (marks : List GroupMark) (old new : Seen) (change : Option Change) (result : Result (Unit {0}) SendStop) → MatchOption change (result ≡ Ok tt) (λ c. result ≡ Err (Changed c.group c.first c.second))
-    → MatchOption change (HasSent source marks old new) (λ c. HasChanged source marks c old new) → IsFirstPass p b source marks → old.rest ≡ Some b
-    → MatchResult result (λ k. Puts (datagrams_text (session_of p b)) old new) (IsToldStop (datagrams_text (session_of p b)) old new)
-told_ok p b source marks old new None result is h f told =
-    subst (λ r. MatchResult r (λ k. Puts (datagrams_text (session_of p b)) old new) (IsToldStop (datagrams_text (session_of p b)) old new)) (sym is) (told_sent p b source marks old new f told h)
-told_ok p b source marks old new (Some c) result is h f told = absurd (told_changed p b source marks c old new f told h)
-
-pub changed_stop : (source : Source) (marks : List GroupMark) (old new : Seen) (F : Type 0) (change : Option Change) (result : Result (Unit {0}) SendStop) → MatchOption change (result ≡ Ok tt) (λ c. result ≡ Err (Changed c.group c.first c.second))
-    → MatchOption change (HasSent source marks old new) (λ c. HasChanged source marks c old new) → IfErr result (IsSendStop source marks old new F)
-changed_stop source marks old new F None result is h = subst (λ r. IfErr r (IsSendStop source marks old new F)) (sym is) tt
-changed_stop source marks old new F (Some c) result is h = subst (λ r. IfErr r (IsSendStop source marks old new F)) (sym is) h
-
-told_part_stop : (text : List ℕ) (old new : Seen) (stop : Stop) → PutsPart text old new → IsToldStop text old new (of_stop stop)
-told_part_stop text old new stop.NoMemory part = part
-told_part_stop text old new stop.Failed part = part
-
-pub told_stop : (p b : List ℕ) (source : Source) (marks : List GroupMark) (old new : Seen) (stop : Stop) (result : SendStop) → result ≡ of_stop stop → SentPart source marks old new → IsFirstPass p b source marks → old.rest ≡ Some b
-    → IsToldStop (datagrams_text (session_of p b)) old new result
-told_stop p b source marks old new stop result is h f told =
-    subst (IsToldStop (datagrams_text (session_of p b)) old new) (sym is) (told_part_stop (datagrams_text (session_of p b)) old new stop (told_part p b source marks old new f told h))
+-- an early stop, through `?`
+pub told_stop : {A : Type 0} (P : A → Type 0) (text : List ℕ) (old new : Seen) (stop : Stop) (result : Result A SendStop) → IsErrAnd result (λ answer. answer ≡ Stopped stop) → PutsPart text old new
+    → MatchResult result P (IsToldStop text old new)
+told_stop P text old new stop (Ok x) is part = absurd is
+told_stop P text old new stop (Err answer) is part = subst (IsToldStop text old new) (sym is) part

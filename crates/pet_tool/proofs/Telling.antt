@@ -16,7 +16,8 @@ use Rattle.pet_text.specs.declared.words.Command.TheVariants.{Receive}
 use Rattle.pet_text.specs.declared.words.End.{End}
 use Rattle.pet_text.specs.declared.words.End.TheVariants.{File}
 use Rattle.pet_text.specs.Lines.{fault_text}
-use Rattle.pet_tool.specs.Outcome.{status_of, Licensed, IsOf}
+use Rattle.stream_session.specs.Inputs.{Licensed}
+use Rattle.pet_tool.specs.Outcome.{status_of, IsOf}
 use Rattle.pet_tool.specs.Finished.{LeavesFront, ReceiveTells, Receives, ForReceive}
 use Rattle.pet_tool.specs.Reports.{Prints}
 

@@ -12,11 +12,6 @@ abbrev pub status_of : Stop → Status
 status_of stop.NoMemory = NoMemory
 status_of stop.Failed = PlaceFault
 
--- when each comes: want of memory at any time, the other where a call of the place failed
-abbrev pub Licensed : Type 0 → Stop → Type 0
-Licensed failed stop.NoMemory = Unit {0}
-Licensed failed stop.Failed = failed
-
 -- the place's fault was of this call: of the file that is read, or of the one that is written
 abbrev pub IsOf : List ℕ → List ℕ → Blame → Type 0
 IsOf from layers blame = (blame ≡ (Read, from)) ⊎ (blame ≡ (Written, layers))

@@ -1,7 +1,5 @@
 -- Where the second pass of `send` stands between its steps. This project's own.
 use Rattle.std.specs.Prelude.{◌≡◌, ◌≢◌, ◌⊎◌, ℕ, ◌<◌, ◌≤◌, List, [], ◌∷◌, ◌++◌, length, drop, Option, None, Some, slice_get, sum_by, MatchOption}
-use Rattle.pet_base.specs.declared.faults.Stop.{Stop}
-use Rattle.pet_base.specs.declared.faults.Stop.TheVariants as stop
 use Rattle.pet_base.specs.Seen.{Seen}
 use Rattle.stripe_plan.specs.Sizes.{Sizes}
 use Rattle.priority_file.specs.Priority.{Priorities}
@@ -14,8 +12,6 @@ use Rattle.stream_session.specs.Marks.{mark_of, no_mark, mark_at}
 use Rattle.stream_session.specs.Tables.{table_of}
 use Rattle.pet_tool.specs.declared.sent_group.Change.{Change}
 use Rattle.pet_tool.specs.declared.second.SecondPass.{SecondPass}
-use Rattle.pet_tool.specs.declared.second.SendStop.{SendStop}
-use Rattle.pet_tool.specs.declared.second.SendStop.TheVariants.{Memory, Place}
 use Rattle.pet_tool.specs.Packets.{group_entries}
 use Rattle.pet_tool.specs.Reading.{Puts, PutsPart}
 use Rattle.pet_tool.specs.Sending.{encoding_of, words_cost, HasSentSome, IsChange, IsNext, IsAllSent}
@@ -88,8 +84,3 @@ pub record IsFirstLost (marks : List GroupMark) (sent : ℕ) (change : Change) :
 
 abbrev pub NoneLost : List GroupMark → ℕ → Type 0
 NoneLost marks sent = (k : ℕ) → sent ≤ k → mark_at marks k ≡ no_mark
-
--- the answer of an early stop
-abbrev pub of_stop : Stop → SendStop
-of_stop stop.NoMemory = Memory
-of_stop stop.Failed = Place

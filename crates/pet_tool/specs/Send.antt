@@ -7,12 +7,12 @@ use Rattle.pet_base.specs.Causes.{Rose}
 use Rattle.pet_base.specs.Seen.{Seen, HadFault, with_file}
 use Rattle.priority_file.specs.Refusals.{priorities_of}
 use Rattle.stream_session.specs.Accepted.{session_of}
-use Rattle.stream_session.specs.Inputs.{IsRead}
+use Rattle.stream_session.specs.Inputs.{IsRead, Licensed}
 use Rattle.stream_session.specs.Marks.{marks_of}
 use Rattle.stream_session.specs.Number.{session_number}
 use Rattle.stream_session.specs.Sources.{IsSourceFault}
 use Rattle.pet_text.specs.declared.status.Status.{Status}
-use Rattle.pet_text.specs.declared.status.Status.TheVariants.{Done, NoMemory, PlaceFault, OutFault, Changed}
+use Rattle.pet_text.specs.declared.status.Status.TheVariants.{Done, NoMemory, OutFault, Changed}
 use Rattle.pet_text.specs.declared.words.Command.{Command}
 use Rattle.pet_text.specs.declared.words.Command.TheVariants.{Send}
 use Rattle.pet_text.specs.declared.words.End.TheVariants.{File}
@@ -20,6 +20,7 @@ use Rattle.pet_text.specs.PlanLines.{send_text}
 use Rattle.pet_tool.specs.declared.send.SendFault.{SendFault}
 use Rattle.pet_tool.specs.declared.send.SendFault.TheVariants as fault
 use Rattle.pet_tool.specs.declared.sent_group.Change.{Change}
+use Rattle.pet_tool.specs.Outcome.{status_of}
 use Rattle.pet_tool.specs.Packets.{datagrams_text}
 use Rattle.pet_tool.specs.Reading.{IsPrefix}
 use Rattle.pet_tool.specs.Reports.{Reports}
@@ -60,17 +61,15 @@ pub record HasChanged (old : Seen) (stream priority : List ℕ) (change : Change
 
 -- When each fault comes.
 abbrev pub IsSendFault : Seen → Seen → List ℕ → List ℕ → List ℕ → SendFault → Type 0
-IsSendFault old new stream priority to fault.NoMemory = Unit {0}
-IsSendFault old new stream priority to fault.Failed = IsOfSent stream priority to old new
+IsSendFault old new stream priority to (fault.Stopped stop) = Licensed (IsOfSent stream priority to old new) stop
 IsSendFault old new stream priority to (fault.Source refused) = IsSourceFault old new stream priority refused × (new.files ≡ old.files)
-IsSendFault old new stream priority to (fault.Changed group first second) = HasChanged old stream priority (record { group = group; first = first; second = second })
+IsSendFault old new stream priority to (fault.Changed change) = HasChanged old stream priority change
 
 -- the status of each
 abbrev pub status_of_send : SendFault → Status
-status_of_send fault.NoMemory = NoMemory
-status_of_send fault.Failed = PlaceFault
+status_of_send (fault.Stopped stop) = status_of stop
 status_of_send (fault.Source refused) = status_of_source refused
-status_of_send (fault.Changed group first second) = Changed group first second
+status_of_send (fault.Changed change) = Changed change.group change.first change.second
 
 -- What each status tells: the file TO has all packets of the session, and the line was printed, or a front of it where the
 -- output failed; any other status is that of a fault, TO has a front of the datagram file or was not made, and nothing was

@@ -4,7 +4,7 @@ use Rattle.pet_base.specs.declared.place.Side.TheVariants.{Written}
 use Rattle.pet_base.specs.Seen.{Seen, Blame, Names, HadFault, bytes_at, with_file}
 use Rattle.stream_session.specs.declared.mark.GroupMark.{GroupMark}
 use Rattle.stream_session.specs.declared.source.Source.{Source}
-use Rattle.stream_session.specs.Inputs.{IsFile, IsRead}
+use Rattle.stream_session.specs.Inputs.{IsFile, IsRead, Licensed}
 use Rattle.pet_tool.specs.declared.send.SendFault.{SendFault}
 use Rattle.pet_tool.specs.declared.send.SendFault.TheVariants as fault
 use Rattle.pet_tool.specs.Reading.{IsPrefix}
@@ -42,9 +42,8 @@ SessionLeft source marks stream to old new =
 -- When the sending stops: the least group whose mark is another in a stream that was read again, which happens only where
 -- the files are not told.
 abbrev pub SessionStops : Source → List GroupMark → List ℕ → List ℕ → Seen → Seen → SendFault → Type 0
-SessionStops source marks stream to old new fault.NoMemory = Unit {0}
-SessionStops source marks stream to old new fault.Failed = HadFault old new (IsOfReopened stream to)
-SessionStops source marks stream to old new (fault.Changed group first second) =
-    (again : List ℕ) × IsLeastChange source.priority source.tables.items marks again (record { group = group; first = first; second = second })
+SessionStops source marks stream to old new (fault.Stopped stop) = Licensed (HadFault old new (IsOfReopened stream to)) stop
+SessionStops source marks stream to old new (fault.Changed change) =
+    (again : List ℕ) × IsLeastChange source.priority source.tables.items marks again change
     × ((p b : List ℕ) → IsFirstPass p b source marks → IsFile old.files stream b → old.files ≡ None)
 SessionStops source marks stream to old new (fault.Source refused) = ⊥

@@ -12,6 +12,7 @@ use Rattle.stream_session.specs.declared.mark.GroupMark.{GroupMark}
 use Rattle.stream_session.specs.declared.source.Source.{Source}
 use Rattle.stream_session.specs.CutGroups.{CutGroup}
 use Rattle.stream_session.specs.Cutting.{HaveEnded, NoneFurther, IsCuttable, cut_groups}
+use Rattle.stream_session.specs.Inputs.{Licensed}
 use Rattle.stream_session.specs.Marks.{mark_of, no_mark, mark_at, group_marks, marks_of}
 use Rattle.stream_session.specs.Tables.{table_of, tables_of, cuts_of_stream}
 use Rattle.stream_session.specs.Number.{session_number}
@@ -20,7 +21,7 @@ use Rattle.priority_file.specs.Priority.{Priorities}
 use Rattle.priority_file.specs.Refusals.{priorities_of}
 use Rattle.pet_tool.specs.declared.sent_group.Change.{Change}
 use Rattle.pet_tool.specs.declared.second.SendStop.{SendStop}
-use Rattle.pet_tool.specs.declared.second.SendStop.TheVariants.{Memory, Place, Changed}
+use Rattle.pet_tool.specs.declared.second.SendStop.TheVariants.{Stopped, Changed}
 use Rattle.pet_tool.specs.Packets.{group_entries}
 use Rattle.pet_tool.specs.Reading.{IsPrefix, Puts, PutsPart}
 
@@ -139,10 +140,8 @@ pub record SentPart (source : Source) (marks : List GroupMark) (old new : Seen) 
 
 -- when the pass stops with each cause, and what then holds
 abbrev pub IsSendStop : Source → List GroupMark → Seen → Seen → Type 0 → SendStop → Type 0
-IsSendStop source marks old new fault Memory = SentPart source marks old new
-IsSendStop source marks old new fault Place = fault × SentPart source marks old new
-IsSendStop source marks old new fault (Changed group first second) =
-    HasChanged source marks (record { group = group; first = first; second = second }) old new
+IsSendStop source marks old new fault (Stopped stop) = Licensed fault stop × SentPart source marks old new
+IsSendStop source marks old new fault (Changed change) = HasChanged source marks change old new
 
 -- The source and the marks are those of an accepted session.
 pub record IsFirstPass (p b : List ℕ) (source : Source) (marks : List GroupMark) : Type 0 where
@@ -154,6 +153,5 @@ pub record IsFirstPass (p b : List ℕ) (source : Source) (marks : List GroupMar
 
 -- what the pass may answer where the place tells the stream of the first pass: never a change
 abbrev pub IsToldStop : List ℕ → Seen → Seen → SendStop → Type 0
-IsToldStop text old new Memory = PutsPart text old new
-IsToldStop text old new Place = PutsPart text old new
-IsToldStop text old new (Changed group first second) = ⊥
+IsToldStop text old new (Stopped stop) = PutsPart text old new
+IsToldStop text old new (Changed change) = ⊥

@@ -4,7 +4,7 @@ ghost use Rattle.pet_base.specs.declared.place.Side.TheVariants.{Written};
 ghost use Rattle.pet_base.specs.Causes.{Blames};
 ghost use Rattle.pet_base.specs.Seen.{Seen, OnlyWrites, HadFault};
 ghost use Rattle.stripe_plan.specs.Layers.{needs_of};
-ghost use Rattle.pet_tool.specs.Outcome.{Licensed};
+ghost use Rattle.stream_session.specs.Inputs.{Licensed};
 ghost use Rattle.pet_tool.specs.Packets.{packet_entry, group_entries};
 ghost use Rattle.pet_tool.specs.Reading.{Puts, PutsPart};
 

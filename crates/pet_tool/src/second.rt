@@ -1,5 +1,5 @@
 //! The second pass of `send` over a stream.
-ghost use Rattle.std.specs.Prelude.{◌≡◌, ◌⊎◌, ℕ, ◌+◌, ◌<◌, ◌≤◌, List, [], All, ◌++◌, length, true, Some, Ok, Err, OnOk, OnErr, IfOk, IfErr, IfSome, IfNone, MatchOption, MatchResult};
+ghost use Rattle.std.specs.Prelude.{◌≡◌, ◌⊎◌, ℕ, ◌+◌, ◌<◌, ◌≤◌, List, [], All, ◌++◌, length, true, Some, OnOk, OnErr, IfOk, IfErr, IfSome, IfNone, MatchOption, MatchResult};
 ghost use Rattle.std.specs.List.{sum_by};
 ghost use Rattle.pet_base.specs.declared.limits.TheConstants.{MAX_GROUPS};
 ghost use Rattle.pet_base.specs.declared.place.Side.TheVariants.{Read, Written};
@@ -11,11 +11,10 @@ ghost use Rattle.stream_session.specs.Cutting.{HaveEnded, AreAll};
 ghost use Rattle.stream_session.specs.Accepted.{session_of};
 ghost use Rattle.stream_session.specs.FilledLaws.{IsFilled};
 ghost use Rattle.stream_session.specs.FittingLaws.{IsWhole};
-ghost use Rattle.pet_tool.specs.Outcome.{Licensed};
-ghost use Rattle.pet_tool.specs.declared.second.SendStop.TheVariants.{Changed};
+ghost use Rattle.stream_session.specs.Inputs.{Licensed};
 ghost use Rattle.pet_tool.specs.Packets.{datagrams_text};
 ghost use Rattle.pet_tool.specs.Reading.{Puts, PutsPart};
-ghost use Rattle.pet_tool.specs.Second.{Knows, HasGone, Stands, Ends, IsFirstLost, NoneLost, cost_left, of_stop};
+ghost use Rattle.pet_tool.specs.Second.{Knows, HasGone, Stands, Ends, IsFirstLost, NoneLost, cost_left};
 ghost use Rattle.pet_tool.specs.Sending.{words_cost, AreFound, HasSentSome, IsPart, IsTaken, HasSent, SentPart, HasChanged, IsFirstPass, IsSendStop, IsToldStop};
 
 use crate::sent_group::{Change, first_mark, send_group};
@@ -27,12 +26,20 @@ use stream_session::{Group, GroupCutter, GroupMark, Source, portion_room, take_p
 /// Why the second pass stops.
 #[derive(Clone, Copy, Debug, PartialEq, Eq)]
 pub(crate) enum SendStop {
-    /// There was no memory.
-    Memory,
-    /// A call of the place failed.
-    Place,
-    /// The least group whose marks differ, with its mark in the first pass and in the second.
-    Changed(u32, GroupMark, GroupMark),
+    /// There was no memory, or a call of the place failed.
+    Stopped(Stop),
+    /// The least group whose marks differ.
+    Changed(Change),
+}
+
+impl From<Stop> for SendStop {
+    ghost use Rattle.pet_tool.specs.declared.second.SendStop.TheVariants.{Stopped};
+
+    ghost from_gives = { λ stop answer. answer ≡ Stopped stop };
+
+    fn from(stop: Stop) -> SendStop {
+        SendStop::Stopped(stop)
+    }
 }
 
 /// Where the second pass stands.
@@ -73,29 +80,9 @@ pub(crate) fn send_groups<P: Place, L: Ledger>(
     ensures later { (P.seen place.old).faults ≤ (P.seen place.new).faults }
     ensures cost { steps.new ≤ steps.old + sum_by words_cost source.now.tables.items }
 {
-    match send_again(alloc, place, source, marks, steps) {
-        Ok(change) => changed(change),
-        Err(stop) => Err(stopped(stop)),
-    }
-}
-
-/// The answer at the end of the pass.
-fn changed(change: Option<Change>) -> Result<(), SendStop>
-    ensures { MatchOption change (result ≡ Ok tt) (λ c. result ≡ Err (Changed c.group c.first c.second)) }
-{
-    match change {
-        Some(change) => Err(SendStop::Changed(change.group, change.first, change.second)),
+    match send_again(alloc, place, source, marks, steps)? {
+        Some(change) => Err(SendStop::Changed(change)),
         None => Ok(()),
-    }
-}
-
-/// The answer of an early stop.
-fn stopped(stop: Stop) -> SendStop
-    ensures { result ≡ of_stop stop }
-{
-    match stop {
-        Stop::NoMemory => SendStop::Memory,
-        Stop::Failed => SendStop::Place,
     }
 }
 

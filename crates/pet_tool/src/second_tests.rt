@@ -7,12 +7,13 @@ use crate::fixtures::{
     place_of,
 };
 use crate::second::{SendStop, send_groups};
+use crate::sent_group::Change;
 use pet_base::{MemoryPlace, Place, Steps};
 use std::alloc::Global;
 use std::marker::Brand;
 use std::sync::ledger::{Blank, Ledger};
 use std::test::Fail;
-use stream_session::{MarkedSource, read_marked};
+use stream_session::{GroupMark, MarkedSource, read_marked};
 
 /// The first pass.
 fn first_pass(alloc: Global, place: &mut MemoryPlace) -> Option<MarkedSource>
@@ -49,16 +50,25 @@ fn sends<L: Ledger>(
     }
 }
 
+/// The answer where the marks of this group differ.
+fn change_at(group: u32, first: GroupMark, second: GroupMark) -> Result<(), SendStop> {
+    Err(SendStop::Changed(Change {
+        group,
+        first,
+        second,
+    }))
+}
+
 #[test]
 fn sends_the_groups_before_a_change(rt: HostRuntime) -> Result<(), Fail> {
     let alloc = rt.alloc();
     let mut changed = STREAM;
     changed[10] = 0x34;
     let no_type = [0, 0, 1, 0xB3, 0, 0, 1, 0, 0, 0x28];
-    let other = Err(SendStop::Changed(0, EXAMPLE_MARK, CHANGED_MARK));
-    let refused = Err(SendStop::Changed(0, EXAMPLE_MARK, NO_MARK));
-    let fewer = Err(SendStop::Changed(1, SECOND_MARK, NO_MARK));
-    let more = Err(SendStop::Changed(2, NO_MARK, THIRD_MARK));
+    let other = change_at(0, EXAMPLE_MARK, CHANGED_MARK);
+    let refused = change_at(0, EXAMPLE_MARK, NO_MARK);
+    let fewer = change_at(1, SECOND_MARK, NO_MARK);
+    let more = change_at(2, NO_MARK, THIRD_MARK);
     // a stream, what it has become, what the pass answers, and how many bytes it puts
     let rows: [(&[u8], &[u8], Result<(), SendStop>, usize); 6] = [
         (&STREAM, &STREAM, Ok(()), 498),

@@ -13,35 +13,36 @@ ghost use Rattle.pet_tool.specs.SendParts.{IsReopened, IsLeftEmpty, IsOfReopened
 ghost use Rattle.pet_tool.specs.Sending.{words_cost};
 ghost use Rattle.pet_tool.specs.Sources.{HasSession};
 
+use crate::outcome::stop_status;
 use crate::report::{group_tables, put_text, source_status};
 use crate::second::{SendStop, send_groups};
-use pet_base::{Failed, NoMemory, Place, Sink, Steps};
+use crate::sent_group::Change;
+use pet_base::{Failed, NoMemory, Place, Sink, Steps, Stop};
 use pet_text::{Status, send_line};
 use std::alloc::Global;
 use std::sync::ledger::Ledger;
-use stream_session::{GroupMark, MarkedSource, SourceFault, read_marked};
+use stream_session::{MarkedSource, SourceFault, read_marked};
 use stripe_plan::Table;
 
 /// Why `send` stops.
 #[derive(Clone, Copy, Debug, PartialEq, Eq)]
 pub(crate) enum SendFault {
-    /// There was no memory.
-    NoMemory,
-    /// A file could not be made, read again or written.
-    Failed,
+    /// There was no memory, or a file could not be made, read again or written.
+    Stopped(Stop),
     /// There is no session.
     Source(SourceFault),
-    /// The least group whose mark was another when the stream was read again, and both marks.
-    Changed(u32, GroupMark, GroupMark),
+    /// The least group whose mark was another when the stream was read again.
+    Changed(Change),
 }
 
 impl From<NoMemory> for SendFault {
-    ghost use Rattle.pet_tool.specs.declared.send.SendFault.TheVariants.{NoMemory as no_memory};
+    ghost use Rattle.pet_base.specs.declared.faults.Stop.TheVariants.{NoMemory as no_memory};
+    ghost use Rattle.pet_tool.specs.declared.send.SendFault.TheVariants.{Stopped};
 
-    ghost from_gives = { λ _ fault. fault ≡ no_memory };
+    ghost from_gives = { λ _ fault. fault ≡ Stopped no_memory };
 
     fn from(_e: NoMemory) -> SendFault {
-        SendFault::NoMemory
+        SendFault::Stopped(Stop::NoMemory)
     }
 }
 
@@ -62,10 +63,11 @@ impl SendFault {
         ensures known { result ≢ Status.Usage }
     {
         match self {
-            SendFault::NoMemory => Status::NoMemory,
-            SendFault::Failed => Status::PlaceFault,
+            SendFault::Stopped(stop) => stop_status(*stop),
             SendFault::Source(fault) => source_status(fault),
-            SendFault::Changed(group, first, second) => Status::Changed(*group, *first, *second),
+            SendFault::Changed(change) => {
+                Status::Changed(change.group, change.first, change.second)
+            }
         }
     }
 }
@@ -188,13 +190,10 @@ fn send_session<P: Place, L: Ledger>(
     match reopen(stream, to, place) {
         Ok(()) => match send_groups(alloc, place, &marked.source, marked.marks.as_slice(), steps) {
             Ok(()) => Ok(()),
-            Err(SendStop::Memory) => Err(SendFault::NoMemory),
-            Err(SendStop::Place) => Err(SendFault::Failed),
-            Err(SendStop::Changed(group, first, second)) => {
-                Err(SendFault::Changed(group, first, second))
-            }
+            Err(SendStop::Stopped(stop)) => Err(SendFault::Stopped(stop)),
+            Err(SendStop::Changed(change)) => Err(SendFault::Changed(change)),
         },
-        Err(_) => Err(SendFault::Failed),
+        Err(_) => Err(SendFault::Stopped(Stop::Failed)),
     }
 }
 

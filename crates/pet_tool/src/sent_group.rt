@@ -8,7 +8,7 @@ ghost use Rattle.stream_session.specs.FilledLaws.{IsFilled};
 ghost use Rattle.stream_session.specs.FittingLaws.{IsWhole};
 ghost use Rattle.stream_session.specs.Marks.{mark_at};
 ghost use Rattle.stream_session.specs.Tables.{table_of, sizes_with};
-ghost use Rattle.pet_tool.specs.Outcome.{Licensed};
+ghost use Rattle.stream_session.specs.Inputs.{Licensed};
 ghost use Rattle.pet_tool.specs.Packets.{group_entries};
 ghost use Rattle.pet_tool.specs.Reading.{Puts, PutsPart};
 ghost use Rattle.pet_tool.specs.Second.{SendsGroup, SendsPart, Differs, cost_at};

@@ -10,7 +10,7 @@ use Rattle.pet_base.specs.declared.place.Side.TheVariants.{Read}
 use Rattle.pet_base.specs.Causes.{Blames}
 use Rattle.pet_base.specs.Seen.{Seen, Files, Names, OnlyReads, HadFault, bytes_at}
 use Rattle.pet_base.specs.SeenLaws.{Blames-named, HadFault-since}
-use Rattle.stream_session.specs.Inputs.{IsFrontOf, IsRead, InputFailed, HasTaken, HasTakenAll}
+use Rattle.stream_session.specs.Inputs.{IsFrontOf, IsRead, Licensed, HasTaken, HasTakenAll}
 
 prepend_none : (known : Option (List ℕ)) → known ≡ prepend_known [] known
 prepend_none None = refl
@@ -83,7 +83,7 @@ front_ok items (Err e) limit name old entered new rest found all = tt
 
 -- a fault of the reading is one at the file that was entered
 pub failed_at : (name : List ℕ) (stop : Stop) (old entered new : Seen) → Names old.files entered.source name → old.faults ≤ entered.faults
-    → InputFailed (HadFault entered new (Blames Read entered.source)) stop → InputFailed (HadFault old new (IsRead name)) stop
+    → Licensed (HadFault entered new (Blames Read entered.source)) stop → Licensed (HadFault old new (IsRead name)) stop
 failed_at name NoMemory old entered new is later failed = tt
 failed_at name Failed old entered new is later failed = HadFault-since old entered new _ _ later (λ b. Blames-named old.files entered.source name Read b is) failed
 

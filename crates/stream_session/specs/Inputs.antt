@@ -17,10 +17,10 @@ pub record IsFrontOf (limit : ℕ) (bytes : List ℕ) (files : Option Files) (na
   pub whole : length bytes ≤ limit → more ≡ []
   pub few : length bytes ≤ limit + 1
 
--- when a reading fails: want of memory at any time, and else a fault of the place
-abbrev pub InputFailed : Type 0 → Stop → Type 0
-InputFailed place NoMemory = Unit {0}
-InputFailed place Failed = place
+-- when each stop comes: want of memory at any time, the other where a call of the outside failed
+abbrev pub Licensed : Type 0 → Stop → Type 0
+Licensed failed NoMemory = Unit {0}
+Licensed failed Failed = failed
 
 -- the fault was at this file, which was read
 abbrev pub IsRead : List ℕ → Blame → Type 0

@@ -7,7 +7,7 @@ ghost use Rattle.pet_base.specs.Seen.{Seen, KeepsOutput, OnlyReads, HadFault};
 ghost use Rattle.priority_file.specs.Priority.{Priorities};
 ghost use Rattle.priority_file.specs.Refusals.{priorities_of};
 ghost use Rattle.stream_session.specs.declared.input.TheConstants.{MAX_PORTION};
-ghost use Rattle.stream_session.specs.Inputs.{IsFrontOf, IsRead, InputFailed, HasTakenAll};
+ghost use Rattle.stream_session.specs.Inputs.{IsFrontOf, IsRead, Licensed, HasTakenAll};
 ghost use Rattle.stream_session.specs.Sources.{BothFiles, IsSourceFault};
 
 use crate::input::{portion_room, read_file, take_portion};
@@ -52,7 +52,7 @@ fn read_through<P: Place, R: StreamReader>(
         × R.has_read reader priority.now file.now stream) }
     ensures others { KeepsOutput (P.seen place.old) (P.seen place.new) }
     ensures later { (P.seen place.old).faults ≤ (P.seen place.new).faults }
-    ensures cause { IfErr result (InputFailed (HadFault (P.seen place.old) (P.seen place.new) (IsRead name.now))) }
+    ensures cause { IfErr result (Licensed (HadFault (P.seen place.old) (P.seen place.new) (IsRead name.now))) }
 {
     let mut reader = R::begin(alloc, priority, file)?;
     let mut buffer = portion_room(alloc)?;
@@ -73,7 +73,7 @@ fn pass_over<P: Place, R: StreamReader>(
         × ((priority : Priorities) (file : List ℕ) → R.has_read reader.old priority file [] → R.has_read reader.new priority file stream)) }
     ensures others { OnlyReads (P.seen place.old) (P.seen place.new) }
     ensures later { (P.seen place.old).faults ≤ (P.seen place.new).faults }
-    ensures cause { IfErr result (InputFailed (HadFault (P.seen place.old) (P.seen place.new) (Blames Read (P.seen place.old).source))) }
+    ensures cause { IfErr result (Licensed (HadFault (P.seen place.old) (P.seen place.new) (Blames Read (P.seen place.old).source))) }
 {
     let mut read = 0u64;
     while read <= MAX_STREAM {

@@ -5,7 +5,7 @@ ghost use Rattle.pet_base.specs.declared.place.Side.TheVariants.{Read};
 ghost use Rattle.pet_base.specs.Causes.{Blames};
 ghost use Rattle.pet_base.specs.Seen.{Seen, KeepsOutput, OnlyReads, HasBlame, HadFault};
 ghost use Rattle.stream_session.specs.declared.input.TheConstants.{MAX_PORTION};
-ghost use Rattle.stream_session.specs.Inputs.{IsFrontOf, InputFailed, IsRead, HasTakenAll};
+ghost use Rattle.stream_session.specs.Inputs.{IsFrontOf, Licensed, IsRead, HasTakenAll};
 
 use pet_base::{Failed, Place, Stop};
 use std::alloc::{AllocError, Global};
@@ -27,7 +27,7 @@ pub fn read_file<P: Place>(
     ensures read { IfOk result (λ bytes. IsFrontOf limit bytes.items (P.seen place.old).files name.now) }
     ensures others { KeepsOutput (P.seen place.old) (P.seen place.new) }
     ensures later { (P.seen place.old).faults ≤ (P.seen place.new).faults }
-    ensures cause { IfErr result (InputFailed (HadFault (P.seen place.old) (P.seen place.new) (IsRead name.now))) }
+    ensures cause { IfErr result (Licensed (HadFault (P.seen place.old) (P.seen place.new) (IsRead name.now))) }
 {
     let mut buffer = portion_room(alloc)?;
     place.enter(name)?;
@@ -46,7 +46,7 @@ fn read_entered<P: Place>(
     ensures read { IfOk result (λ bytes. HasTakenAll limit bytes.items (P.seen place.old) (P.seen place.new)) }
     ensures others { OnlyReads (P.seen place.old) (P.seen place.new) }
     ensures later { (P.seen place.old).faults ≤ (P.seen place.new).faults }
-    ensures cause { IfErr result (InputFailed (HadFault (P.seen place.old) (P.seen place.new) (Blames Read (P.seen place.old).source))) }
+    ensures cause { IfErr result (Licensed (HadFault (P.seen place.old) (P.seen place.new) (Blames Read (P.seen place.old).source))) }
 {
     let mut bytes = Vec::new(alloc);
     while bytes.len() as u64 <= limit {

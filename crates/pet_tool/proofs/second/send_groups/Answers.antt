@@ -1,14 +1,24 @@
-use Rattle.pet_tool.proofs.SentTold.{told_ok, told_stop, changed_stop}
+use Rattle.std.proofs.lemmas.Option.{MatchOption-at_none, MatchOption-at_some}
+use Rattle.stream_session.specs.Accepted.{session_of}
+use Rattle.pet_tool.specs.Packets.{datagrams_text}
+use Rattle.pet_tool.proofs.SentTold.{told_part, told_sent, told_changed, told_stop}
 use Rattle.pet_tool.proofs.second.send_groups.Goals as goal
 
-pub returns-in-Ok-clause-told : goal.returns-in-Ok-clause-told
-returns-in-Ok-clause-told g c p b f told =
-    told_ok p b c.args.source.now c.args.marks.now (g.P.Place.seen c.args.place.now) (g.P.Place.seen c.send_again.new.place) c.in-Ok.change c.changed.result c.changed.ensures c.in-Ok.ensures.sent f told
+pub returns-in_err-change-clause-told : goal.returns-in_err-change-clause-told
+returns-in_err-change-clause-told g c p b f told =
+    let source = c.args.source.now in
+    let marks = c.args.marks.now in
+    let old = g.P.Place.seen c.args.place.now in
+    let new = g.P.Place.seen c.send_again.new.place in
+    told_stop _ (datagrams_text (session_of p b)) old new c.in_err-change.field-0.0 c.from_residual.result c.from_residual.ensures.1
+    (told_part p b source marks old new f told c.in_err-change.ensures.part)
 
-pub returns-in-Err-clause-told : goal.returns-in-Err-clause-told
-returns-in-Err-clause-told g c p b f told =
-    told_stop p b c.args.source.now c.args.marks.now (g.P.Place.seen c.args.place.now) (g.P.Place.seen c.send_again.new.place) c.in-Err.stop c.stopped.result c.stopped.ensures c.in-Err.ensures.part f told
+pub returns-in-Some-clause-told : goal.returns-in-Some-clause-told
+returns-in-Some-clause-told g c p b f told =
+    told_changed p b c.args.source.now c.args.marks.now c.in-Some.change (g.P.Place.seen c.args.place.now) (g.P.Place.seen c.send_again.new.place) f told
+    (MatchOption-at_some {o = c.in_ok-change.field-0} _ _ c.in-Some.change c.in-Some.is c.in_ok-change.ensures.sent)
 
-pub returns-in-Ok-clause-stops : goal.returns-in-Ok-clause-stops
-returns-in-Ok-clause-stops g c =
-    changed_stop c.args.source.now c.args.marks.now (g.P.Place.seen c.args.place.now) (g.P.Place.seen c.send_again.new.place) _ c.in-Ok.change c.changed.result c.changed.ensures c.in-Ok.ensures.sent
+pub returns-in-None-clause-told : goal.returns-in-None-clause-told
+returns-in-None-clause-told g c p b f told =
+    told_sent p b c.args.source.now c.args.marks.now (g.P.Place.seen c.args.place.now) (g.P.Place.seen c.send_again.new.place) f told
+    (MatchOption-at_none {o = c.in_ok-change.field-0} _ _ c.in-None.is c.in_ok-change.ensures.sent)
