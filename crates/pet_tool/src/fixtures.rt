@@ -68,7 +68,7 @@ const TAILS: [[u8; 38]; 6] = [
     ],
 ];
 
-/// The marks of the example stream, of that stream with 0x34 at offset 10, and of the second and third of the groups.
+/// The marks of the example stream, and of that stream with 0x34 at offset 10.
 pub(crate) const EXAMPLE_MARK: GroupMark = GroupMark {
     length: 44,
     digest: [0x95, 0xEC, 0x98, 0x51, 0x62, 0xB5, 0xB4, 0x18],
@@ -77,6 +77,12 @@ pub(crate) const EXAMPLE_MARK: GroupMark = GroupMark {
 pub(crate) const CHANGED_MARK: GroupMark = GroupMark {
     length: 44,
     digest: [0x5C, 0x02, 0x93, 0x2E, 0x5D, 0x5D, 0x06, 0x78],
+};
+
+/// The marks of the three groups of `GROUPS`.
+pub(crate) const FIRST_MARK: GroupMark = GroupMark {
+    length: 11,
+    digest: [0xBA, 0x9B, 0xE9, 0xCE, 0x6C, 0xD4, 0x21, 0x69],
 };
 
 pub(crate) const SECOND_MARK: GroupMark = GroupMark {

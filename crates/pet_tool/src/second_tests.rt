@@ -3,8 +3,8 @@ ghost use Rattle.std.specs.Prelude.{◌≡◌, ◌<◌, ◌≤◌, length, IfSom
 ghost use Rattle.pet_base.specs.declared.limits.TheConstants.{MAX_GROUPS};
 
 use crate::fixtures::{
-    CHANGED_MARK, EXAMPLE_MARK, GROUPS, NO_MARK, PRIORITIES, SECOND_MARK, STREAM, THIRD_MARK,
-    place_of,
+    CHANGED_MARK, EXAMPLE_MARK, FIRST_MARK, GROUPS, NO_MARK, PRIORITIES, SECOND_MARK, STREAM,
+    THIRD_MARK, place_of,
 };
 use crate::second::{SendStop, send_groups};
 use crate::sent_group::Change;
@@ -69,13 +69,23 @@ fn sends_the_groups_before_a_change(rt: HostRuntime) -> Result<(), Fail> {
     let refused = change_at(0, EXAMPLE_MARK, NO_MARK);
     let fewer = change_at(1, SECOND_MARK, NO_MARK);
     let more = change_at(2, NO_MARK, THIRD_MARK);
+    // a code of a system stream, behind the first piece of the second group and within it
+    let pack_behind = [
+        0, 0, 1, 0xB8, 1, 0, 0, 1, 0, 0, 8, 0, 0, 1, 0xB8, 2, 0, 0, 1, 0, 0, 8, 0, 0, 1, 0xBA,
+    ];
+    let pack_within = [
+        0, 0, 1, 0xB8, 1, 0, 0, 1, 0, 0, 8, 0, 0, 1, 0xB8, 2, 0, 0, 1, 0xBA,
+    ];
+    let none = change_at(0, FIRST_MARK, NO_MARK);
     // a stream, what it has become, what the pass answers, and how many bytes it puts
-    let rows: [(&[u8], &[u8], Result<(), SendStop>, usize); 6] = [
+    let rows: [(&[u8], &[u8], Result<(), SendStop>, usize); 8] = [
         (&STREAM, &STREAM, Ok(()), 498),
         (&STREAM, &changed, other, 0),
         // the stream is refused before its group has ended
         (&STREAM, &no_type, refused, 0),
         (&GROUPS[..22], &GROUPS[..11], fewer, 378),
+        (&GROUPS, &pack_behind, fewer, 378),
+        (&GROUPS, &pack_within, none, 0),
         (&GROUPS[..22], &GROUPS, more, 756),
         (&GROUPS, &GROUPS, Ok(()), 1134),
     ];
