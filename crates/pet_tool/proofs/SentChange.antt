@@ -34,14 +34,14 @@ sends_none A B (Some c) none b = absurd cc
 
 -- the next group is another
 next_at : (source : Source) (marks : List GroupMark) (stream : List ℕ) (groups : List CutGroup) (g : CutGroup) (before after : Seen) (change : Change) → AreFound source.priority stream (groups ++ g ∷ [])
-    → Differs source marks (length groups) g before after change → IsNext source.priority source.tables.items stream groups change.group change.second
+    → Differs source marks (length groups) g before after change → IsNext source.priority source.tables.items marks stream groups change.group change.second
 next_at source marks stream groups g before after change found d = record {
   next = g;
   at = d.group;
   found = found;
   marked = elim d.marked [
     | inl is ↦ inl is
-    | inr other ↦ inr (other.0, λ e. other.1 (subst (λ n. slice_get source.tables.items n ≡ Some (table_of source.priority g.cut)) d.group e))
+    | inr other ↦ inr (other.0, ap (mark_at marks) d.group ∙ other.1, λ e. other.2 (subst (λ n. slice_get source.tables.items n ≡ Some (table_of source.priority g.cut)) d.group e))
   ];
 }
 
@@ -70,7 +70,7 @@ change_longer : (source : Source) (marks : List GroupMark) (stream portion : Lis
 change_longer source marks stream portion change first now h =
     let priority = source.priority in
     let ended = ended_longer priority stream portion (h.0.least.before ++ h.1.next ∷ []) h.2 in
-    let next : IsNext priority source.tables.items (stream ++ portion) h.0.least.before change.group change.second =
+    let next : IsNext priority source.tables.items marks (stream ++ portion) h.0.least.before change.group change.second =
     record { next = h.1.next; at = h.1.at; found = inl ended; marked = h.1.marked } in (
       record {
         least = record {

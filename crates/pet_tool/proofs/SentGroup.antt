@@ -1,5 +1,5 @@
 -- The table and the message of a group of the second pass.
-use Rattle.std.proofs.Common.{◌≡◌, ℕ, zero, suc, ◌+◌, ◌*◌, ◌%◌, ◌<◌, ◌≤◌, Bool, List, [], ◌∷◌, ◌++◌, length, map, drop, replicate, min, refl, sym, ◌∙◌, ap, ap₂, arith, inl, inr}
+use Rattle.std.proofs.Common.{◌≡◌, ℕ, zero, suc, ◌+◌, ◌*◌, ◌%◌, ◌≤◌, Bool, List, [], ◌∷◌, ◌++◌, length, map, drop, replicate, min, refl, sym, ◌∙◌, ap, ap₂, arith, inl, inr}
 use Rattle.std.specs.Prelude.{◌==◌, All, get_or, slice_get, Some, None, Result, Ok, Err, IfOk}
 use Rattle.std.specs.List.{flat_map, range_with_len}
 use Rattle.std.specs.Int.{div_ceil}
@@ -92,10 +92,11 @@ header_is session groups many number table other e t = ap₂ (λ (n : ℕ) (s : 
 pub ok_same : {A E : Type 0} (x y : A) (r : Result A E) → r ≡ Ok x → r ≡ Ok y → x ≡ y
 ok_same x y r p q = cc
 
-pub there_lt : {A : Type 0} (xs : List A) (k : ℕ) (x : A) → slice_get xs k ≡ Some x → k < length xs
-there_lt [] k x e = absurd (no_some x e)
-there_lt (y ∷ ys) zero x e = omega arith
-there_lt (y ∷ ys) (suc k) x e = let lt = there_lt ys k x e in omega arith
+-- one more of the first elements of a list
+pub front_more : {A : Type 0} (xs later : List A) (x : A) → slice_get (xs ++ later) (length xs) ≡ Some x → (rest : List A) × (xs ++ later ≡ (xs ++ x ∷ []) ++ rest)
+front_more [] [] x e = absurd (no_some x e)
+front_more [] (y ∷ ys) x e = (ys, ap (λ z. z ∷ ys) (same_Some y x e))
+front_more (z ∷ xs) later x e = let more = front_more xs later x e in (more.0, ap (λ l. z ∷ l) more.1)
 
 abbrev sized : ℕ → List LayerSize → Sizes
 sized n l = record { packets = n; layers = l }

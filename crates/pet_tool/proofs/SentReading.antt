@@ -37,7 +37,7 @@ pub part_read : (source : Source) (marks : List GroupMark) (stream : List ℕ) (
 part_read source marks stream known first now rest part = record {
   stream = stream;
   read = subst (λ (o : Option (List ℕ)). IfSome o (IsPrefix stream)) (sym rest) (prefix_at stream known);
-  part = record { groups = part.groups; first_groups = inl part.first_groups; agree = part.agree; few = part.few; puts = part.puts };
+  part = record { groups = part.groups; first_groups = inl part.first_groups; agree = part.agree; tables = part.tables; puts = part.puts };
   told = subst (λ (o : Option (List ℕ)). IfSome o (λ bytes. IsFront source.priority bytes part.groups)) (sym rest) (told_at source.priority stream part.groups known part.first_groups);
 }
 
@@ -70,7 +70,7 @@ rest_more stream portion first before after rest step = rest ∙ ap (prepend_kno
 some_read : (source : Source) (marks : List GroupMark) (groups : List CutGroup) (first before after : Seen) → OnlyReads before after → HasSentSome source marks groups first before → HasSentSome source marks groups first after
 some_read source marks groups first before after reads h = record {
   agree = h.agree;
-  few = h.few;
+  tables = h.tables;
   target = reads.target ∙ h.target;
   puts = subst (λ (f : Option Files). Grows first.target (sent_text source groups) first.files f) (sym reads.files) h.puts;
 }
@@ -121,7 +121,7 @@ part_start source marks s = record {
     groups = [];
     first_groups = inl (none_ended source.priority []);
     agree = λ k lt. absurd (omega (arith, lt));
-    few = omega arith;
+    tables = (source.tables.items, refl);
     puts = part_nothing (sent_text source []) s;
   };
   told = front_none source.priority s.rest;
@@ -134,7 +134,7 @@ gone_start source marks pass s cut none = record {
   number = none;
   sent = record {
     agree = λ k lt. absurd (omega (arith, lt));
-    few = omega arith;
+    tables = (source.tables.items, refl);
     target = refl;
     puts = subst (λ (t : List ℕ). Puts t s s) (sym (text_none source)) (puts_nothing s s refl);
   };

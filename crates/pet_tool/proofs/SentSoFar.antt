@@ -1,5 +1,5 @@
 -- The groups that the second pass has sent, and one group more.
-use Rattle.std.proofs.Common.{◌≡◌, ℕ, zero, suc, ◌+◌, ◌<◌, ◌≤◌, List, [], ◌∷◌, ◌++◌, length, take, drop, get_or, Option, Some, None, refl, sym, ◌∙◌, ap, subst, arith, inl, inr, append_assoc}
+use Rattle.std.proofs.Common.{◌≡◌, ℕ, zero, suc, ◌+◌, ◌<◌, ◌≤◌, List, [], ◌∷◌, ◌++◌, length, map, take, drop, get_or, Option, Some, None, refl, sym, ◌∙◌, ap, subst, arith, inl, inr, append_assoc}
 use Rattle.std.specs.Prelude.{slice_get, sum_by, All, is_some, false}
 use Rattle.std.specs.List.{flat_map}
 use Rattle.std.proofs.lemmas.Bool.{cases_lt}
@@ -20,15 +20,17 @@ use Rattle.stream_session.specs.declared.groups.GroupCutter.{GroupCutter}
 use Rattle.stream_session.specs.FilledLaws.{IsFilled, given_filled}
 use Rattle.stream_session.specs.FittingLaws.{IsWhole, given_whole}
 use Rattle.stream_session.specs.Marks.{mark_of, no_mark, mark_at, group_marks}
+use Rattle.stream_session.specs.Tables.{table_of}
 use Rattle.pet_tool.specs.declared.sent_group.Change.{Change}
 use Rattle.pet_tool.specs.declared.second.SecondPass.{SecondPass}
 use Rattle.pet_tool.specs.Packets.{group_entries}
 use Rattle.pet_tool.specs.Reading.{Puts, PutsPart}
-use Rattle.pet_tool.specs.Sending.{encoding_of, encodings_from, sent_text, words_cost, AgreeBelow, HasSentSome, IsPart, AreFound}
+use Rattle.pet_tool.specs.Sending.{encoding_of, encodings_from, sent_text, words_cost, AgreeBelow, HaveTables, HasSentSome, IsPart, AreFound}
 use Rattle.pet_tool.specs.Second.{HasGone, Stands, Knows, cost_at, cost_left, SendsGroup, SendsPart}
 use Rattle.pet_tool.proofs.Datagrams.{part_after}
 use Rattle.pet_tool.proofs.Fronts.{puts_then}
 use Rattle.pet_tool.proofs.SentFound.{found_of_all}
+use Rattle.pet_tool.proofs.SentGroup.{front_more}
 
 -- the steps that one group may take, and those of the groups after it
 pub cost_step : (tables : List Sizes) (n : ℕ) → cost_at (slice_get tables n) + cost_left tables (suc n) ≡ cost_left tables n
@@ -93,11 +95,19 @@ agree_more marks groups g agree same k lt = elim (cases_lt k (length groups)) [
       subst (λ n. mark_at marks n ≡ mark_at (group_marks (groups ++ g ∷ [])) n) at (same ∙ sym (mark_last groups g))
 ]
 
+tables_more : (source : Source) (groups : List CutGroup) (g : CutGroup) → HaveTables source groups → slice_get source.tables.items (length groups) ≡ Some (table_of source.priority g.cut) → HaveTables source (groups ++ g ∷ [])
+tables_more source groups g h at =
+    let table : CutGroup → Sizes = λ x. table_of source.priority x.cut in
+    let first : List Sizes = map table groups in
+    let more = front_more first h.0 (table g)
+    (ap (λ ts. slice_get ts (length first)) (sym h.1) ∙ (ap (slice_get source.tables.items) (length-map groups table) ∙ at)) in
+    (more.0, h.1 ∙ (more.1 ∙ ap (λ l. l ++ more.0) (sym (map_push table groups g))))
+
 -- one group more was sent
 pub some_more : (source : Source) (marks : List GroupMark) (groups : List CutGroup) (g : CutGroup) (first before after : Seen) → HasSentSome source marks groups first before → SendsGroup source marks (length groups) g before after → after.target ≡ before.target → HasSentSome source marks (groups ++ g ∷ []) first after
 some_more source marks groups g first before after h sends target = record {
   agree = agree_more marks groups g h.agree sends.0.mark;
-  few = omega (arith, sends.0.there, length-append groups (g ∷ []));
+  tables = tables_more source groups g h.tables sends.0.table;
   target = target ∙ h.target;
   puts = subst (λ (t : List ℕ). Puts t first after) (sym (text_more source groups g)) (puts_then (sent_text source groups) (group_entries (encoding_of source (length groups) g)) first before after h.target h.puts sends.1);
 }
@@ -109,7 +119,7 @@ part_at source marks First groups g first before after h firsts sends = record {
   groups = groups ++ g ∷ [];
   first_groups = firsts;
   agree = agree_more marks groups g h.agree sends.0.mark;
-  few = omega (arith, sends.0.there, length-append groups (g ∷ []));
+  tables = tables_more source groups g h.tables sends.0.table;
   puts = subst (λ (t : List ℕ). PutsPart t first after) (sym (text_more source groups g)) (part_after (sent_text source groups) (group_entries (encoding_of source (length groups) g)) first before after h.target h.puts sends.1);
 }
 
@@ -122,7 +132,7 @@ part_some source marks First groups first now h firsts = record {
   groups = groups;
   first_groups = firsts;
   agree = h.agree;
-  few = h.few;
+  tables = h.tables;
   puts = part_whole (sent_text source groups) first now h.puts;
 }
 
@@ -199,7 +209,7 @@ left_all P priority cutter items groups each k all is =
 
 -- groups that had ended were found
 pub part_found : (source : Source) (marks : List GroupMark) (stream : List ℕ) (first now : Seen) → IsPart source marks (HaveEnded source.priority stream) first now → IsPart source marks (AreFound source.priority stream) first now
-part_found source marks stream first now h = record { groups = h.groups; first_groups = inl h.first_groups; agree = h.agree; few = h.few; puts = h.puts }
+part_found source marks stream first now h = record { groups = h.groups; first_groups = inl h.first_groups; agree = h.agree; tables = h.tables; puts = h.puts }
 
 -- and did, however the stream goes on
 pub part_longer : (source : Source) (marks : List GroupMark) (stream portion : List ℕ) (first now : Seen) → IsPart source marks (HaveEnded source.priority stream) first now → IsPart source marks (HaveEnded source.priority (stream ++ portion)) first now
@@ -207,6 +217,6 @@ part_longer source marks stream portion first now h = record {
   groups = h.groups;
   first_groups = ended_longer source.priority stream portion h.groups h.first_groups;
   agree = h.agree;
-  few = h.few;
+  tables = h.tables;
   puts = h.puts;
 }

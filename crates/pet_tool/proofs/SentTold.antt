@@ -165,7 +165,7 @@ there_seam : {A B : Type 0} (f : A → B) (xs : List A) (x : A) (ys : List A) �
 there_seam f [] x ys = refl
 there_seam f (y ∷ xs) x ys = there_seam f xs x ys
 
-same_next : (p b : List ℕ) (source : Source) (marks : List GroupMark) (before : List CutGroup) (group : ℕ) (second : GroupMark) → IsFirstPass p b source marks → IsNext source.priority source.tables.items b before group second → mark_at marks group ≡ second
+same_next : (p b : List ℕ) (source : Source) (marks : List GroupMark) (before : List CutGroup) (group : ℕ) (second : GroupMark) → IsFirstPass p b source marks → IsNext source.priority source.tables.items marks b before group second → mark_at marks group ≡ second
 same_next p b source marks before group second f n =
     let priority = source.priority in
     let front = found_front priority b (before ++ n.next ∷ []) n.found in
@@ -180,7 +180,7 @@ same_next p b source marks before group second f n =
     ∙ there_seam (λ (g : CutGroup). table_of priority g.cut) before n.next later in
     elim n.marked [
       | inl is ↦ marked ∙ sym is
-      | inr other ↦ absurd (other.1 table)
+      | inr other ↦ absurd (other.2 table)
     ]
 
 same_lost : (p b : List ℕ) (source : Source) (marks : List GroupMark) (before : List CutGroup) (group : ℕ) (second : GroupMark) → IsFirstPass p b source marks → IsLost source.priority b before group second → mark_at marks group ≡ second

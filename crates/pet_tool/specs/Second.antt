@@ -32,7 +32,7 @@ pub record HasGone (source : Source) (marks : List GroupMark) (stream : List ℕ
 -- the group at which the marks differ has ended
 abbrev pub HasMetChange : Source → List GroupMark → List ℕ → Seen → Seen → Change → Type 0
 HasMetChange source marks stream old new change =
-    (h : IsChange source marks stream change old new) × (next : IsNext source.priority source.tables.items stream h.least.before change.group change.second)
+    (h : IsChange source marks stream change old new) × (next : IsNext source.priority source.tables.items marks stream h.least.before change.group change.second)
     × HaveEnded source.priority stream (h.least.before ++ next.next ∷ [])
 
 -- so far, where all that was read was looked at, or to a change
@@ -53,10 +53,10 @@ cost_at (Some table) = words_cost table
 unfoldable pub cost_left : List Sizes → ℕ → ℕ
 cost_left tables sent = sum_by words_cost (drop sent tables)
 
--- the group under this number has the mark of the first pass, and so a table
+-- the group under this number has the mark and the table of the first pass
 pub record IsSame (source : Source) (marks : List GroupMark) (number : ℕ) (g : CutGroup) : Type 0 where
   pub mark : mark_at marks number ≡ mark_of g.bytes
-  pub there : number < length source.tables.items
+  pub table : slice_get source.tables.items number ≡ Some (table_of source.priority g.cut)
 
 -- and its packets were put
 abbrev pub SendsGroup : Source → List GroupMark → ℕ → CutGroup → Seen → Seen → Type 0
@@ -70,7 +70,7 @@ pub record Differs (source : Source) (marks : List GroupMark) (number : ℕ) (g 
   pub group : change.group ≡ number
   pub first_is : change.first ≡ mark_at marks number
   pub marked : (change.second ≡ mark_of g.bytes)
-      ⊎ ((change.second ≡ no_mark) × (slice_get source.tables.items number ≢ Some (table_of source.priority g.cut)))
+      ⊎ ((change.second ≡ no_mark) × (mark_at marks number ≡ mark_of g.bytes) × (slice_get source.tables.items number ≢ Some (table_of source.priority g.cut)))
   pub differ : change.first ≢ change.second
   pub still : new ≡ old
 

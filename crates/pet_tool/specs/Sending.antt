@@ -1,5 +1,5 @@
 -- What the second pass of `send` over a stream has sent, and at which group it found a change. This project's own.
-use Rattle.std.specs.Prelude.{◌≡◌, ◌≢◌, ◌⊎◌, ℕ, ◌+◌, ◌*◌, ◌<◌, ◌≤◌, List, [], ◌∷◌, ◌++◌, length, Some, slice_get, IfSome}
+use Rattle.std.specs.Prelude.{◌≡◌, ◌≢◌, ◌⊎◌, ℕ, ◌+◌, ◌*◌, ◌<◌, ◌≤◌, List, [], ◌∷◌, ◌++◌, length, map, Some, slice_get, IfSome}
 use Rattle.std.specs.List.{flat_map}
 use Rattle.std.specs.Io.KnownBytes.{prepend_known, IsAtEnd}
 use Rattle.pet_base.specs.declared.limits.TheConstants.{MAX_STREAM}
@@ -63,13 +63,14 @@ pub record AreAllFound (priority : Priorities) (stream : List ℕ) (groups : Lis
   pub all : IsCuttable priority stream → cut_groups priority stream ≡ groups
   pub none_further : NoneFurther priority stream groups
 
--- The group after these in the stream, as the second pass marks it: it has no mark where its table is not the first pass's.
-pub record IsNext (priority : Priorities) (tables : List Sizes) (stream : List ℕ) (before : List CutGroup) (group : ℕ) (second : GroupMark) : Type 0 where
+-- The group after these in the stream, as the second pass marks it: it has no mark where its mark is the first
+-- pass's and its table is not.
+pub record IsNext (priority : Priorities) (tables : List Sizes) (marks : List GroupMark) (stream : List ℕ) (before : List CutGroup) (group : ℕ) (second : GroupMark) : Type 0 where
   pub next : CutGroup
   pub at : group ≡ length before
   pub found : AreFound priority stream (before ++ next ∷ [])
   pub marked : (second ≡ mark_of next.bytes)
-      ⊎ ((second ≡ no_mark) × (slice_get tables group ≢ Some (table_of priority next.cut)))
+      ⊎ ((second ≡ no_mark) × (mark_at marks group ≡ mark_of next.bytes) × (slice_get tables group ≢ Some (table_of priority next.cut)))
 
 -- The group was not found: these are all that were.
 pub record IsLost (priority : Priorities) (stream : List ℕ) (before : List CutGroup) (group : ℕ) (second : GroupMark) : Type 0 where
@@ -84,13 +85,17 @@ pub record IsLeastChange (priority : Priorities) (tables : List Sizes) (marks : 
   pub found : AreFound priority stream before
   pub agree : AgreeBelow marks before change.group
   pub first_is : change.first ≡ mark_at marks change.group
-  pub second_is : IsNext priority tables stream before change.group change.second ⊎ IsLost priority stream before change.group change.second
+  pub second_is : IsNext priority tables marks stream before change.group change.second ⊎ IsLost priority stream before change.group change.second
   pub differ : change.first ≢ change.second
 
--- the groups so far: each has the mark of the first pass, and the output has grown by their packets
+-- the tables of these groups are the first of the first pass
+abbrev pub HaveTables : Source → List CutGroup → Type 0
+HaveTables source groups = (later : List Sizes) × (source.tables.items ≡ map (λ (g : CutGroup). table_of source.priority g.cut) groups ++ later)
+
+-- the groups so far: each has the mark and the table of the first pass, and the output has grown by their packets
 pub record HasSentSome (source : Source) (marks : List GroupMark) (groups : List CutGroup) (old new : Seen) : Type 0 where
   pub agree : AgreeBelow marks groups (length groups)
-  pub few : length groups ≤ length source.tables.items
+  pub tables : HaveTables source groups
   pub target : new.target ≡ old.target
   pub puts : Puts (sent_text source groups) old new
 
@@ -106,12 +111,12 @@ pub record IsAllSent (source : Source) (marks : List GroupMark) (stream : List �
   pub sent : HasSentSome source marks groups old new
   pub agree : (k : ℕ) → mark_at marks k ≡ mark_at (group_marks groups) k
 
--- the output has grown by a front of the packets of groups whose marks agree
+-- the output has grown by a front of the packets of groups whose marks and tables agree
 pub record IsPart (source : Source) (marks : List GroupMark) (AreFirstGroups : List CutGroup → Type 0) (old new : Seen) : Type 0 where
   pub groups : List CutGroup
   pub first_groups : AreFirstGroups groups
   pub agree : AgreeBelow marks groups (length groups)
-  pub few : length groups ≤ length source.tables.items
+  pub tables : HaveTables source groups
   pub puts : PutsPart (sent_text source groups) old new
 
 -- These bytes were taken from the front of the input, to its end or past the most that a stream may have.

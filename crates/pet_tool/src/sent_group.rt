@@ -37,7 +37,7 @@ pub(crate) struct Change {
 }
 
 /// Puts the packets of the group under this number, where its mark and its table are those of the first pass; else it
-/// puts nothing, and answers the change. A group with another table has no mark in the second pass.
+/// puts nothing, and answers the change. A group with that mark and another table has no mark in the second pass.
 pub(crate) fn send_group<P: Place, L: Ledger>(
     alloc: Global,
     place: &mut P,

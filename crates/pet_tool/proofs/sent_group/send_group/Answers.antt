@@ -5,7 +5,6 @@ use Rattle.stream_session.specs.CutGroups.{CutGroup}
 use Rattle.stream_session.specs.MarkLaws.{mark_found}
 use Rattle.stream_session.specs.Marks.{mark_of}
 use Rattle.stream_session.specs.Tables.{table_of}
-use Rattle.pet_tool.proofs.SentGroup.{there_lt}
 use Rattle.pet_tool.proofs.sent_group.send_group.Goals as goal
 
 not_both : true ≡ false → ⊥
@@ -19,7 +18,7 @@ returns-then-not-has_table-clause-sends g c =
     record {
       group = refl;
       first_is = c.first_mark-first.ensures;
-      marked = inr (c.none.ensures, λ e. not_both (sym (c.has_table.ensures.1 (e ∙ ap (λ (x : CutGroup). Some (table_of c.args.source.now.priority x.cut)) (sym c.group.view_is))) ∙ c.if-not-has_table.true));
+      marked = inr (c.none.ensures, sym c.first_mark-first.ensures ∙ same ∙ second, λ e. not_both (sym (c.has_table.ensures.1 (e ∙ ap (λ (x : CutGroup). Some (table_of c.args.source.now.priority x.cut)) (sym c.group.view_is))) ∙ c.if-not-has_table.true));
       differ = λ e. mark_found group.bytes c.requires.filled (sym second ∙ sym same ∙ e ∙ c.none.ensures);
       still = refl;
     }
@@ -32,7 +31,7 @@ returns-in_err-put_packets-clause-part g c =
     on_any_err c.from_residual.result (
       record {
         mark = sym c.first_mark-first.ensures ∙ same ∙ second;
-        there = there_lt c.args.source.now.tables.items c.args.number _ (c.has_table.ensures.0 c.if-not-has_table.false);
+        table = c.has_table.ensures.0 c.if-not-has_table.false ∙ ap (λ (x : CutGroup). Some (table_of c.args.source.now.priority x.cut)) c.group.view_is;
       },
       c.in_err-put_packets.ensures.part,
     )
@@ -44,7 +43,7 @@ returns-clause-sends g c =
     let second : c.of-second.result ≡ mark_of group.bytes = c.of-second.ensures ∙ ap mark_of (c.deref.ensures.value ∙ ap (λ (x : CutGroup). x.bytes) c.group.view_is) in (
       record {
         mark = sym c.first_mark-first.ensures ∙ same ∙ second;
-        there = there_lt c.args.source.now.tables.items c.args.number _ (c.has_table.ensures.0 c.if-not-has_table.false);
+        table = c.has_table.ensures.0 c.if-not-has_table.false ∙ ap (λ (x : CutGroup). Some (table_of c.args.source.now.priority x.cut)) c.group.view_is;
       },
       c.in_ok-put_packets.ensures.puts,
     )
