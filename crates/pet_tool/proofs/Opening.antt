@@ -7,8 +7,8 @@ use Rattle.pet_base.specs.declared.faults.Stop.{Stop}
 use Rattle.pet_base.specs.declared.limits.TheConstants.{MAX_DATAGRAMS}
 use Rattle.pet_base.specs.declared.place.Side.TheVariants.{Read, Written}
 use Rattle.pet_base.specs.Causes.{Blames}
-use Rattle.pet_base.specs.Seen.{Seen, Blame, HadFault}
-use Rattle.pet_base.specs.SeenLaws.{Grows-named, Blames-named, HadFault-since}
+use Rattle.pet_base.specs.Seen.{Seen, Blame}
+use Rattle.pet_base.specs.SeenLaws.{Grows-named, Blames-named}
 use Rattle.pet_base.specs.Entries.{HasRead, HasReadAll, datagrams}
 use Rattle.pet_base.specs.EntriesLaws.{HasRead-front}
 use Rattle.pet_receive.specs.Arrivals.{ReceiverState, kept_set}
@@ -75,11 +75,6 @@ reads_leaves session from layers so sn old new r = inr (r.read, r.text, r.text, 
 either_of : (from layers : List ℕ) (old opened : Seen) (b : Blame) → Opened from layers old opened → Blames Read opened.source b ⊎ Blames Written opened.target b → IsOf from layers b
 either_of from layers old opened b o (inl read) = inl (Blames-named old.files opened.source from Read b o.source read)
 either_of from layers old opened b o (inr written) = inr (Blames-named old.files opened.target layers Written b o.target written)
-
--- a fault on the files that were opened
-pub fault_of_opened : (from layers : List ℕ) (old opened new : Seen) → Opened from layers old opened → old.faults ≤ opened.faults
-    → HadFault opened new (λ b. Blames Read opened.source b ⊎ Blames Written opened.target b) → HadFault old new (IsOf from layers)
-fault_of_opened from layers old opened new o later had = HadFault-since old opened new _ _ later (λ b. either_of from layers old opened b o) had
 
 -- the numbers that are told after a reading
 pub tells_of : (session : List ℕ) (n so sn kept shown : ℕ) (complete : Bool) (old new : Seen) (r : ReceiverState ℕ) (h : HasReceived (nothing_of session) n old new r so sn)

@@ -84,11 +84,6 @@ sent_of old mid new stream priority to source marks s first same sent =
     sent s.priority_bytes s.stream_bytes first (subst (λ (o : Option Files). IsFile o stream s.stream_bytes) (sym same) s.stream_file)
     ∙ ap (option_map (with_file to (session_datagrams s.priority_bytes s.stream_bytes))) same
 
--- where all was sent, a front of it was
-pub sent_leaves : (old new : Seen) (stream priority to : List ℕ) (s : HasSession old stream priority) → HasSent s to new → LeavesSent stream priority to old new
-sent_leaves old new stream priority to s sent =
-    inr (s, session_datagrams s.priority_bytes s.stream_bytes, ([], sym (append-nil (session_datagrams s.priority_bytes s.stream_bytes))), sent)
-
 -- the change is one of the session's marks
 least_of : (p b : List ℕ) (source : Source) (marks : List GroupMark) (again : List ℕ) (change : Change) → IsFirstPass p b source marks → IsLeastChange source.priority source.tables.items marks again change
     → IsLeastChange (priorities_of p) (tables_in p b) (marks_of (priorities_of p) b) again change

@@ -104,7 +104,7 @@ pub record IsChange (source : Source) (marks : List GroupMark) (stream : List â„
   pub least : IsLeastChange source.priority source.tables.items marks stream change
   pub sent : HasSentSome source marks least.before old new
 
--- All marks agree: the output has grown by the packets of all groups of both passes.
+-- All marks agree: the output has grown by the packets of all groups that both passes found.
 pub record IsAllSent (source : Source) (marks : List GroupMark) (stream : List â„•) (old new : Seen) : Type 0 where
   pub groups : List CutGroup
   pub all : AreAllFound source.priority stream groups

@@ -17,7 +17,7 @@ use stripe_plan::datagram_length;
 
 /// Puts the packets of the encoder's group to the output, by number, each as an entry of a datagram file: its length in
 /// two bytes, then the packet. After a failure of the place, or for want of memory, a front of the entries stands there.
-/// It counts at most one step for each packet and each word.
+/// It counts at most packets times words of the group.
 pub(crate) fn put_group<P: Place, L: Ledger>(
     alloc: Global,
     place: &mut P,

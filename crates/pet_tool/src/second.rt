@@ -51,8 +51,8 @@ struct SecondPass {
 }
 
 /// Reads the stream again, which is the input, and puts the packets of its groups to the output, each group once it is
-/// whole and has the mark of the first pass. The input is read to its end, or one byte past the most that a stream may
-/// have, also after a change. It counts at most one step for each packet and each word.
+/// whole and has the mark and the table of the first pass. The input is read to its end, or one byte past the most that a
+/// stream may have, also after a change. It counts at most packets times words of each group.
 ///
 /// # Errors
 ///

@@ -78,7 +78,7 @@ fn sends_the_groups_before_a_change(rt: HostRuntime) -> Result<(), Fail> {
     ];
     let none = change_at(0, FIRST_MARK, NO_MARK);
     // a stream, what it has become, what the pass answers, and how many bytes it puts
-    let rows: [(&[u8], &[u8], Result<(), SendStop>, usize); 8] = [
+    let rows: [(&[u8], &[u8], Result<(), SendStop>, usize); 9] = [
         (&STREAM, &STREAM, Ok(()), 498),
         (&STREAM, &changed, other, 0),
         // the stream is refused before its group has ended
@@ -86,6 +86,8 @@ fn sends_the_groups_before_a_change(rt: HostRuntime) -> Result<(), Fail> {
         (&GROUPS[..22], &GROUPS[..11], fewer, 378),
         (&GROUPS, &pack_behind, fewer, 378),
         (&GROUPS, &pack_within, none, 0),
+        // the stream is refused behind all groups of the first pass
+        (&GROUPS[..11], &pack_behind, Ok(()), 378),
         (&GROUPS[..22], &GROUPS, more, 756),
         (&GROUPS, &GROUPS, Ok(()), 1134),
     ];
