@@ -67,6 +67,7 @@ impl<R: Files> Place for FilePlace<'_, R> {
         }
     }
 
+    /// Where the file tells what it still has, the bytes have left it (`bytes`).
     fn take(&mut self, into: &mut [u8]) -> Result<usize, Failed>
         requires input { (untold self.old).has_input ≡ true }
         requires room { 0 < length into.old }
@@ -75,8 +76,8 @@ impl<R: Files> Place for FilePlace<'_, R> {
             (λ _. (untold self.new).rest ≡ (untold self.old).rest) }
         ensures end { IfOk result (λ n. n ≡ 0 → IsAtEnd (untold self.old).rest) }
         ensures others { OnlyReads (untold self.old) (untold self.new) }
-        ensures cause { HasBlame (untold self.old) (untold self.new) result (Blames Read (untold self.old).source) }
-        // Where the file tells what it still has, the bytes have left it.
+        ensures cause { HasBlame (untold self.old) (untold self.new) result
+            (Blames Read (untold self.old).source) }
         ensures bytes { ReadConsumes self.old.left self.new.left result into.new }
     {
         let Some(file) = &mut self.input else {
@@ -101,17 +102,22 @@ impl<R: Files> Place for FilePlace<'_, R> {
         }
     }
 
+    /// Where the file tells what it holds, that has grown by the bytes (`whole`), or at a failure by a front of them
+    /// (`front`).
     fn put(&mut self, bytes: &[u8]) -> Result<(), Failed>
         requires { (untold self.old).has_output ≡ true }
-        ensures files { OnOk result (Grows (untold self.old).target bytes.now (untold self.old).files (untold self.new).files) }
-        ensures part { OnErr result ((k : ℕ) × Grows (untold self.old).target (take k bytes.now) (untold self.old).files (untold self.new).files) }
+        ensures files { OnOk result (Grows (untold self.old).target bytes.now
+            (untold self.old).files (untold self.new).files) }
+        ensures part { OnErr result ((k : ℕ) × Grows (untold self.old).target (take k bytes.now)
+            (untold self.old).files (untold self.new).files) }
         ensures target { (untold self.new).target ≡ (untold self.old).target }
         ensures output { (untold self.new).has_output ≡ true }
         ensures others { KeepsInput (untold self.old) (untold self.new) }
-        ensures cause { HasBlame (untold self.old) (untold self.new) result (Blames Written (untold self.old).target) }
-        // Where the file tells what it holds, that has grown by the bytes, or by a front of them at a failure.
+        ensures cause { HasBlame (untold self.old) (untold self.new) result
+            (Blames Written (untold self.old).target) }
         ensures whole { OnOk result (Appends self.old.held self.new.held bytes.now) }
-        ensures front { OnErr result ((k : ℕ) × Appends self.old.held self.new.held (take k bytes.now)) }
+        ensures front { OnErr result ((k : ℕ)
+            × Appends self.old.held self.new.held (take k bytes.now)) }
     {
         let Some(file) = &mut self.output else {
             unreachable!()

@@ -42,11 +42,12 @@ impl<W: Write> Sink for StandardOut<W> {
 
     ghost faults = { λ s. s.1 };
 
+    /// Where the writer tells what it holds, that has grown by the bytes (`whole`), or at a failure by a front of them
+    /// (`front`).
     fn put(&mut self, bytes: &[u8]) -> Result<(), Failed>
         ensures written { OnOk result (None ≡ append_known None bytes.now) }
         ensures part { OnErr result ((k : ℕ) × (None ≡ append_known None (take k bytes.now))) }
         ensures cause { HasCause self.old.1 self.new.1 result }
-        // Where the writer tells what it holds, that has grown by the bytes, or by a front of them at a failure.
         ensures whole { OnOk result (Appends self.old.0 self.new.0 bytes.now) }
         ensures front { OnErr result ((k : ℕ) × Appends self.old.0 self.new.0 (take k bytes.now)) }
     {

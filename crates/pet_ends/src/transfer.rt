@@ -27,7 +27,8 @@ pub fn read_some<R: Read>(from: &mut R, into: &mut [u8]) -> Result<usize, Failed
 /// Writes all bytes, or a front of them before a failure. A write of 0 bytes is a failure.
 pub fn write_whole<W: Write>(to: &mut W, bytes: &[u8]) -> Result<(), Failed>
     ensures ok { OnOk result (Appends (W.contents to.old) (W.contents to.new) bytes.now) }
-    ensures err { OnErr result ((k : ℕ) × Appends (W.contents to.old) (W.contents to.new) (take k bytes.now)) }
+    ensures err { OnErr result ((k : ℕ) × Appends (W.contents to.old) (W.contents to.new)
+        (take k bytes.now)) }
 {
     let mut at = 0;
     while at < bytes.len() {
