@@ -16,7 +16,7 @@ use Rattle.layer_split.specs.Groups.{groups_of, is_picture, is_group_head, begin
 use Rattle.layer_split.specs.Layers.{Cut, cut_of}
 use Rattle.layer_split.specs.Faults.{is_too_long, fault_of, fault_by}
 use Rattle.layer_split.specs.Splitting.{HasAdded, IsOneTooMany, AreOf, Holds, groups_after, cuts_of}
-use Rattle.layer_split.specs.EndedLaws.{none_begins, groups_begin, some_group, after_nil, all_groups, last_now}
+use Rattle.layer_split.specs.laws.EndedLaws.{none_begins, groups_begin, some_group, after_nil, all_groups, last_now}
 
 -- the first that is too long
 from_some : {X : Type 0} (p : X → Bool) (i k : ℕ) (xs : List X) (x : X) (ys : List X) → All (λ y. p y ≡ false) xs → p x ≡ true → length xs < k → position_from p i (take k (xs ++ x ∷ ys)) ≡ Some (i + length xs)

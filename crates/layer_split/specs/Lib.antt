@@ -5,5 +5,4 @@ pub mod Faults
 pub mod Splitting
 pub mod Bytes
 pub mod RunTable
-pub mod CutLaws
-pub mod EndedLaws
+pub mod laws

@@ -16,7 +16,8 @@ pub fn layer_bytes(
     requires layer { layer < length cut.now.lengths }
     requires inside { All (λ run. run.at + run.len ≤ length stream.now) cut.now.runs }
     requires few { length cut.now.runs < 2 ^ 32 }
-    ensures ok { OnOk result (into.new.items ≡ into.old.items ++ layers.layer_bytes stream.now cut.now.runs layer) }
+    ensures ok { OnOk result (into.new.items ≡ into.old.items
+        ++ layers.layer_bytes stream.now cut.now.runs layer) }
     ensures kept { OnErr result (into.new.items ≡ into.old.items) }
 {
     let before = into.len();
@@ -34,7 +35,8 @@ pub fn layer_bytes(
 pub fn message(stream: &[u8], cut: &GroupCut, into: &mut Vec<u8>) -> Result<(), NoMemory>
     requires inside { All (λ run. run.at + run.len ≤ length stream.now) cut.now.runs }
     requires lengths { cut.now.lengths ≡ layers.lengths_of cut.now.runs (length cut.now.lengths) }
-    ensures ok { OnOk result (into.new.items ≡ into.old.items ++ layers.message stream.now cut.now.runs (length cut.now.lengths)) }
+    ensures ok { OnOk result (into.new.items ≡ into.old.items
+        ++ layers.message stream.now cut.now.runs (length cut.now.lengths)) }
     ensures kept { OnErr result (into.new.items ≡ into.old.items) }
 {
     let before = into.len();
@@ -47,7 +49,7 @@ pub fn message(stream: &[u8], cut: &GroupCut, into: &mut Vec<u8>) -> Result<(), 
     }
 }
 
-// Appends the layers of these lengths, each in whole words.
+/// Appends the layers of these lengths, each in whole words.
 fn append_layers(
     stream: &[u8],
     runs: &[Run],
@@ -57,7 +59,8 @@ fn append_layers(
     requires inside { All (λ run. run.at + run.len ≤ length stream.now) runs.now }
     requires lengths { lengths.now ≡ layers.lengths_of runs.now (length lengths.now) }
     requires few { length lengths.now ≤ 16 }
-    ensures ok { OnOk result (into.new.items ≡ into.old.items ++ layers.message stream.now runs.now (length lengths.now)) }
+    ensures ok { OnOk result (into.new.items ≡ into.old.items
+        ++ layers.message stream.now runs.now (length lengths.now)) }
     ensures begins { Begins into.old.items into.new.items }
 {
     for layer in 0..lengths.len() {
@@ -66,7 +69,7 @@ fn append_layers(
     Ok(())
 }
 
-// Appends a layer of this length in whole words.
+/// Appends a layer of this length in whole words.
 fn append_padded(
     stream: &[u8],
     runs: &[Run],
@@ -76,7 +79,8 @@ fn append_padded(
 ) -> Result<(), NoMemory>
     requires inside { All (λ run. run.at + run.len ≤ length stream.now) runs.now }
     requires len { len ≡ layers.layer_length runs.now layer }
-    ensures ok { OnOk result (into.new.items ≡ into.old.items ++ layers.padded (layers.layer_bytes stream.now runs.now layer)) }
+    ensures ok { OnOk result (into.new.items ≡ into.old.items
+        ++ layers.padded (layers.layer_bytes stream.now runs.now layer)) }
     ensures begins { Begins into.old.items into.new.items }
 {
     append_layer(stream, runs, layer, into)?;
@@ -86,11 +90,12 @@ fn append_padded(
     Ok(())
 }
 
-// Appends a layer's bytes.
+/// Appends a layer's bytes.
 fn append_layer(stream: &[u8], runs: &[Run], layer: u8, into: &mut Vec<u8>) -> Result<(), NoMemory>
     requires inside { All (λ run. run.at + run.len ≤ length stream.now) runs.now }
     requires few { layer ≡ 0 → length runs.now < 2 ^ 32 }
-    ensures ok { OnOk result (into.new.items ≡ into.old.items ++ layers.layer_bytes stream.now runs.now layer) }
+    ensures ok { OnOk result (into.new.items ≡ into.old.items
+        ++ layers.layer_bytes stream.now runs.now layer) }
     ensures begins { Begins into.old.items into.new.items }
 {
     append_table(runs, layer, into)?;
@@ -100,7 +105,7 @@ fn append_layer(stream: &[u8], runs: &[Run], layer: u8, into: &mut Vec<u8>) -> R
     Ok(())
 }
 
-// Appends the run table, where the layer is layer 0.
+/// Appends the run table, where the layer is layer 0.
 fn append_table(runs: &[Run], layer: u8, into: &mut Vec<u8>) -> Result<(), NoMemory>
     requires few { layer ≡ 0 → length runs.now < 2 ^ 32 }
     ensures ok { OnOk result (into.new.items ≡ into.old.items ++ table_of runs.now layer) }
@@ -116,7 +121,7 @@ fn append_table(runs: &[Run], layer: u8, into: &mut Vec<u8>) -> Result<(), NoMem
     Ok(())
 }
 
-// Appends a run's entry in the run table.
+/// Appends a run's entry in the run table.
 fn append_entry(run: Run, into: &mut Vec<u8>) -> Result<(), NoMemory>
     ensures ok { OnOk result (into.new.items ≡ into.old.items ++ layers.run_entry run) }
     ensures begins { Begins into.old.items into.new.items }
@@ -126,7 +131,7 @@ fn append_entry(run: Run, into: &mut Vec<u8>) -> Result<(), NoMemory>
     Ok(())
 }
 
-// Appends a run's bytes, where it is one of the layer.
+/// Appends a run's bytes, where it is one of the layer.
 fn append_run(stream: &[u8], run: Run, layer: u8, into: &mut Vec<u8>) -> Result<(), NoMemory>
     requires { run.at + run.len ≤ length stream.now }
     ensures ok { OnOk result (into.new.items ≡ into.old.items ++ run_part stream.now layer run) }

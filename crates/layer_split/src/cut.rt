@@ -43,7 +43,7 @@ impl GroupCut {
     }
 }
 
-// Counts the places of these runs from this byte on.
+/// Counts the places of these runs from this byte on.
 fn rebase_runs(runs: &mut [Run], from: u64)
     requires { All (λ run. from ≤ run.at) runs.old }
     ensures { runs.new ≡ map (rebased from) runs.old }

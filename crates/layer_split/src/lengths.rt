@@ -25,9 +25,10 @@ pub fn lengths_of(runs: &[Run], count: usize) -> ArrayVec<u32, MAX_LAYERS>
     lengths
 }
 
-// The length of a layer, where it is not too long.
+/// The length of a layer, where it is not too long.
 fn layer_length(runs: &[Run], layer: u8) -> u64
-    ensures { layers.layer_length runs.now layer ≤ MAX_GROUP_BYTES → result ≡ layers.layer_length runs.now layer }
+    ensures { layers.layer_length runs.now layer ≤ MAX_GROUP_BYTES
+        → result ≡ layers.layer_length runs.now layer }
 {
     let mut length = table_part(runs.len(), layer);
     for run in runs {
@@ -36,7 +37,7 @@ fn layer_length(runs: &[Run], layer: u8) -> u64
     length
 }
 
-// The length with what a run adds to a layer, where that is not too long.
+/// The length with what a run adds to a layer, where that is not too long.
 fn with_part(length: u64, run: Run, layer: u8) -> u64
     ensures { let part = if run.layer == layer then run.len else 0 in length + part ≤ MAX_GROUP_BYTES → result ≡ length + part }
 {
@@ -46,7 +47,7 @@ fn with_part(length: u64, run: Run, layer: u8) -> u64
     length
 }
 
-// What the run table of so many runs adds to a layer, where that is not too long.
+/// What the run table of so many runs adds to a layer, where that is not too long.
 fn table_part(count: usize, layer: u8) -> u64
     ensures { let part = if layer == 0 then layers.run_table_size count else 0 in part ≤ MAX_GROUP_BYTES → result ≡ part }
 {

@@ -36,14 +36,14 @@ pub fn read_run_table(
     Ok(None)
 }
 
-// Whether the table is there, whole.
+/// Whether the table is there, whole.
 fn has_table(bytes: &[u8]) -> bool
     ensures { result ≡ table.has_table bytes.now }
 {
     bytes.len() >= 4 && is_whole(bytes)
 }
 
-// Whether a table of this number of runs is there.
+/// Whether a table of this number of runs is there.
 fn is_whole(bytes: &[u8]) -> bool
     requires { 4 ≤ length bytes.now }
     ensures { result ≡ nat_le (run_table_size (table.run_count bytes.now)) (length bytes.now) }
@@ -51,7 +51,7 @@ fn is_whole(bytes: &[u8]) -> bool
     4 + 5 * number_at(bytes, 0) as u64 <= bytes.len() as u64
 }
 
-// The big-endian number in the four bytes from here on.
+/// The big-endian number in the four bytes from here on.
 fn number_at(bytes: &[u8], at: usize) -> u32
     requires { at + 4 ≤ length bytes.now }
     ensures { result ≡ table.number_at bytes.now at }
@@ -59,7 +59,7 @@ fn number_at(bytes: &[u8], at: usize) -> u32
     u32::from_be_bytes([bytes[at], bytes[at + 1], bytes[at + 2], bytes[at + 3]])
 }
 
-// The runs that a whole table names.
+/// The runs that a whole table names.
 fn named_runs(alloc: Global, bytes: &[u8]) -> Result<Vec<NamedRun>, NoMemory>
     requires { table.has_table bytes.now ≡ true }
     ensures runs { IfOk result (λ runs. runs.items ≡ table.named_runs bytes.now) }
@@ -75,7 +75,7 @@ fn named_runs(alloc: Global, bytes: &[u8]) -> Result<Vec<NamedRun>, NoMemory>
     Ok(runs)
 }
 
-// Whether the runs are those of layers of these lengths, where layer 0 has so many bytes.
+/// Whether the runs are those of layers of these lengths, where layer 0 has so many bytes.
 fn are_of(len: usize, lengths: &[u32], runs: &[NamedRun]) -> bool
     requires { length runs.now < 2 ^ 32 }
     ensures { result ≡ table.are_of len lengths.now runs.now }
@@ -125,7 +125,7 @@ fn fills_others(lengths: &[u32], runs: &[NamedRun]) -> bool
     true
 }
 
-// The bytes of a layer's runs.
+/// The bytes of a layer's runs.
 fn bytes_in(layer: usize, runs: &[NamedRun]) -> u64
     requires { length runs.now < 2 ^ 32 }
     ensures { result ≡ table.bytes_in layer runs.now }
@@ -137,7 +137,7 @@ fn bytes_in(layer: usize, runs: &[NamedRun]) -> u64
     total
 }
 
-// What a run adds to a layer.
+/// What a run adds to a layer.
 fn part_of(layer: usize, run: NamedRun) -> u32
     ensures { result ≡ (if run.layer == layer then run.len else 0) }
 {

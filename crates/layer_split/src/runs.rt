@@ -10,7 +10,8 @@ use pet_base::NoMemory;
 pub fn add_run(runs: &mut Vec<Run>, run: Run) -> Result<bool, NoMemory>
     requires { run.len ≤ MAX_GROUP_BYTES }
     ensures begun { IfOk result (λ begun. begun ≡ begins_run runs.old.items run.layer) }
-    ensures ok { OnOk result (sum_by (λ run. run.len) runs.old.items ≤ MAX_GROUP_BYTES → runs.new.items ≡ with_run runs.old.items run) }
+    ensures ok { OnOk result (sum_by (λ run. run.len) runs.old.items ≤ MAX_GROUP_BYTES
+        → runs.new.items ≡ with_run runs.old.items run) }
 {
     let count = runs.len();
     if count == 0 {

@@ -26,12 +26,12 @@ use std::mem;
 pub struct Splitter {
     alloc: Global,
     layers: KindLayers,
-    // the runs of the current group; none are added once it is too long
+    /// The runs of the current group; none are added once it is too long.
     runs: Vec<Run>,
-    // the bytes of its run table and pieces, which stay where they are once it is too long
+    /// The bytes of its run table and pieces, which stay where they are once it is too long.
     size: u64,
     has_picture: bool,
-    // the number of the current group
+    /// The number of the current group.
     group: u32,
     refused: Option<SplitFault>,
 }
@@ -70,7 +70,8 @@ impl Splitter {
         ensures last { IfErr result (λ fault. fault ≢ SplitFault.NoMemory → (priority : Priorities) (pieces : List Piece) (cuts : List Cut)
             → HasAdded self.old priority pieces cuts → IsOneTooMany priority pieces piece.now) }
         ensures refused { IfErr result (λ fault. HasRefused self.new fault) }
-        ensures again { (fault : SplitFault) → HasRefused self.old fault → (result ≡ Err fault) × HasRefused self.new fault }
+        ensures again { (fault : SplitFault) → HasRefused self.old fault → (result ≡ Err fault)
+            × HasRefused self.new fault }
     {
         if let Some(fault) = self.refused {
             return Err(fault);
@@ -96,7 +97,8 @@ impl Splitter {
         ensures refusal { IfErr result (λ fault. (priority : Priorities) (pieces : List Piece) (cuts : List Cut) → HasAdded self.old priority pieces cuts
             → fault_of (layer_of priority) (length priority.layers) (groups_of pieces) ≡ Some fault) }
         ensures refused { IfErr result (λ fault. HasRefused self.new fault) }
-        ensures again { (fault : SplitFault) → HasRefused self.old fault → (result ≡ Err fault) × HasRefused self.new fault }
+        ensures again { (fault : SplitFault) → HasRefused self.old fault → (result ≡ Err fault)
+            × HasRefused self.new fault }
     {
         if let Some(fault) = self.refused {
             return Err(fault);
@@ -113,14 +115,15 @@ impl Splitter {
         }
     }
 
-    // Whether the current group has no piece.
+    /// Whether the current group has no piece.
     fn is_empty(&self) -> bool
-        ensures { (lo : Kind → ℕ) (group : List Piece) → Holds self.now lo group → (IsTrue result ↔ (group ≡ [])) }
+        ensures { (lo : Kind → ℕ) (group : List Piece) → Holds self.now lo group
+            → (IsTrue result ↔ (group ≡ [])) }
     {
         self.size <= MAX_GROUP_BYTES as u64 && self.runs.is_empty()
     }
 
-    // Adds the next piece to the current group, or ends that and begins another with it.
+    /// Adds the next piece to the current group, or ends that and begins another with it.
     fn next(&mut self, piece: &Piece) -> Result<Option<GroupCut>, SplitFault>
         ensures ok { IfOk result (λ cut. (priority : Priorities) (pieces : List Piece) (cuts : List Cut) → HasAdded self.old priority pieces cuts
             → HasAdded self.new priority (pieces ++ piece.now ∷ []) (cuts ++ cuts_in cut)) }
@@ -147,7 +150,7 @@ impl Splitter {
         Ok(None)
     }
 
-    // Ends the current group, and answers its cut.
+    /// Ends the current group, and answers its cut.
     fn end_group(&mut self) -> Result<GroupCut, SplitFault>
         ensures cut { IfOk result (λ cut. (priority : Priorities) (group : List Piece) → AreOf self.old.layers priority → Holds self.old (layer_of priority) group
             → (cut ≡ cut_of (layer_of priority) (length priority.layers) group) × (is_too_long (layer_of priority) (length priority.layers) group ≡ false)) }
@@ -165,7 +168,7 @@ impl Splitter {
         Ok(GroupCut { runs, lengths })
     }
 
-    // Takes a piece into the current group.
+    /// Takes a piece into the current group.
     fn take(&mut self, piece: &Piece) -> Result<(), SplitFault>
         ensures held { OnOk result ((priority : Priorities) (group : List Piece) → AreOf self.old.layers priority → Holds self.old (layer_of priority) group
             → Holds self.new (layer_of priority) (group ++ piece.now ∷ [])) }
@@ -197,14 +200,14 @@ impl Splitter {
     }
 }
 
-// Whether a piece of this code begins another group, where the current one has a picture or not.
+/// Whether a piece of this code begins another group, where the current one has a picture or not.
 fn begins_group(had_picture: bool, code: u8) -> bool
     ensures { result ≡ ((code == 0xB3 || code == 0xB8) && had_picture) }
 {
     (code == 0xB3 || code == 0xB8) && had_picture
 }
 
-// Whether the current group has a picture then.
+/// Whether the current group has a picture then.
 fn has_picture_with(had_picture: bool, code: u8) -> bool
     ensures { result ≡ (had_picture || code == 0) }
 {

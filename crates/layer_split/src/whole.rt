@@ -24,7 +24,8 @@ pub fn split(
     priority: &Priority,
 ) -> Result<Vec<GroupCut>, SplitFault>
     ensures cuts { IfOk result (λ cuts. cuts.items ≡ cuts_of priority.now (groups_of pieces.now)) }
-    ensures no_fault { IfOk result (λ _. fault_of (layer_of priority.now) (length priority.now.layers) (groups_of pieces.now) ≡ None) }
+    ensures no_fault { IfOk result (λ _. fault_of (layer_of priority.now)
+        (length priority.now.layers) (groups_of pieces.now) ≡ None) }
     ensures fault { IfErr result (λ fault. fault ≢ SplitFault.NoMemory
         → fault_of (layer_of priority.now) (length priority.now.layers) (groups_of pieces.now) ≡ Some fault) }
 {
@@ -42,7 +43,7 @@ pub fn split(
     Ok(cuts)
 }
 
-// Keeps a cut, where there is one.
+/// Keeps a cut, where there is one.
 fn keep(cuts: &mut Vec<GroupCut>, cut: Option<GroupCut>) -> Result<(), SplitFault>
     ensures ok { OnOk result (cuts.new.items ≡ cuts.old.items ++ cuts_in cut) }
     ensures fault { IfErr result (λ fault. fault ≡ SplitFault.NoMemory) }

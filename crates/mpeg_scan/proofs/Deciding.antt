@@ -8,8 +8,8 @@ use Rattle.mpeg_scan.specs.StartCodes.{is_type, is_head_code}
 use Rattle.mpeg_scan.specs.Refusals.{holds, decided_at, has_head, max_stream, Refuses, ComesBefore}
 use Rattle.mpeg_scan.specs.Scanning.{IsFront}
 use Rattle.mpeg_scan.specs.Moves.{Decides}
-use Rattle.mpeg_scan.proofs.Now.{AtCode, AtType, NowBy, now_by, longer, never_both, at_code_length, at_type_length, system_holds, type_holds}
-use Rattle.mpeg_scan.proofs.Front.{AllZero, ZerosOne, all_zero_no_code, all_zero_no_type, zeros_one_no_type, no_head_all_zero, no_head_one, no_head_holds_zero, no_head_holds_one}
+use Rattle.mpeg_scan.proofs.NextByte.{AtCode, AtType, NowBy, now_by, longer, never_both, at_code_length, at_type_length, system_holds, type_holds}
+use Rattle.mpeg_scan.proofs.LeadingZeros.{AllZero, ZerosOne, all_zero_no_code, all_zero_no_type, zeros_one_no_type, no_head_all_zero, no_head_one, no_head_holds_zero, no_head_holds_one}
 
 abbrev pub Undecided : List ℕ → Type 0
 Undecided s = (rest : List ℕ) (scan : Scan) → holds (s ++ rest) scan ≡ true → length s ≤ decided_at (s ++ rest) scan

@@ -12,11 +12,11 @@ use Rattle.mpeg_scan.specs.Refusals.{holds, decided_at, zeros, has_head, max_str
 use Rattle.mpeg_scan.specs.Scanning.{HasRead, IsFront, back, openers_from}
 use Rattle.mpeg_scan.specs.Moves.{DecidesAtEnd}
 use Rattle.mpeg_scan.specs.Pieces.{pieces_of, pieces_from, piece_of}
-use Rattle.mpeg_scan.specs.OpenerLaws.{Stands, stands, is_standing, stands_less, code_more, none_after}
+use Rattle.mpeg_scan.specs.laws.OpenerLaws.{HasStartCode, stands, is_standing, stands_less, code_more, none_after}
 use Rattle.mpeg_scan.proofs.Opening.{ended}
-use Rattle.mpeg_scan.proofs.Base.{at_back, back_within}
-use Rattle.mpeg_scan.proofs.Now.{AtType, at_type_length, type_stands}
-use Rattle.mpeg_scan.proofs.Front.{zeros_all, zeros_one, all_zero_back, zeros_one_back, zeros_one_last}
+use Rattle.mpeg_scan.proofs.LastBytes.{at_back, back_within}
+use Rattle.mpeg_scan.proofs.NextByte.{AtType, at_type_length, type_stands}
+use Rattle.mpeg_scan.proofs.LeadingZeros.{zeros_all, zeros_one, all_zero_back, zeros_one_back, zeros_one_last}
 use Rattle.mpeg_scan.proofs.Reading.{TypeFields, at_type, type_fields, in_piece, in_front}
 
 -- the last four bytes are a picture's start code
@@ -38,7 +38,7 @@ EndBy s Empty = length s ≡ 0
 EndBy s (NoHead q) = (q ≡ zeros s) × (0 < length s) × (has_head s ≡ false)
 EndBy s (System p) = ⊥
 EndBy s (PictureType p t) = ⊥
-EndBy s (ShortPicture p) = Stands s p × (code_at s p ≡ 0) × (length s ≤ p + 5)
+EndBy s (ShortPicture p) = HasStartCode s p × (code_at s p ≡ 0) × (length s ≤ p + 5)
 EndBy s TooLong = ⊥
 EndBy s NoMemory = ⊥
 
@@ -76,7 +76,7 @@ alone : (s : List ℕ) (scan : Scan) → UndecidedWhole s → length s ≤ max_s
 alone s scan u short h only = record { holding = h; first = λ other k. inl (only other (end_by s u short other k)) }
 
 -- before the first opener
-front_no_code : (s : List ℕ) (p : ℕ) → IsFront s → Stands s p → ⊥
+front_no_code : (s : List ℕ) (p : ℕ) → IsFront s → HasStartCode s p → ⊥
 front_no_code s p (inl z) st =
     let w = st.within in
     let o = st.one in
@@ -138,7 +138,7 @@ ends_zero c ne o other s p r =
     ]
 
 -- in a piece
-picture_at : (s : List ℕ) (p : ℕ) → Stands s p → code_at s p ≡ 0 → length s ≤ p + 5 → ((p + 4 ≡ length s) × BehindPicture s) ⊎ ((p + 5 ≡ length s) × AtType s)
+picture_at : (s : List ℕ) (p : ℕ) → HasStartCode s p → code_at s p ≡ 0 → length s ≤ p + 5 → ((p + 4 ≡ length s) × BehindPicture s) ⊎ ((p + 5 ≡ length s) × AtType s)
 picture_at s p st code le =
     let w = st.within in
     elim (cases_eq (p + 4) (length s)) [
@@ -176,7 +176,7 @@ behind c s p r h = record { fourth = sym r.back4 ∙ h.0; third = sym r.back3 �
 piece_head : (c : Scanner) (s : List ℕ) (p : List Piece) → HasRead c s p → c.opened ≡ true → has_head s ≡ true
 piece_head c s p r o = ap has_head (sym (append-nil s)) ∙ (in_piece c s p r o).head []
 
-piece_only : (c : Scanner) (s : List ℕ) (old : List Piece) → HasRead c s old → c.at ≢ 0 → c.opened ≡ true → (q : ℕ) → ((p : ℕ) → Stands s p → code_at s p ≡ 0 → length s ≤ p + 5 → p ≡ q) → (other : Scan) → EndBy s other → other ≡ ShortPicture q
+piece_only : (c : Scanner) (s : List ℕ) (old : List Piece) → HasRead c s old → c.at ≢ 0 → c.opened ≡ true → (q : ℕ) → ((p : ℕ) → HasStartCode s p → code_at s p ≡ 0 → length s ≤ p + 5 → p ≡ q) → (other : Scan) → EndBy s other → other ≡ ShortPicture q
 piece_only c s old r ne o q only Empty n = absurd (let a = r.at in omega arith)
 piece_only c s old r ne o q only (NoHead z) n = absurd (both_ways _ n.2 (piece_head c s old r o))
 piece_only c s old r ne o q only (System p) n = absurd n

@@ -13,11 +13,11 @@ use Rattle.mpeg_scan.specs.Refusals.{has_head, holds, decided_at}
 use Rattle.mpeg_scan.specs.Pieces.{openers, kind_at, piece_of, pieces_from, pieces_at, pieces_of}
 use Rattle.mpeg_scan.specs.Scanning.{HasRead, InPiece, InFront, IsFront, openers_from}
 use Rattle.mpeg_scan.specs.Moves.{Decides, Advances}
-use Rattle.mpeg_scan.specs.OpenerLaws.{stands, stands_more, code_more, apart, opener_within, kind_more}
-use Rattle.mpeg_scan.proofs.Base.{back_one, back_more}
-use Rattle.mpeg_scan.proofs.Now.{AtCode, at_code_length, code_stands, code_is, system_holds}
-use Rattle.mpeg_scan.proofs.Front.{AllZero, ZerosOne, all_zero_no_code, zeros_one_code, has_head_one, no_head_holds_zero, no_head_holds_one}
-use Rattle.mpeg_scan.proofs.Going.{push_more, OpensNow, opener_now, openers_none_now, openers_one_now, kind_head}
+use Rattle.mpeg_scan.specs.laws.OpenerLaws.{stands, stands_more, code_more, apart, opener_within, kind_more}
+use Rattle.mpeg_scan.proofs.LastBytes.{back_one, back_more}
+use Rattle.mpeg_scan.proofs.NextByte.{AtCode, at_code_length, code_stands, code_is, system_holds}
+use Rattle.mpeg_scan.proofs.LeadingZeros.{AllZero, ZerosOne, all_zero_no_code, zeros_one_code, has_head_one, no_head_holds_zero, no_head_holds_one}
+use Rattle.mpeg_scan.proofs.OneByteMore.{push_more, OpensNow, opener_now, openers_none_now, openers_one_now, kind_head}
 
 opener_code_below : (x : ℕ) → is_opener_code x ≡ true → x < 0xB9
 opener_code_below x h =

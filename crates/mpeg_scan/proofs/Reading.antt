@@ -9,8 +9,8 @@ use Rattle.mpeg_scan.specs.StartCodes.{is_type, is_head_code}
 use Rattle.mpeg_scan.specs.Refusals.{max_stream}
 use Rattle.mpeg_scan.specs.Scanning.{HasRead, InPiece, InFront, IsFront}
 use Rattle.mpeg_scan.specs.Moves.{Decides}
-use Rattle.mpeg_scan.proofs.Now.{AtCode, AtType}
-use Rattle.mpeg_scan.proofs.Front.{AllZero, all_zero_no_code, zeros_one_code}
+use Rattle.mpeg_scan.proofs.NextByte.{AtCode, AtType}
+use Rattle.mpeg_scan.proofs.LeadingZeros.{AllZero, all_zero_no_code, zeros_one_code}
 use Rattle.mpeg_scan.proofs.Deciding.{HeadKnown, decides_system, decides_no_head_zero, decides_no_head_one, decides_type, decides_none_piece, decides_none_zero, decides_none_one}
 
 abbrev pub CodeFields : Scanner → Type 0

@@ -10,7 +10,7 @@ use Rattle.mpeg_scan.specs.Refusals.{max_stream, Refuses}
 use Rattle.mpeg_scan.specs.Scanning.{HasRead, HasStopped, back, openers_from}
 use Rattle.mpeg_scan.specs.Moves.{Advances, Lacks, IsQuiet}
 use Rattle.mpeg_scan.specs.Pieces.{pieces_of, pieces_from}
-use Rattle.mpeg_scan.proofs.Base.{at_back}
+use Rattle.mpeg_scan.proofs.LastBytes.{at_back}
 use Rattle.mpeg_scan.proofs.Deciding.{decides_too_long}
 use Rattle.mpeg_scan.proofs.Reading.{CodeFields, TypeFields, none_in_piece_by, in_piece}
 use Rattle.mpeg_scan.proofs.Stepping.{plain}

@@ -2,7 +2,7 @@
 use Rattle.std.proofs.Common.{◌≡◌, ℕ, ◌+◌, ◌≤◌, List, [], ◌∷◌, length, refl, sym, subst, arith, inl, inr, ◌++◌, ◌∙◌}
 use Rattle.mpeg_scan.specs.declared.piece.Piece.{Piece}
 use Rattle.mpeg_scan.specs.Pieces.{pieces_of, StandOnEnd}
-use Rattle.mpeg_scan.specs.StandingLaws.{stand_le, pieces_stand}
+use Rattle.mpeg_scan.specs.laws.StandingLaws.{stand_le, pieces_stand}
 
 stand_front : (a b : ℕ) (xs ys : List Piece) → StandOnEnd a (xs ++ ys) b → (end : ℕ) × StandOnEnd a xs end × (end ≤ b)
 stand_front a b [] ys h = (a, refl, stand_le a b ys h)

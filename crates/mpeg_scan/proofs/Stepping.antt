@@ -10,9 +10,9 @@ use Rattle.mpeg_scan.specs.StartCodes.{is_opener_code}
 use Rattle.mpeg_scan.specs.Pieces.{kind_of_type}
 use Rattle.mpeg_scan.specs.Scanning.{HasRead, InPiece, InFront}
 use Rattle.mpeg_scan.specs.Moves.{Decides, Advances}
-use Rattle.mpeg_scan.proofs.Now.{never_both}
+use Rattle.mpeg_scan.proofs.NextByte.{never_both}
 use Rattle.mpeg_scan.proofs.Reading.{CodeFields, TypeFields, at_code, code_fields, at_type, type_fields, in_piece, in_front}
-use Rattle.mpeg_scan.proofs.Going.{OpensNow, piece_stays, same_kind, picture_kind}
+use Rattle.mpeg_scan.proofs.OneByteMore.{OpensNow, piece_stays, same_kind, picture_kind}
 use Rattle.mpeg_scan.proofs.Opening.{piece_begins, piece_follows, ended, front_stays, read_more}
 
 abbrev DecidesNone : Scanner → ℕ → Type 0

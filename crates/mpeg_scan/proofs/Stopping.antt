@@ -7,7 +7,7 @@ use Rattle.mpeg_scan.specs.declared.refusal.Scan.{Scan}
 use Rattle.mpeg_scan.specs.Refusals.{decided_at}
 use Rattle.mpeg_scan.specs.Scanning.{HasRead, HasStopped}
 use Rattle.mpeg_scan.specs.Moves.{Decides}
-use Rattle.mpeg_scan.specs.EndedLaws.{read_ended}
+use Rattle.mpeg_scan.specs.laws.EndedLaws.{read_ended}
 
 -- the byte behind what was read decides it
 pub stopped_by : (c : Scanner) (s : List ℕ) (x : ℕ) (scan : Scan) (given : List Piece) → HasRead c s given → Decides s x (Some scan) → HasStopped (s ++ x ∷ []) scan given

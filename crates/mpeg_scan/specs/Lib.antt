@@ -3,6 +3,4 @@ pub mod Refusals
 pub mod Pieces
 pub mod Scanning
 pub mod Moves
-pub mod StandingLaws
-pub mod OpenerLaws
-pub mod EndedLaws
+pub mod laws

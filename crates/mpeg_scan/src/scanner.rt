@@ -18,18 +18,21 @@ use pet_base::Kind;
 /// Cuts a stream that comes in portions into pieces.
 #[derive(Drop)]
 pub struct Scanner {
-    // how many bytes were read
+    /// How many bytes were read.
     at: u64,
-    // the last bytes, the newest first, and 255 before the stream
+    /// The last bytes, the newest first, and 255 before the stream.
     back1: u8,
     back2: u8,
     back3: u8,
     back4: u8,
     back5: u8,
-    // whether the first opener has come, and what is known of the piece of the last
+    /// Whether the first opener has come.
     opened: bool,
+    /// Where the piece of the last opener begins, and 0 before there is one.
     from: u64,
+    /// The code of that opener.
     code: u8,
+    /// The kind of that piece, so far as it is known.
     kind: Kind,
     refused: Option<Scan>,
 }
@@ -119,7 +122,7 @@ impl Scanner {
         Ok(())
     }
 
-    // Reads a run of bytes or one byte, and says how many.
+    /// Reads a run of bytes or one byte, and says how many.
     fn read_on(&mut self, ahead: &[u8], pieces: &mut Vec<Piece>) -> Result<usize, Scan>
         requires { 0 < length ahead.now }
         ensures count { IfOk result (λ n. (0 < n) × (n ≤ length ahead.now)) }
@@ -142,7 +145,7 @@ impl Scanner {
         Ok(1)
     }
 
-    // Reads one byte.
+    /// Reads one byte.
     fn step(&mut self, byte: u8, pieces: &mut Vec<Piece>) -> Result<(), Scan>
         ensures grows { HasGrown pieces.old.items pieces.new.items }
         ensures ok { OnOk result ((stream : List ℕ) (given : List Piece) → HasRead self.old stream given
@@ -190,7 +193,7 @@ impl Scanner {
         Ok(())
     }
 
-    // The open piece, to before this byte.
+    /// The open piece, to before this byte.
     fn piece_to(&self, to: u64) -> Piece
         ensures { result ≡ record { kind = self.now.kind; code = self.now.code; at = self.now.from; len = to - self.now.from } }
     {
@@ -202,7 +205,7 @@ impl Scanner {
         }
     }
 
-    // Reads one byte, and nothing else is known of the pieces.
+    /// Reads one byte, and nothing else is known of the pieces.
     fn advance(&mut self, byte: u8)
         requires { self.old.at < max_stream }
         ensures { Advances self.old self.new byte }

@@ -1,6 +1,6 @@
--- The laws of frames, as `specs/Laws.antt` states them. Crates above cite them from here.
+-- The laws of frames, as `specs/laws/Laws.antt` states them. Crates above cite them from here.
 use Rattle.std.proofs.Common.{sym, ap, ◌∙◌, arith}
-use Rattle.packet_frame.specs.Laws.{TextsAreRead, ReadsFrames, ReadsTexts, TextsTell, TextsHaveLength}
+use Rattle.packet_frame.specs.laws.Laws.{TextsAreRead, ReadsFrames, ReadsTexts, TextsTell, TextsHaveLength}
 use Rattle.packet_frame.specs.Refusals.{fields_of}
 use Rattle.packet_frame.proofs.Again.{is_read, length-text}
 use Rattle.packet_frame.proofs.Spelled.{is_frame, is_text}

@@ -2,4 +2,4 @@ pub mod Frame
 pub mod Refusals
 pub mod View
 pub mod Reading
-pub mod Laws
+pub mod laws

@@ -1,6 +1,6 @@
 -- The fields that stand in bytes, and why bytes are no frame: the first row of the table of refusals that holds.
 -- This project's own format.
-use Rattle.std.specs.Prelude.{ℕ, zero, suc, ◌+◌, ◌-◌, ◌*◌, Bool, not, ◌||◌, ◌==◌, nat_lt, List, [], ◌∷◌, ◌++◌, length, take, drop, slice_index, Option, None, Some, if◌then◌else◌}
+use Rattle.std.specs.Prelude.{ℕ, zero, suc, ◌+◌, ◌-◌, ◌*◌, Bool, not, ◌||◌, ◌==◌, nat_lt, List, [], ◌∷◌, ◌++◌, length, take, drop, slice_index, Option, None, Some, if◌then◌else◌, ◌≡◌}
 use Rattle.std.specs.List.{list_any}
 use Rattle.std.specs.Str.{bytes_eq}
 use Rattle.std.specs.Int.{Width, w16, w32, byte_len, from_be_bytes}
@@ -96,3 +96,8 @@ rows bytes f = head_rows bytes f ++ layer_rows f.packets f.layers ++ end_rows by
 -- the refusal of the bytes, or none
 unfoldable pub first_fault : List ℕ → Option FrameFault
 first_fault bytes = first_of (rows bytes (fields_of bytes))
+
+-- the bytes are accepted, and have these fields
+pub record ReadsAs (bytes : List ℕ) (f : Fields) : Type 0 where
+  pub accepted : first_fault bytes ≡ None
+  pub fields : fields_of bytes ≡ f

@@ -14,7 +14,8 @@ use stripe_plan::{Table, TableFault, datagram_length};
 
 /// Reads a frame, or answers the first refusal of its bytes. It takes no memory.
 pub fn read_frame(bytes: &[u8]) -> Result<Frame<'_>, FrameFault>
-    ensures refused { MatchResult result (λ _. first_fault bytes.now ≡ None) (λ fault. first_fault bytes.now ≡ Some fault) }
+    ensures refused { MatchResult result (λ _. first_fault bytes.now ≡ None)
+        (λ fault. first_fault bytes.now ≡ Some fault) }
     ensures fields { IfOk result (λ frame. view frame ≡ fields_of bytes.now) }
 
     // What is read is a frame, and the bytes are its text.
@@ -22,14 +23,16 @@ pub fn read_frame(bytes: &[u8]) -> Result<Frame<'_>, FrameFault>
     ensures spelled { IfOk result (λ frame. bytes.now ≡ text (view frame)) }
 
     // The text of a frame is read as that frame.
-    ensures read { (fields : Fields) → IsFrame fields → bytes.now ≡ text fields → IsOkAnd result (λ frame. view frame ≡ fields) }
+    ensures read { (fields : Fields) → IsFrame fields → bytes.now ≡ text fields
+        → IsOkAnd result (λ frame. view frame ≡ fields) }
 {
     read_fields(bytes)
 }
 
 /// The same by its exact answer alone.
 fn read_fields(bytes: &[u8]) -> Result<Frame<'_>, FrameFault>
-    ensures refused { MatchResult result (λ _. first_fault bytes.now ≡ None) (λ fault. first_fault bytes.now ≡ Some fault) }
+    ensures refused { MatchResult result (λ _. first_fault bytes.now ≡ None)
+        (λ fault. first_fault bytes.now ≡ Some fault) }
     ensures fields { IfOk result (λ frame. view frame ≡ fields_of bytes.now) }
 {
     let head = read_head(bytes)?;
@@ -118,9 +121,13 @@ fn read_table(bytes: &[u8], count: u8, packets: u16) -> Result<Table, FrameFault
     requires layers { (0 < count) × (count ≤ MAX_LAYERS) }
     requires packets { (0 < packets) × (packets ≤ MAX_PACKETS) }
     requires room { bare_length count ≤ length bytes.now }
-    ensures ok { IfOk result (λ table. first_of (layer_rows packets (fields_of bytes.now).layers) ≡ None) }
-    ensures table { IfOk result (λ table. (table.packets ≡ packets) × (table.layers ≡ (fields_of bytes.now).layers)) }
-    ensures err { IfErr result (λ fault. first_of (layer_rows packets (fields_of bytes.now).layers ++ end_rows bytes.now (fields_of bytes.now).layers) ≡ Some fault) }
+    ensures ok { IfOk result (λ table. first_of
+        (layer_rows packets (fields_of bytes.now).layers) ≡ None) }
+    ensures table { IfOk result (λ table. (table.packets ≡ packets)
+        × (table.layers ≡ (fields_of bytes.now).layers)) }
+    ensures err { IfErr result (λ fault. first_of
+        (layer_rows packets (fields_of bytes.now).layers
+        ++ end_rows bytes.now (fields_of bytes.now).layers) ≡ Some fault) }
 {
     let layers = layers_in(bytes, count);
     match Table::new(packets, &layers) {

@@ -2,8 +2,7 @@
 ghost use Rattle.std.specs.Prelude.{◌≡◌, ◌+◌, ◌-◌, ◌*◌, ◌<◌, ◌≤◌, [], ◌++◌, length, take, drop, OnOk, OnErr, vec_len, vec_capacity};
 ghost use Rattle.std.specs.List.{flat_map};
 ghost use Rattle.packet_frame.specs.Frame.{IsFrame, text, tag_of, tag_length, layer_text, head_text, text_before_tag, payload_length_of};
-ghost use Rattle.packet_frame.specs.Laws.{ReadsAs};
-ghost use Rattle.packet_frame.specs.Refusals.{head_length};
+ghost use Rattle.packet_frame.specs.Refusals.{head_length, ReadsAs};
 ghost use Rattle.packet_frame.specs.View.{fields_with};
 ghost use Rattle.stripe_plan.specs.Sizes.{datagram_length_of};
 
@@ -24,12 +23,14 @@ pub fn write_frame(
     requires group { header.now.group < header.now.groups }
     requires number { number < header.now.table.packets }
     requires payload { length payload.now ≡ payload_length_of header.now.table.layers }
-    ensures ok { OnOk result (into.new.items ≡ into.old.items ++ text (fields_with header.now number payload.now)) }
+    ensures ok { OnOk result (into.new.items ≡ into.old.items
+        ++ text (fields_with header.now number payload.now)) }
     ensures err { OnErr result (into.new.items ≡ into.old.items) }
 
     // What is written is a frame, and is read back as that frame.
     ensures ranges { IsFrame (fields_with header.now number payload.now) }
-    ensures read_back { ReadsAs (text (fields_with header.now number payload.now)) (fields_with header.now number payload.now) }
+    ensures read_back { ReadsAs (text (fields_with header.now number payload.now))
+        (fields_with header.now number payload.now) }
 {
     let layers = header.table.layers();
     into.reserve(datagram_length(&header.table) as usize)?;
@@ -44,7 +45,8 @@ pub fn write_frame(
 /// Appends all that is before the layers.
 fn append_head(header: &Header, number: u16, into: &mut Vec<u8>)
     requires room { vec_len into.old + head_length ≤ vec_capacity into.old }
-    ensures items { into.new.items ≡ into.old.items ++ head_text (fields_with header.now number []) }
+    ensures items { into.new.items ≡ into.old.items
+        ++ head_text (fields_with header.now number []) }
     ensures len { vec_len into.new ≡ vec_len into.old + head_length }
     ensures room { vec_capacity into.old ≤ vec_capacity into.new }
 {

@@ -3,12 +3,12 @@ use Rattle.std.proofs.Common.{◌≡◌, ℕ, ◌*◌, ◌<◌, List, [], ◌∷
 use Rattle.std.proofs.lemmas.List.Elements.{All-nil, All-head, All-tail, All-append}
 use Rattle.pet_field.specs.Field.{Operations, IsField, AreSpellings}
 use Rattle.pet_poly.specs.Rows.{words}
-use Rattle.pet_poly.specs.RowLaws.{length-words, words_are, spellings_of_words}
+use Rattle.pet_poly.specs.laws.RowLaws.{length-words, words_are, spellings_of_words}
 use Rattle.stripe_plan.specs.Layers.{plan_stripes}
 use Rattle.packet_frame.specs.Frame.{payload_length_of}
 use Rattle.packet_frame.specs.declared.frame.Header.{Header}
 use Rattle.pet_encode.specs.Payload.{payload_at}
-use Rattle.pet_encode.specs.PayloadLaws.{length-values, payload_of_words, stripe_count}
+use Rattle.pet_encode.specs.laws.PayloadLaws.{length-values, payload_of_words, stripe_count}
 use Rattle.pet_encode.specs.Stored.{IsStored, values_of}
 
 module _ {E : Type 0} (P : E → Type 0) (w : ℕ) (spelt : List ℕ → E) (spelling : E → List ℕ) (laws : AreSpellings P w spelt spelling) (two : w ≡ 2) where

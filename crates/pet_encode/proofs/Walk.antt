@@ -3,7 +3,7 @@ use Rattle.std.proofs.Common.{◌≡◌, ℕ, ◌+◌, ◌-◌, ◌*◌, add-one
 use Rattle.pet_field.specs.Field.{Operations}
 use Rattle.pet_poly.specs.Value.{value}
 use Rattle.pet_poly.specs.Rows.{words}
-use Rattle.pet_poly.specs.RowLaws.{words_more}
+use Rattle.pet_poly.specs.laws.RowLaws.{words_more}
 use Rattle.stripe_plan.specs.Layers.{stripes_from}
 use Rattle.stripe_plan.specs.declared.layer.LayerSize.{LayerSize}
 use Rattle.pet_encode.specs.Stored.{values_of}

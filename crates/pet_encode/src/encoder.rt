@@ -70,13 +70,18 @@ impl<'f, F: Field> Encoder<'f, F> {
         steps: &mut Steps<L>,
     ) -> Result<(), NoMemory>
         requires { number < self.now.header.table.packets }
-        ensures ok { OnOk result (into.new.items ≡ into.old.items ++ text (frame_of F.ops F.spelt F.spelling F.WIDTH F.point_of self.now number)) }
+        ensures ok { OnOk result (into.new.items
+            ≡ into.old.items ++ text (frame_of F.ops F.spelt F.spelling F.WIDTH F.point_of self.now
+            number)) }
         ensures err { OnErr result (into.new.items ≡ into.old.items) }
         ensures cost { steps.new ≤ steps.old + length (needs_of self.now.header.table.layers) }
 
         // The frame is in its ranges, and is a packet of each session that has this group.
-        ensures ranges { OnOk result (IsFrame (frame_of F.ops F.spelt F.spelling F.WIDTH F.point_of self.now number)) }
-        ensures session { (s : Session) → IsGroupOf s self.now → IsPacketOf F.ops F.spelt F.spelling F.WIDTH F.point_of s (frame_of F.ops F.spelt F.spelling F.WIDTH F.point_of self.now number) }
+        ensures ranges { OnOk result (IsFrame
+            (frame_of F.ops F.spelt F.spelling F.WIDTH F.point_of self.now number)) }
+        ensures session { (s : Session) → IsGroupOf s self.now
+            → IsPacketOf F.ops F.spelt F.spelling F.WIDTH F.point_of s
+            (frame_of F.ops F.spelt F.spelling F.WIDTH F.point_of self.now number) }
     {
         let x = self.field.point(u32::from(number));
         let alloc = *self.row.allocator();

@@ -2,12 +2,12 @@
 //!
 //! An `Encoder` keeps the header of a group and the words of its message as elements of a field. Packet `number` is the
 //! frame whose payload has, for each stripe of the table's plan in order, the value at the number's point of the
-//! polynomial that has the stripe's words as its coefficients: `specs/Payload.antt` defines it, and `specs/Session.antt`
-//! the packets of a whole session. `packet` appends exactly the text of that frame, counts at most one step for each
-//! word of the table, and leaves what it appends to as it was where it finds no memory. All of this holds over any
-//! lawful field of words of two bytes that has a point for each packet. `specs/SessionLaws.antt` says that the list of a
-//! session's packets has each of them and nothing else, and that each is a frame. `group_cost` is what a group's packets
-//! take of the bytes that a session may have.
+//! polynomial that has the stripe's words as its coefficients: `specs/Payload.antt` defines it, and
+//! `specs/Session.antt` the packets of a whole session. `packet` appends exactly the text of that frame, counts at most
+//! one step for each word of the table, and leaves what it appends to as it was where it finds no memory. All of this
+//! holds over any lawful field of words of two bytes that has a point for each packet. `specs/laws/SessionLaws.antt`
+//! says that the list of a session's packets has each of them and nothing else, and that each is a frame. `group_cost`
+//! is what a group's packets take of the bytes that a session may have.
 #![tactic(auto)]
 
 mod cost;

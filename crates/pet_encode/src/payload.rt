@@ -44,7 +44,8 @@ pub(crate) fn payload<F: Field, L: Ledger>(
     requires elements { All F.is_element row.now }
     requires whole { length row.now ≡ length (needs_of table.now.layers) }
     requires point { F.is_element x }
-    ensures values { IfOk result (λ payload. payload.items ≡ values_of F.ops F.spelling row.now x (plan_stripes table.now.layers)) }
+    ensures values { IfOk result (λ payload. payload.items
+        ≡ values_of F.ops F.spelling row.now x (plan_stripes table.now.layers)) }
     ensures cost { steps.new ≤ steps.old + length row.now }
 {
     let mut payload = Vec::with_capacity(alloc, 2 * stripes(table) as usize)?;

@@ -2,7 +2,8 @@
 ghost use Rattle.std.specs.Prelude.{◌≡◌, ◌<◌, ℕ, List};
 ghost use Rattle.std.specs.Int.{w16, to_be_bytes, from_be_bytes};
 ghost use Rattle.pet_field.specs.BinaryField.{IsBinaryField};
-ghost use Rattle.pet_field.specs.Gf16.{gf16, gf16_lawful, gf16_equal, gf16_points, gf16_spellings};
+ghost use Rattle.pet_field.specs.Gf16.{gf16};
+ghost use Rattle.pet_field.specs.laws.Gf16Laws.{gf16_lawful, gf16_equal, gf16_points, gf16_spellings};
 
 use crate::field::Field;
 use crate::residues::{invert_modulo, multiply_modulo};
@@ -24,8 +25,10 @@ impl Gf16Plain {
     /// is the point of i. An element is written in two bytes, the high one first.
     pub fn meaning(&self)
         ensures field { IsBinaryField 16 0x1100B ⟦<Gf16Plain as Field>⟧.is_element ⟦<Gf16Plain as Field>⟧.ops ⟦<Gf16Plain as Field>⟧.point_of }
-        ensures written { (a : ℕ) → a < 65536 → ⟦<Gf16Plain as Field>⟧.spelling a ≡ to_be_bytes w16 a }
-        ensures read { (bytes : List ℕ) → ⟦<Gf16Plain as Field>⟧.spelt bytes ≡ from_be_bytes w16 bytes }
+        ensures written { (a : ℕ) → a < 65536
+            → ⟦<Gf16Plain as Field>⟧.spelling a ≡ to_be_bytes w16 a }
+        ensures read { (bytes : List ℕ) → ⟦<Gf16Plain as Field>⟧.spelt bytes
+            ≡ from_be_bytes w16 bytes }
         ensures width { ⟦<Gf16Plain as Field>⟧.WIDTH ≡ 2 }
         ensures count { ⟦<Gf16Plain as Field>⟧.COUNT ≡ 65536 }
     {}

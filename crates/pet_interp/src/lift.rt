@@ -28,13 +28,21 @@ pub(crate) fn advance<F: Field, L: Ledger>(
     requires products { All F.is_element product.old }
     requires point { F.is_element x }
     requires width { length values.now ≡ length ends.now * F.WIDTH }
-    requires weight { met < length product.old → value_monic F.ops (take met product.old) x ≢ F.ops.nought }
+    requires weight { met < length product.old
+        → value_monic F.ops (take met product.old) x ≢ F.ops.nought }
     ensures elements { All F.is_element places.new }
     ensures products { All F.is_element product.new }
-    ensures lifted { met < length product.old → IsLifted F.is_element F.ops (take met product.old) x (words F.spelt F.WIDTH (length ends.now) values.now) (pieces 0 ends.now places.old) (pieces 0 ends.now places.new) }
-    ensures product { met < length product.old → product.new ≡ linear_product F.ops x (take met product.old) ++ drop (met + 1) product.old }
-    ensures same { length product.old ≤ met → (places.new ≡ places.old) × (product.new ≡ product.old) }
-    ensures cost { steps.new ≤ steps.old + step_bound met (map length (pieces 0 ends.now places.old)) }
+    ensures lifted { met < length product.old
+        → IsLifted F.is_element F.ops (take met product.old) x
+        (words F.spelt F.WIDTH (length ends.now) values.now) (pieces 0 ends.now places.old)
+        (pieces 0 ends.now places.new) }
+    ensures product { met < length product.old
+        → product.new ≡ linear_product F.ops x (take met product.old)
+        ++ drop (met + 1) product.old }
+    ensures same { length product.old ≤ met → (places.new ≡ places.old)
+        × (product.new ≡ product.old) }
+    ensures cost { steps.new ≤ steps.old + step_bound met
+        (map length (pieces 0 ends.now places.old)) }
 {
     if met < product.len() {
         let weight = eval_monic(f, &product[..met], x, steps);
@@ -61,9 +69,12 @@ fn lift_all<F: Field, L: Ledger>(
     requires point { F.is_element x }
     requires inverse { F.is_element inverse }
     requires width { length values.now ≡ length ends.now * F.WIDTH }
-    ensures places { pieces 0 ends.now places.new ≡ lifted_all F.ops product.now x inverse (pieces 0 ends.now places.old) (words F.spelt F.WIDTH (length ends.now) values.now) }
+    ensures places { pieces 0 ends.now places.new
+        ≡ lifted_all F.ops product.now x inverse (pieces 0 ends.now places.old)
+        (words F.spelt F.WIDTH (length ends.now) values.now) }
     ensures elements { All F.is_element places.new }
-    ensures cost { steps.new ≤ steps.old + longer_than (length product.now) (map length (pieces 0 ends.now places.old)) * (2 * length product.now + 1) }
+    ensures cost { steps.new ≤ steps.old + longer_than (length product.now)
+        (map length (pieces 0 ends.now places.old)) * (2 * length product.now + 1) }
 {
     let mut start = 0;
     let mut at = 0;
@@ -93,7 +104,8 @@ fn lift<F: Field, L: Ledger>(
     requires value { F.is_element y }
     ensures places { places.new ≡ lifted F.ops product.now x inverse places.old y }
     ensures elements { All F.is_element places.new }
-    ensures cost { steps.new ≤ steps.old + cond (nat_lt (length product.now) (length places.old)) 1 0 * (2 * length product.now + 1) }
+    ensures cost { steps.new ≤ steps.old + cond (nat_lt (length product.now) (length places.old)) 1
+        0 * (2 * length product.now + 1) }
 {
     let met = product.len();
     if met < places.len() {

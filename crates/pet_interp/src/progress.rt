@@ -66,11 +66,15 @@ impl<'f, F: Field> Progress<'f, F> {
     /// stand for some list of fewer than 65,536 points, none of them at `x`. It takes no memory, and counts at most
     /// (q + 1)(2r + 1) steps after r points, where q stripes are longer than r.
     pub fn add<L: Ledger>(&mut self, x: F::Elem, values: &[u8], steps: &mut Steps<L>)
-        requires stands { (points : List (F.Elem × List F.Elem)) × (StandsFor F.is_element F.ops self.old points × All (λ p. x ≢ p.0) points) }
+        requires stands { (points : List (F.Elem × List F.Elem))
+            × (StandsFor F.is_element F.ops self.old points × All (λ p. x ≢ p.0) points) }
         requires point { F.is_element x }
         requires few { self.old.met < 65536 }
         requires width { length values.now ≡ length self.old.stripes * F.WIDTH }
-        ensures stands { (points : List (F.Elem × List F.Elem)) → StandsFor F.is_element F.ops self.old points → All (λ p. x ≢ p.0) points → StandsFor F.is_element F.ops self.new (points ++ ((x, words F.spelt F.WIDTH (length self.old.stripes) values.now) ∷ [])) }
+        ensures stands { (points : List (F.Elem × List F.Elem))
+            → StandsFor F.is_element F.ops self.old points → All (λ p. x ≢ p.0) points
+            → StandsFor F.is_element F.ops self.new
+            (points ++ ((x, words F.spelt F.WIDTH (length self.old.stripes) values.now) ∷ [])) }
         ensures met { self.new.met ≡ self.old.met + 1 }
         ensures lengths { lengths_of self.new ≡ lengths_of self.old }
         ensures cost { steps.new ≤ steps.old + step_bound self.old.met (lengths_of self.old) }
@@ -102,8 +106,14 @@ impl<'f, F: Field> Progress<'f, F> {
         requires stripe { stripe < length self.now.stripes }
         requires enough { length (stripe_of self.now stripe) ≤ self.now.met }
         ensures value { result.now ≡ stripe_of self.now stripe }
-        ensures only { (points : List (F.Elem × List F.Elem)) → StandsFor F.is_element F.ops self.now points → IsOnlyThrough F.is_element F.ops (column F.ops stripe (take (length result.now) points)) result.now }
-        ensures common { (points : List (F.Elem × List F.Elem)) (common : List F.Elem) → StandsFor F.is_element F.ops self.now points → length common ≡ length result.now → All F.is_element common → GoesThrough F.ops common (column F.ops stripe points) → result.now ≡ common }
+        ensures only { (points : List (F.Elem × List F.Elem))
+            → StandsFor F.is_element F.ops self.now points
+            → IsOnlyThrough F.is_element F.ops
+            (column F.ops stripe (take (length result.now) points)) result.now }
+        ensures common { (points : List (F.Elem × List F.Elem)) (common : List F.Elem)
+            → StandsFor F.is_element F.ops self.now points → length common ≡ length result.now
+            → All F.is_element common → GoesThrough F.ops common (column F.ops stripe points)
+            → result.now ≡ common }
     {
         let start = start_of(&self.ends, stripe);
         let end = self.ends[stripe];

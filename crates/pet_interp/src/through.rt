@@ -49,7 +49,8 @@ fn next_coefficient<F: Field, L: Ledger>(
     requires value { F.is_element y }
     requires other { All (λ p. x ≢ p.0) points.now }
     ensures element { F.is_element result }
-    ensures fits { F.ops.plus (nested F.ops (firsts points.now) form.now x) (F.ops.times result (gap F.ops (firsts points.now) x)) ≡ y }
+    ensures fits { F.ops.plus (nested F.ops (firsts points.now) form.now x)
+        (F.ops.times result (gap F.ops (firsts points.now) x)) ≡ y }
 {
     let mut value = f.zero();
     let mut weight = f.one();

@@ -19,7 +19,8 @@ pub fn times_linear<F: Field, L: Ledger>(
     requires room { degree < length low.old }
     requires elements { All F.is_element (take degree low.old) }
     requires point { F.is_element x }
-    ensures places { low.new ≡ linear_product F.ops x (take degree low.old) ++ drop (degree + 1) low.old }
+    ensures places { low.new ≡ linear_product F.ops x (take degree low.old)
+        ++ drop (degree + 1) low.old }
     ensures elements { All F.is_element (take (degree + 1) low.new) }
     // at every y the value is that of before times y - x
     ensures value { (y : F.Elem) → F.is_element y →

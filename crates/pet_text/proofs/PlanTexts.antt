@@ -6,7 +6,8 @@ use Rattle.stripe_plan.specs.Layers.{needs_of, plan_ends, bound_of}
 use Rattle.stripe_plan.specs.Sizes.{Sizes, datagram_length_of}
 use Rattle.priority_file.specs.Priority.{Rule, Priorities}
 use Rattle.pet_text.specs.PlanLines.{plan_session_text, plan_group_text, plan_lengths, lengths_text}
-use Rattle.pet_text.specs.LayerLines.{layer_lines, group_lines, groups_from, AreTablesOf, plan_text_is}
+use Rattle.pet_text.specs.LayerLines.{layer_lines, group_lines, groups_from, AreTablesOf}
+use Rattle.pet_text.specs.laws.LayerLineLaws.{plan_text_is}
 use Rattle.pet_text.specs.PlanText.{plan_text}
 
 pub ok_then : {A E P Q : Type 0} (r : Result A E) → (P → Q) → OnOk r P → OnOk r Q

@@ -1,14 +1,10 @@
--- The text of a plan by the numbers of its layers, as a loop prints it (this project's own), and that it is the plan's text.
-use Rattle.std.proofs.Common.{◌≡◌, ℕ, zero, suc, ◌+◌, ◌<◌, ◌≤◌, List, [], ◌∷◌, ◌++◌, length, get_or, drop, All, refl, sym, ap, ◌∙◌, arith, append_assoc, append-nil, drop-cons}
-use Rattle.std.specs.Prelude.{slice_index_or}
-use Rattle.std.proofs.lemmas.List.{drop_all}
-use Rattle.std.proofs.lemmas.List.Elements.{All-head, All-tail}
+-- The text of a plan by the numbers of its layers, as a loop prints it (this project's own).
+use Rattle.std.specs.Prelude.{◌≡◌, ℕ, zero, suc, ◌+◌, List, [], ◌∷◌, ◌++◌, length, All, slice_index_or}
 use Rattle.priority_file.specs.Priority.{Rule, Priorities}
 use Rattle.stripe_plan.specs.declared.layer.LayerSize.{LayerSize}
 use Rattle.stripe_plan.specs.Layers.{needs_of, plan_ends, bound_of, count_of}
 use Rattle.stripe_plan.specs.Sizes.{Sizes, datagram_length_of}
-use Rattle.pet_text.specs.PlanLines.{plan_session_text, plan_group_text, plan_layer_text, lengths_text, plan_lengths}
-use Rattle.pet_text.specs.PlanText.{layers_text, group_text, groups_text, plan_text}
+use Rattle.pet_text.specs.PlanLines.{plan_group_text, plan_layer_text, lengths_text, plan_lengths}
 
 -- what a read past the last layer gives
 abbrev pub no_rule : Rule
@@ -26,32 +22,6 @@ abbrev pub layer_lines : List Rule → List LayerSize → ℕ → List ℕ
 layer_lines rules layers zero = []
 layer_lines rules layers (suc count) = layer_lines rules layers count ++ layer_line rules layers count
 
-no_layers : (layer : ℕ) (rules : List Rule) (all : List LayerSize) → layers_text layer rules [] all ≡ []
-no_layers layer [] all = refl
-no_layers layer (rule ∷ rules) all = refl
-
-lines_more : (rules : List Rule) (layers : List LayerSize) (layer : ℕ) → layer < length layers → layer < length rules → layers_text layer (drop layer rules) (drop layer layers) layers ≡ layer_line rules layers layer ++ layers_text (suc layer) (drop (suc layer) rules) (drop (suc layer) layers) layers
-lines_more rules layers layer inside known =
-    let next : layer + 1 ≡ suc layer = omega arith in
-    ap (λ rs. layers_text layer rs (drop layer layers) layers) (drop-cons rules layer no_rule known)
-    ∙ ap (λ ls. layers_text layer (get_or rules layer no_rule ∷ drop (suc layer) rules) ls layers) (drop-cons layers layer no_size inside)
-    ∙ ap (λ n. layer_line rules layers layer ++ layers_text n (drop (suc layer) rules) (drop (suc layer) layers) layers) next
-
-lines_front : (rules : List Rule) (layers : List LayerSize) (count : ℕ) → count ≤ length layers → length layers ≤ length rules → layer_lines rules layers count ++ layers_text count (drop count rules) (drop count layers) layers ≡ layers_text 0 rules layers layers
-lines_front rules layers zero inside known = refl
-lines_front rules layers (suc count) inside known =
-    append_assoc (layer_lines rules layers count) (layer_line rules layers count) (layers_text (suc count) (drop (suc count) rules) (drop (suc count) layers) layers)
-    ∙ ap (λ t. layer_lines rules layers count ++ t) (sym (lines_more rules layers count (omega arith) (omega arith)))
-    ∙ lines_front rules layers count (omega arith) known
-
--- for callers: the lines of all layers are their text
-pub lines_are : (rules : List Rule) (layers : List LayerSize) → length layers ≤ length rules → layer_lines rules layers (length layers) ≡ layers_text 0 rules layers layers
-lines_are rules layers known =
-    let count : ℕ = length layers in
-    sym (append-nil (layer_lines rules layers count))
-    ∙ ap (λ t. layer_lines rules layers count ++ t) (sym (no_layers count (drop count rules) layers) ∙ ap (λ ls. layers_text count (drop count rules) ls layers) (sym (drop_all count layers (omega arith))))
-    ∙ lines_front rules layers count (omega arith) known
-
 -- a group, with a line for each layer and that of the stripe lengths
 unfoldable pub group_lines : List Rule → ℕ → List LayerSize → List ℕ
 group_lines rules group layers =
@@ -63,24 +33,6 @@ abbrev pub groups_from : List Rule → ℕ → List Sizes → List ℕ
 groups_from rules group [] = []
 groups_from rules group (table ∷ tables) = group_lines rules group table.layers ++ groups_from rules (group + 1) tables
 
-group_is : (rules : List Rule) (group : ℕ) (layers : List LayerSize) → length layers ≡ length rules → group_lines rules group layers ≡ group_text group rules layers
-unfolding group_lines
-group_is rules group layers same =
-    ap (λ t. plan_group_text group (length (needs_of layers)) (length (plan_ends layers)) (bound_of layers) (datagram_length_of layers) ++ t ++ lengths_text (plan_lengths layers))
-    (lines_are rules layers (omega arith))
-
-groups_are : (rules : List Rule) (group : ℕ) (tables : List Sizes) → All (λ table. length table.layers ≡ length rules) tables → groups_from rules group tables ≡ groups_text group rules tables
-groups_are rules group [] same = refl
-groups_are rules group (table ∷ tables) same =
-    ap (λ t. t ++ groups_from rules (group + 1) tables) (group_is rules group table.layers (All-head (λ (t : Sizes). length t.layers ≡ length rules) table tables same))
-    ∙ ap (λ t. group_text group rules table.layers ++ t) (groups_are rules (group + 1) tables (All-tail (λ (t : Sizes). length t.layers ≡ length rules) table tables same))
-
 -- each table has a size for every layer of the priority
 abbrev pub AreTablesOf : Priorities → List Sizes → Type 0
 AreTablesOf priority tables = All (λ table. length table.layers ≡ length priority.layers) tables
-
--- for callers: a session and its groups, by the numbers of their layers, are the text of the plan
-pub plan_text_is : (session : List ℕ) (priority : Priorities) (tables : List Sizes) → AreTablesOf priority tables → plan_session_text session (length tables) priority.packets ++ groups_from priority.layers 0 tables ≡ plan_text session priority tables
-unfolding plan_text
-plan_text_is session priority tables same =
-    ap (λ t. plan_session_text session (length tables) priority.packets ++ t) (groups_are priority.layers 0 tables same)

@@ -4,13 +4,5 @@ pub mod Lines
 pub mod PlanLines
 pub mod PlanFile
 pub mod PlanText
-pub mod NumberLaws
-pub mod RowLaws
-pub mod ReadingLaws
-pub mod TableLaws
-pub mod PlanFileLaws
-pub mod RowCountLaws
-pub mod PlanRowLaws
-pub mod PlanLengthLaws
 pub mod LayerLines
-pub mod WordLaws
+pub mod laws

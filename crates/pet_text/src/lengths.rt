@@ -19,7 +19,8 @@ struct Row {
 /// Appends the lengths line of the table's plan: the word `lengths` and, for each maximal row of equal adjacent stripe
 /// lengths, the length in words and how often it stands. After a refusal `into` is as before.
 pub fn lengths_line(alloc: Global, table: &Table, into: &mut Vec<u8>) -> Result<(), NoMemory>
-    ensures ok { OnOk result (into.new.items ≡ into.old.items ++ lengths_text (plan_lengths table.now.layers)) }
+    ensures ok { OnOk result (into.new.items ≡ into.old.items
+        ++ lengths_text (plan_lengths table.now.layers)) }
     ensures err { OnErr result (into.new.items ≡ into.old.items) }
 {
     let before = into.len();
@@ -32,7 +33,8 @@ pub fn lengths_line(alloc: Global, table: &Table, into: &mut Vec<u8>) -> Result<
 
 /// Appends the line, of which a front may stand after a refusal.
 fn append_line(alloc: Global, table: &Table, into: &mut Vec<u8>) -> Result<(), NoMemory>
-    ensures ok { OnOk result (into.new.items ≡ into.old.items ++ lengths_text (plan_lengths table.now.layers)) }
+    ensures ok { OnOk result (into.new.items ≡ into.old.items
+        ++ lengths_text (plan_lengths table.now.layers)) }
     ensures err { OnErr result (take (length into.old.items) into.new.items ≡ into.old.items) }
 {
     let words = table.words();
@@ -60,7 +62,8 @@ fn append_row(alloc: Global, row: Row, into: &mut Vec<u8>) -> Result<(), NoMemor
 /// The row from the word `at` on, where a stripe begins. It ends before a stripe of another length, or with the plan.
 fn next_row(table: &Table, at: u32) -> Row
     requires { at < length (needs_of table.now.layers) }
-    ensures row { rows_of (lengths_from table.now.layers at) ≡ (result.size, result.times) ∷ rows_of (lengths_from table.now.layers result.end) }
+    ensures row { rows_of (lengths_from table.now.layers at)
+        ≡ (result.size, result.times) ∷ rows_of (lengths_from table.now.layers result.end) }
     ensures some { at < result.end }
     ensures inside { result.end ≤ length (needs_of table.now.layers) }
 {
@@ -78,7 +81,8 @@ fn next_row(table: &Table, at: u32) -> Row
 fn has_stripe(table: &Table, at: u32, size: u32) -> bool
     requires { at ≤ length (needs_of table.now.layers) }
     ensures first { IsTrue result ↔ (slice_get (lengths_from table.now.layers at) 0 ≡ Some size) }
-    ensures next { IsTrue result → lengths_from table.now.layers at ≡ size ∷ lengths_from table.now.layers (at + size) }
+    ensures next { IsTrue result → lengths_from table.now.layers at
+        ≡ size ∷ lengths_from table.now.layers (at + size) }
     ensures inside { IsTrue result → at + size ≤ length (needs_of table.now.layers) }
     ensures fits { IsTrue result → at + size < 2 ^ 32 }
 {

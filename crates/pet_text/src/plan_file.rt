@@ -46,7 +46,8 @@ impl<T: Drop> From<AllocFailed<T>> for PlanFault {
 /// Reads the lists of a plan file, one for each line that begins with `lengths`, in order. Other lines are skipped. It takes
 /// a bounded number of steps for each byte.
 pub fn read_plan(alloc: Global, bytes: &[u8]) -> Result<Vec<Vec<Repeat>>, PlanFault>
-    ensures lists { IfOk result (λ lists. lists_of bytes.now ≡ Ok (map (λ list. list.items) lists.items)) }
+    ensures lists { IfOk result (λ lists. lists_of bytes.now
+        ≡ Ok (map (λ list. list.items) lists.items)) }
     ensures refused { IfErr result (IsRefused bytes.now) }
 {
     let mut lists = Vec::new(alloc);
@@ -98,7 +99,8 @@ fn read_line(
 
 /// The list that stands behind `lengths`.
 fn read_list(alloc: Global, words: &[u8]) -> Result<Option<Vec<Repeat>>, NoMemory>
-    ensures { IfOk result (λ list. option_map (λ list. list.items) list ≡ behind_lengths words.now) }
+    ensures { IfOk result (λ list. option_map (λ list. list.items) list
+        ≡ behind_lengths words.now) }
 {
     match words {
         [b' ', words @ ..] => read_repeats(alloc, words),
@@ -108,7 +110,8 @@ fn read_list(alloc: Global, words: &[u8]) -> Result<Option<Vec<Repeat>>, NoMemor
 
 /// The list of words that stand with a space between each two.
 fn read_repeats(alloc: Global, words: &[u8]) -> Result<Option<Vec<Repeat>>, NoMemory>
-    ensures { IfOk result (λ list. option_map (λ list. list.items) list ≡ repeats_in (split_at 32 words.now)) }
+    ensures { IfOk result (λ list. option_map (λ list. list.items) list
+        ≡ repeats_in (split_at 32 words.now)) }
 {
     let mut list = Vec::new(alloc);
     let mut rest = Some(words);
@@ -161,7 +164,8 @@ fn read_digits(digits: &[u8]) -> Option<u32>
 
 /// The value with one more decimal digit behind it, up to 4,294,967,295.
 fn with_digit(value: u32, digit: u8) -> Option<u32>
-    ensures { result ≡ (if is_digit digit && nat_lt (10 * value + (digit - 48)) (2 ^ 32) then Some (10 * value + (digit - 48)) else None) }
+    ensures { result ≡ (if is_digit digit && nat_lt (10 * value + (digit - 48)) (2 ^ 32) then Some
+        (10 * value + (digit - 48)) else None) }
 {
     match digit {
         b'0'..=b'9' => value.checked_mul(10)?.checked_add(u32::from(digit - b'0')),
@@ -171,7 +175,9 @@ fn with_digit(value: u32, digit: u8) -> Option<u32>
 
 /// The bytes in front of the first that has this value, and those behind it; or all bytes, where none has it.
 fn cut(bytes: &[u8], mark: u8) -> (&[u8], Option<&[u8]>)
-    ensures parts { MatchOption result.1 ((result.0.now ≡ bytes.now) × (split_at mark bytes.now ≡ result.0.now ∷ [])) (λ behind. split_at mark bytes.now ≡ result.0.now ∷ split_at mark behind.now) }
+    ensures parts { MatchOption result.1 ((result.0.now ≡ bytes.now)
+        × (split_at mark bytes.now ≡ result.0.now ∷ []))
+        (λ behind. split_at mark bytes.now ≡ result.0.now ∷ split_at mark behind.now) }
     ensures shorter { IfSome result.1 (λ behind. length behind.now < length bytes.now) }
 {
     for at in 0..bytes.len() {

@@ -15,7 +15,8 @@ pub fn plan_session_line(
     packets: u16,
     into: &mut Vec<u8>,
 ) -> Result<(), NoMemory>
-    ensures ok { OnOk result (into.new.items ≡ into.old.items ++ plan_session_text session.now groups packets) }
+    ensures ok { OnOk result (into.new.items ≡ into.old.items
+        ++ plan_session_text session.now groups packets) }
     ensures err { OnErr result (into.new.items ≡ into.old.items) }
 {
     let session = hexadecimal(alloc, session)?;
@@ -33,7 +34,8 @@ pub fn send_line(
     datagrams: u32,
     into: &mut Vec<u8>,
 ) -> Result<(), NoMemory>
-    ensures ok { OnOk result (into.new.items ≡ into.old.items ++ send_text session.now groups datagrams) }
+    ensures ok { OnOk result (into.new.items ≡ into.old.items
+        ++ send_text session.now groups datagrams) }
     ensures err { OnErr result (into.new.items ≡ into.old.items) }
 {
     let session = hexadecimal(alloc, session)?;
@@ -53,7 +55,8 @@ pub fn plan_group_line(
     datagram: u32,
     into: &mut Vec<u8>,
 ) -> Result<(), NoMemory>
-    ensures ok { OnOk result (into.new.items ≡ into.old.items ++ plan_group_text group words stripes bound datagram) }
+    ensures ok { OnOk result (into.new.items ≡ into.old.items
+        ++ plan_group_text group words stripes bound datagram) }
     ensures err { OnErr result (into.new.items ≡ into.old.items) }
 {
     let line = format!(in alloc;
@@ -73,7 +76,8 @@ pub fn plan_layer_line(
     count: u16,
     into: &mut Vec<u8>,
 ) -> Result<(), NoMemory>
-    ensures ok { OnOk result (into.new.items ≡ into.old.items ++ plan_layer_text layer name.now size.now count) }
+    ensures ok { OnOk result (into.new.items ≡ into.old.items
+        ++ plan_layer_text layer name.now size.now count) }
     ensures err { OnErr result (into.new.items ≡ into.old.items) }
 {
     let LayerSize { length, need } = *size;

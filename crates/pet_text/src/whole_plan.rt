@@ -21,7 +21,8 @@ pub fn plan_text(
 ) -> Result<(), NoMemory>
     requires few { length tables.now < 2 ^ 32 }
     requires sized { AreTablesOf priority.now tables.now }
-    ensures ok { OnOk result (into.new.items ≡ into.old.items ++ plan_text session.now priority.now tables.now) }
+    ensures ok { OnOk result (into.new.items ≡ into.old.items
+        ++ plan_text session.now priority.now tables.now) }
     ensures err { OnErr result (into.new.items ≡ into.old.items) }
 {
     let before = into.len();
@@ -42,7 +43,8 @@ fn append_plan(
 ) -> Result<(), NoMemory>
     requires few { length tables.now < 2 ^ 32 }
     requires sized { AreTablesOf priority.now tables.now }
-    ensures ok { OnOk result (into.new.items ≡ into.old.items ++ plan_text session.now priority.now tables.now) }
+    ensures ok { OnOk result (into.new.items ≡ into.old.items
+        ++ plan_text session.now priority.now tables.now) }
     ensures err { OnErr result (take (length into.old.items) into.new.items ≡ into.old.items) }
 {
     plan_session_line(alloc, session, tables.len() as u32, priority.packets, into)?;
@@ -61,7 +63,8 @@ fn append_group(
     into: &mut Vec<u8>,
 ) -> Result<(), NoMemory>
     requires { length table.now.layers ≡ length priority.now.layers }
-    ensures ok { OnOk result (into.new.items ≡ into.old.items ++ group_lines priority.now.layers group table.now.layers) }
+    ensures ok { OnOk result (into.new.items ≡ into.old.items
+        ++ group_lines priority.now.layers group table.now.layers) }
     ensures err { OnErr result (take (length into.old.items) into.new.items ≡ into.old.items) }
 {
     let words = table.words();
@@ -86,7 +89,8 @@ fn append_layers(
     into: &mut Vec<u8>,
 ) -> Result<(), NoMemory>
     requires { length table.now.layers ≡ length priority.now.layers }
-    ensures ok { OnOk result (into.new.items ≡ into.old.items ++ layer_lines priority.now.layers table.now.layers (length table.now.layers)) }
+    ensures ok { OnOk result (into.new.items ≡ into.old.items
+        ++ layer_lines priority.now.layers table.now.layers (length table.now.layers)) }
     ensures err { OnErr result (take (length into.old.items) into.new.items ≡ into.old.items) }
 {
     for layer in 0..table.layers().len() as u8 {
@@ -105,7 +109,8 @@ fn append_layer(
 ) -> Result<(), NoMemory>
     requires known { layer < length table.now.layers }
     requires sized { length table.now.layers ≡ length priority.now.layers }
-    ensures ok { OnOk result (into.new.items ≡ into.old.items ++ layer_line priority.now.layers table.now.layers layer) }
+    ensures ok { OnOk result (into.new.items ≡ into.old.items
+        ++ layer_line priority.now.layers table.now.layers layer) }
     ensures err { OnErr result (into.new.items ≡ into.old.items) }
 {
     let rule = &priority.layers.as_slice()[usize::from(layer)];

@@ -94,8 +94,10 @@ pub fn read_words(alloc: Global, words: &[String]) -> Result<Command, WordsFault
 
 /// A command with two words behind its own.
 fn read_two(alloc: Global, word: &str, first: &str, second: &str) -> Result<Command, WordsFault>
-    ensures usage { (result ≡ Err WordsFault.Usage) ↔ (command_of (word.now ∷ first.now ∷ second.now ∷ []) ≡ None) }
-    ensures command { IfOk result (λ command. command_of (word.now ∷ first.now ∷ second.now ∷ []) ≡ Some command) }
+    ensures usage { (result ≡ Err WordsFault.Usage)
+        ↔ (command_of (word.now ∷ first.now ∷ second.now ∷ []) ≡ None) }
+    ensures command { IfOk result (λ command. command_of (word.now ∷ first.now ∷ second.now ∷ [])
+        ≡ Some command) }
 {
     if word == "plan" {
         read_plan_words(alloc, first, second)
@@ -149,8 +151,10 @@ fn read_check_words(
     priority: &str,
     plan: &str,
 ) -> Result<Command, WordsFault>
-    ensures usage { (result ≡ Err WordsFault.Usage) ↔ (check_of stream.now priority.now plan.now ≡ None) }
-    ensures command { IfOk result (λ command. check_of stream.now priority.now plan.now ≡ Some command) }
+    ensures usage { (result ≡ Err WordsFault.Usage)
+        ↔ (check_of stream.now priority.now plan.now ≡ None) }
+    ensures command { IfOk result (λ command. check_of stream.now priority.now plan.now
+        ≡ Some command) }
 {
     if stream.is_empty() || priority.is_empty() || plan.is_empty() {
         return Err(WordsFault::Usage);
@@ -224,7 +228,8 @@ struct ReceiveWords<'a> {
 
 /// What the words behind `receive` give, where they have its form.
 fn receive_words<'a>(from: &'a str, session: &str, layers: &'a str) -> Option<ReceiveWords<'a>>
-    ensures { option_map receive_command result ≡ receive_of (file_of from.now) (session_of session.now) layers.now }
+    ensures { option_map receive_command result
+        ≡ receive_of (file_of from.now) (session_of session.now) layers.now }
 {
     let from = file_name(from)?;
     let session = read_session(session)?;

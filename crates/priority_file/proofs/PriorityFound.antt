@@ -4,7 +4,7 @@ use Rattle.std.proofs.lemmas.Option.{same_Some}
 use Rattle.pet_base.specs.declared.Kind.{Kind}
 use Rattle.priority_file.specs.Kinds.{has_kind}
 use Rattle.priority_file.specs.Priority.{Rule, Priorities, is_priority, layer_of, IsOnlyLayerWith}
-use Rattle.priority_file.specs.PriorityLaws.{layer_of-position, layer_of-only}
+use Rattle.priority_file.specs.laws.PriorityLaws.{layer_of-position, layer_of-only}
 
 pub not_found : (p : Priorities) → is_priority p ≡ true → (k : Kind) (layers : List Rule) (found : Option ℕ) → layers ≡ p.layers → found ≡ position (λ r. has_kind r.kinds k) layers → found ≡ None → ⊥
 not_found p h k layers found same is none =

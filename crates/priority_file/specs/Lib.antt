@@ -1,9 +1,8 @@
 pub mod Kinds
 pub mod Priority
-pub mod OnlyOne
-pub mod PriorityLaws
 pub mod Document
 pub mod Draft
 pub mod Bounds
 pub mod Refusals
 pub mod Stages
+pub mod laws

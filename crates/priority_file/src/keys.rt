@@ -128,7 +128,8 @@ fn has_other_layer_key(table: &Table) -> bool
 }
 
 fn any_other_layer_key(table: &Table) -> bool
-    ensures { result ≡ list_any (λ k. not (is_one_of layer_keys (string_bytes k))) (keys table.now) }
+    ensures { result ≡ list_any (λ k. not (is_one_of layer_keys (string_bytes k)))
+        (keys table.now) }
 {
     table.keys().any(|key| !is_layer_key(key.as_str()))
 }

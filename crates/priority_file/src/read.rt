@@ -29,7 +29,8 @@ use toml::Table;
 pub fn read_priority(alloc: Global, bytes: &[u8]) -> Result<Priority, PriorityFault>
     ensures accepted { IfOk result (λ p. refusal_of bytes.now ≡ None) }
     ensures stands_for { IfOk result (λ p. p ≡ priorities_of bytes.now) }
-    ensures refused { IfErr result (λ f. f ≢ PriorityFault.NoMemory → refusal_of bytes.now ≡ Some f) }
+    ensures refused { IfErr result (λ f. f ≢ PriorityFault.NoMemory
+        → refusal_of bytes.now ≡ Some f) }
 {
     read_bytes(alloc, bytes)
 }

@@ -16,7 +16,8 @@ pub fn stripes(table: &Table) -> u32
     ensures plan { result ≡ length (plan_ends table.now.layers) }
     ensures listed { result ≡ length (plan_stripes table.now.layers) }
     ensures is_plan { IsPlan (needs_of table.now.layers) 0 (plan_ends table.now.layers) }
-    ensures fewest { (ends : List ℕ) → IsPartition (needs_of table.now.layers) 0 ends → result ≤ length ends }
+    ensures fewest { (ends : List ℕ) → IsPartition (needs_of table.now.layers) 0 ends
+        → result ≤ length ends }
     ensures bounded { result ≤ bound_of table.now.layers }
 {
     plan_len(table.layers())
@@ -28,7 +29,8 @@ pub fn stripes(table: &Table) -> u32
 pub fn next_start(table: &Table, at: u32) -> u32
     requires { at < length (needs_of table.now.layers) }
     ensures longest { IsLongest (needs_of table.now.layers) at result }
-    ensures next { stripes_from table.now.layers at ≡ (at, result - at) ∷ stripes_from table.now.layers result }
+    ensures next { stripes_from table.now.layers at
+        ≡ (at, result - at) ∷ stripes_from table.now.layers result }
     ensures short { result - at ≤ table.now.packets }
 {
     longest_end(table.layers(), at)
@@ -41,7 +43,8 @@ pub fn count(table: &Table, layer: u8) -> u16
     ensures count { result ≡ count_of table.now.layers layer }
     ensures greatest { words_before table.now.layers layer < words_before table.now.layers (layer + 1)
         → IsLongestMeeting (plan_stripes table.now.layers) (words_before table.now.layers layer) (words_before table.now.layers (layer + 1)) result }
-    ensures empty { words_before table.now.layers (layer + 1) ≡ words_before table.now.layers layer → result ≡ 1 }
+    ensures empty { words_before table.now.layers (layer + 1) ≡ words_before table.now.layers layer
+        → result ≡ 1 }
     ensures some { 0 < result }
     ensures needed { IfSome (slice_get table.now.layers layer) (λ size. result ≤ size.need) }
 {

@@ -4,7 +4,8 @@ ghost use Rattle.std.specs.List.{list_any};
 ghost use Rattle.stripe_plan.specs.Layers.{needs_of, plan_ends, stripes_from};
 ghost use Rattle.stripe_plan.specs.Stripes.{IsPlan};
 ghost use Rattle.stripe_plan.specs.Sizes.{IsTable, bytes_of, falls_after};
-ghost use Rattle.stripe_plan.specs.Same.{same_table, same_table_laws};
+ghost use Rattle.stripe_plan.specs.Same.{same_table};
+ghost use Rattle.stripe_plan.specs.laws.SameLaws.{same_table_laws};
 ghost use Rattle.std.specs.Cmp.{partial_equiv_from_equiv};
 ghost use Rattle.stripe_plan.specs.Faults.{fault_of};
 
@@ -55,7 +56,8 @@ impl Model for Table {
 impl Table {
     /// The table, or the first of its bounds that is broken, in the order of `TableFault`.
     pub fn new(packets: u16, layers: &[LayerSize]) -> Result<Table, TableFault>
-        ensures ok { IfOk result (λ table. (table.packets ≡ packets) × (table.layers ≡ layers.now)) }
+        ensures ok { IfOk result (λ table. (table.packets ≡ packets)
+            × (table.layers ≡ layers.now)) }
         ensures accepted { IfOk result (λ table. fault_of packets layers.now ≡ None) }
         ensures refused { IfErr result (λ fault. fault_of packets layers.now ≡ Some fault) }
         ensures bounds { IsOk result ↔ IsTable packets layers.now }

@@ -60,18 +60,26 @@ fn has_the_numbers_of_worked_tables(rt: HostRuntime) {
 
 #[test]
 fn goes_over_the_stripes(rt: HostRuntime) {
-    match Table::new(16, &[layer(10, 4), layer(20, 8), layer(40, 16)]) {
-        Ok(table) => {
-            let words = table.words();
-            let mut at = 0;
-            for end in [4, 8, 16, 32, 35] {
-                assert!(rt; at < words);
-                at = next_start(&table, at);
-                assert_eq!(rt; at, end);
+    let three = [layer(10, 4), layer(20, 8), layer(40, 16)];
+    let two = [layer(20, 10), layer(6, 20)];
+    let rows: [(u16, &[LayerSize], &[u32]); 2] = [
+        (16, &three, &[4, 8, 16, 32, 35]),
+        (20, &two, &[10, 13]),
+    ];
+    for (packets, layers, ends) in rows {
+        match Table::new(packets, layers) {
+            Ok(table) => {
+                let words = table.words();
+                let mut at = 0;
+                for end in ends {
+                    assert!(rt; at < words);
+                    at = next_start(&table, at);
+                    assert_eq!(rt; at, *end);
+                }
+                assert_eq!(rt; at, words);
             }
-            assert_eq!(rt; at, words);
+            Err(fault) => assert!(rt; false, "{fault:?}"),
         }
-        Err(fault) => assert!(rt; false, "{fault:?}"),
     }
 }
 

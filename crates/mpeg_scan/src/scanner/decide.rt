@@ -11,9 +11,10 @@ use crate::refusal::Scan;
 use pet_base::MAX_STREAM;
 
 impl Scanner {
-    // The refusal that the next byte decides.
+    /// The refusal that the next byte decides.
     pub(super) fn refusal_by(&self, byte: u8) -> Option<Scan>
-        ensures decides { (stream : List ℕ) (given : List Piece) → HasRead self.now stream given → Decides stream byte result }
+        ensures decides { (stream : List ℕ) (given : List Piece) → HasRead self.now stream given
+            → Decides stream byte result }
         ensures room { IfNone result (self.now.at < max_stream) }
     {
         if self.at >= MAX_STREAM {
@@ -53,9 +54,10 @@ impl Scanner {
         Some(Scan::NoHead(self.at))
     }
 
-    // The refusal that the end decides.
+    /// The refusal that the end decides.
     pub(super) fn refusal_at_end(&self) -> Option<Scan>
-        ensures { (stream : List ℕ) (given : List Piece) → HasRead self.now stream given → DecidesAtEnd stream result }
+        ensures { (stream : List ℕ) (given : List Piece) → HasRead self.now stream given
+            → DecidesAtEnd stream result }
     {
         if self.at == 0 {
             return Some(Scan::Empty);
@@ -75,23 +77,26 @@ impl Scanner {
         Some(Scan::NoHead(self.at))
     }
 
-    // Whether the last three bytes are those before a code.
+    /// Whether the last three bytes are those before a code.
     pub(super) fn is_at_code(&self) -> bool
-        ensures { IsTrue result ↔ ((self.now.back3 ≡ 0) × (self.now.back2 ≡ 0) × (self.now.back1 ≡ 1)) }
+        ensures { IsTrue result ↔ ((self.now.back3 ≡ 0) × (self.now.back2 ≡ 0)
+            × (self.now.back1 ≡ 1)) }
     {
         self.back3 == 0 && self.back2 == 0 && self.back1 == 1
     }
 
-    // Whether the last five bytes are those before a picture's type.
+    /// Whether the last five bytes are those before a picture's type.
     pub(super) fn is_at_type(&self) -> bool
-        ensures { IsTrue result ↔ ((self.now.back5 ≡ 0) × (self.now.back4 ≡ 0) × (self.now.back3 ≡ 1) × (self.now.back2 ≡ 0)) }
+        ensures { IsTrue result ↔ ((self.now.back5 ≡ 0) × (self.now.back4 ≡ 0)
+            × (self.now.back3 ≡ 1) × (self.now.back2 ≡ 0)) }
     {
         self.back5 == 0 && self.back4 == 0 && self.back3 == 1 && self.back2 == 0
     }
 
-    // Whether the last four bytes are a picture's start code.
+    /// Whether the last four bytes are a picture's start code.
     fn is_behind_picture(&self) -> bool
-        ensures { IsTrue result ↔ ((self.now.back4 ≡ 0) × (self.now.back3 ≡ 0) × (self.now.back2 ≡ 1) × (self.now.back1 ≡ 0)) }
+        ensures { IsTrue result ↔ ((self.now.back4 ≡ 0) × (self.now.back3 ≡ 0)
+            × (self.now.back2 ≡ 1) × (self.now.back1 ≡ 0)) }
     {
         self.back4 == 0 && self.back3 == 0 && self.back2 == 1 && self.back1 == 0
     }

@@ -11,7 +11,7 @@ use memchr::memchr;
 use pet_base::MAX_STREAM;
 
 impl Scanner {
-    // How many of these bytes can be skipped, where that is at least 5.
+    /// How many of these bytes can be skipped, where that is at least 5.
     pub(super) fn skippable(&self, ahead: &[u8]) -> usize
         ensures within { result ≤ length ahead.now }
         ensures quiet { 5 ≤ result → IsQuiet self.now (take result ahead.now) }
@@ -26,10 +26,11 @@ impl Scanner {
         self.run_without_one(ahead)
     }
 
-    // Behind two bytes that aren't zero: how many bytes come before the first zero.
+    /// Behind two bytes that aren't zero: how many bytes come before the first zero.
     fn nonzero_run(&self, ahead: &[u8]) -> usize
         ensures within { result ≤ length ahead.now }
-        ensures quiet { self.now.opened ≡ true → 5 ≤ result → IsQuiet self.now (take result ahead.now) }
+        ensures quiet { self.now.opened ≡ true → 5 ≤ result
+            → IsQuiet self.now (take result ahead.now) }
     {
         if self.back1 != 0 && self.back2 != 0 {
             return front_without(0, ahead);
@@ -37,10 +38,11 @@ impl Scanner {
         0
     }
 
-    // Behind three bytes none of which is 1: how many bytes come before the first 1.
+    /// Behind three bytes none of which is 1: how many bytes come before the first 1.
     fn run_without_one(&self, ahead: &[u8]) -> usize
         ensures within { result ≤ length ahead.now }
-        ensures quiet { self.now.opened ≡ true → 5 ≤ result → IsQuiet self.now (take result ahead.now) }
+        ensures quiet { self.now.opened ≡ true → 5 ≤ result
+            → IsQuiet self.now (take result ahead.now) }
     {
         if self.back1 != 1 && self.back2 != 1 && self.back3 != 1 {
             return front_without(1, ahead);
@@ -48,7 +50,7 @@ impl Scanner {
         0
     }
 
-    // Reads a run that can be skipped.
+    /// Reads a run that can be skipped.
     pub(super) fn skip(&mut self, run: &[u8]) -> Result<(), Scan>
         requires quiet { IsQuiet self.old run.now }
         requires long { 5 ≤ length run.now }
@@ -75,7 +77,7 @@ impl Scanner {
     }
 }
 
-// How many bytes stand before the first of this value.
+/// How many bytes stand before the first of this value.
 fn front_without(value: u8, bytes: &[u8]) -> usize
     ensures within { result ≤ length bytes.now }
     ensures lacks { Lacks value (take result bytes.now) }

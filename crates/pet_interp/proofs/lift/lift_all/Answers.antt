@@ -6,7 +6,7 @@ use Rattle.pet_interp.specs.Lifted.{lifted_all}
 use Rattle.pet_interp.specs.Progressive.{longer_than}
 use Rattle.pet_poly.specs.Rows.{words}
 use Rattle.pet_interp.specs.Pieces.{pieces}
-use Rattle.pet_poly.specs.RowLaws.{length-words, word_at}
+use Rattle.pet_poly.specs.laws.RowLaws.{length-words, word_at}
 use Rattle.pet_interp.proofs.Pieces.{length-pieces}
 use Rattle.pet_interp.proofs.Lifted.{longer_more, cost_more}
 use Rattle.pet_interp.proofs.Lifted as N

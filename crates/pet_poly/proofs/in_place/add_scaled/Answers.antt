@@ -1,7 +1,7 @@
 use Rattle.std.proofs.Common.{◌≡◌, ◌∙◌, ap, ap₂, sym, take, set, get_or, length, add-one, arith}
 use Rattle.std.proofs.lemmas.List.{get_or-take, length-take-le, take_all}
 use Rattle.pet_poly.specs.InPlace.{scaled_sum}
-use Rattle.pet_poly.specs.InPlaceLaws.{scaled_sum_is, scaled_sum_value}
+use Rattle.pet_poly.specs.laws.InPlaceLaws.{scaled_sum_is, scaled_sum_value}
 use Rattle.pet_poly.proofs.Places.{scaled_more, scaled_at}
 use Rattle.pet_poly.proofs.in_place.add_scaled.Goals as goal
 

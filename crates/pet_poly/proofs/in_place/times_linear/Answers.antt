@@ -1,5 +1,5 @@
 use Rattle.std.proofs.Common.{◌∙◌, ap, arith, take}
-use Rattle.pet_poly.specs.InPlaceLaws.{linear_front, linear_product_is, linear_product_value}
+use Rattle.pet_poly.specs.laws.InPlaceLaws.{linear_front, linear_product_is, linear_product_value}
 use Rattle.pet_poly.proofs.Places.{here_is, linear_rest, linear_done, linear_end}
 use Rattle.pet_poly.proofs.in_place.times_linear.Goals as goal
 

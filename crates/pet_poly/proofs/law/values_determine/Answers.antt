@@ -1,4 +1,4 @@
-use Rattle.pet_poly.specs.Roots.{value_determines}
+use Rattle.pet_poly.specs.laws.Roots.{value_determines}
 use Rattle.pet_poly.proofs.law.values_determine.Goals as goal
 
 pub returns : goal.returns

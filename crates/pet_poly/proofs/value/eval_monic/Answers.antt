@@ -1,6 +1,6 @@
 use Rattle.std.proofs.Common.{ap, ◌∙◌}
 use Rattle.pet_poly.specs.Horner.{horner_from}
-use Rattle.pet_poly.specs.Horner.{value_monic_by_horner}
+use Rattle.pet_poly.specs.laws.HornerLaws.{value_monic_by_horner}
 use Rattle.pet_poly.proofs.value.eval_monic.Goals as goal
 
 pub returns-clause-value : goal.returns-clause-value

@@ -4,7 +4,7 @@ use Rattle.std.proofs.lemmas.Result.{err_from_is_err_and}
 use Rattle.mpeg_scan.specs.Refusals.{Refuses}
 use Rattle.mpeg_scan.specs.Scanning.{HasRead, HasStopped, IsFrontOf, added}
 use Rattle.mpeg_scan.proofs.Feeding.{slice_here, slice_further, slice_length, front_at}
-use Rattle.mpeg_scan.proofs.Growing.{grown_both, added_both}
+use Rattle.mpeg_scan.proofs.Appended.{grown_both, added_both}
 use Rattle.mpeg_scan.proofs.scanner.Scanner.feed.Goals as goal
 
 pub returns-in_err-read-clause-refusal : goal.returns-in_err-read-clause-refusal

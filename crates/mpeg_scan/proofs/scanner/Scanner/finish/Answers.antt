@@ -4,7 +4,7 @@ use Rattle.std.specs.Prelude.{is_ok}
 use Rattle.std.proofs.lemmas.Bool.{cond-true}
 use Rattle.mpeg_scan.proofs.Ending.{last_piece, accepted_opened}
 use Rattle.mpeg_scan.proofs.Standing.{all_stand}
-use Rattle.mpeg_scan.proofs.Growing.{added_by}
+use Rattle.mpeg_scan.proofs.Appended.{added_by}
 use Rattle.mpeg_scan.proofs.scanner.Scanner.finish.Goals as goal
 
 pub returns-clause-ok : goal.returns-clause-ok

@@ -4,7 +4,7 @@ use Rattle.std.proofs.lemmas.Result.{err_from_is_err_and}
 use Rattle.mpeg_scan.specs.Refusals.{Refuses}
 use Rattle.mpeg_scan.specs.Scanning.{HasStopped, added}
 use Rattle.mpeg_scan.proofs.Feeding.{whole_here, whole_at, first_here, first_at}
-use Rattle.mpeg_scan.proofs.Growing.{added_none}
+use Rattle.mpeg_scan.proofs.Appended.{added_none}
 use Rattle.mpeg_scan.proofs.Stopping.{stopped_more}
 use Rattle.mpeg_scan.proofs.scanner.Scanner.read_on.Goals as goal
 

@@ -4,7 +4,7 @@ use Rattle.std.specs.Prelude.{is_ok}
 use Rattle.std.proofs.lemmas.Bool.{iff_false, cond-true}
 use Rattle.mpeg_scan.specs.Pieces.{kind_of_type}
 use Rattle.mpeg_scan.specs.Scanning.{HasRead, HasStopped}
-use Rattle.mpeg_scan.proofs.Growing.{added_by, added_none}
+use Rattle.mpeg_scan.proofs.Appended.{added_by, added_none}
 use Rattle.mpeg_scan.proofs.Reading.{no_type_at_code}
 use Rattle.mpeg_scan.proofs.Stopping.{stopped_by}
 use Rattle.mpeg_scan.proofs.Stepping.{follows, begins, plain, typed}

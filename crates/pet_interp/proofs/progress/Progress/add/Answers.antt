@@ -3,12 +3,12 @@ use Rattle.std.specs.Vec.{with_items}
 use Rattle.std.proofs.lemmas.List.{with_items_is}
 use Rattle.std.proofs.lemmas.List.Elements.{All-from_get_or, All-same}
 use Rattle.pet_poly.specs.InPlace.{linear_product}
-use Rattle.pet_poly.specs.InPlaceLaws.{linear_front}
+use Rattle.pet_poly.specs.laws.InPlaceLaws.{linear_front}
 use Rattle.pet_interp.specs.Progressive.{Held, StandsFor}
 use Rattle.pet_poly.specs.Rows.{words}
 use Rattle.pet_interp.specs.Pieces.{pieces, IsRising}
 use Rattle.pet_interp.proofs.Pieces.{length-pieces, lengths_pieces}
-use Rattle.pet_poly.specs.RowLaws.{length-words, words_are}
+use Rattle.pet_poly.specs.laws.RowLaws.{length-words, words_are}
 use Rattle.pet_interp.proofs.Grown.{longest_same}
 use Rattle.pet_interp.proofs.Added.{weight_of, stands_added}
 use Rattle.pet_interp.proofs.Along.{lifted_along, moved_along, same_along}

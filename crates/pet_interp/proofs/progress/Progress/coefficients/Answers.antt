@@ -1,7 +1,7 @@
 use Rattle.std.proofs.Common.{◌≡◌, ◌∙◌, ◌≤◌, ◌<◌, ◌-◌, ◌∷◌, [], ap, sym, arith, length, get_or, take, drop, subst, rules}
 use Rattle.pet_interp.specs.Progressive.{Held, column}
 use Rattle.pet_interp.specs.Points.{IsOnlyThrough}
-use Rattle.pet_interp.specs.ProgressiveLaws.{stripe_is_common}
+use Rattle.pet_interp.specs.laws.ProgressiveLaws.{stripe_is_common}
 use Rattle.pet_interp.specs.Pieces.{pieces}
 use Rattle.pet_interp.proofs.Pieces.{length-pieces, shown_start, shown, ends_below, get_or-any}
 use Rattle.pet_interp.proofs.progress.Progress.coefficients.Goals as goal

@@ -1,0 +1,10 @@
+pub mod FieldLaws
+pub mod Xor
+pub mod CarrylessLaws
+pub mod Degrees
+pub mod Division
+pub mod Irreducible
+pub mod ResidueLaws
+pub mod Inverses
+pub mod BinaryFieldLaws
+pub mod Gf16Laws

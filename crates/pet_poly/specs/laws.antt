@@ -1,0 +1,5 @@
+pub mod Quotient
+pub mod Roots
+pub mod InPlaceLaws
+pub mod RowLaws
+pub mod HornerLaws

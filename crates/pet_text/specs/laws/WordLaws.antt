@@ -1,0 +1,75 @@
+-- What callers know of the words of `send`: the file that is written is another than the stream.
+use Rattle.std.proofs.Common.{◌≡◌, ℕ, Bool, true, false, cond, List, [], ◌∷◌, Option, None, Some, refl, sym, subst, ◌∙◌, inl, inr}
+use Rattle.std.specs.Prelude.{codes, not, ◌&&◌}
+use Rattle.std.specs.Str.{bytes_eq}
+use Rattle.std.proofs.lemmas.Bool.{cases_Bool, cond-true, cond-false, and_parts}
+use Rattle.pet_text.specs.declared.words.End.TheVariants.{File}
+use Rattle.pet_text.specs.declared.words.Command.TheVariants.{Plan, Check, Send, Receive}
+use Rattle.pet_text.specs.Words.{is_name, plan_of, check_of, send_of, receive_of, file_of, session_of, command_of}
+
+-- an answer that a test lets through
+if_some : {A : Type 0} (t : Bool) (x y : A) → cond t (Some x) None ≡ Some y → (t ≡ true) × (x ≡ y)
+if_some true x y e = (refl, cc)
+if_some false x y e = absurd (cc)
+
+module _ (stream priority to : List ℕ) where
+  not_plan : (first second : List ℕ) → plan_of first second ≡ Some (Send stream priority (File to)) → ⊥
+  not_plan first second e = let both = if_some (is_name first && is_name second) (Plan first second) (Send stream priority (File to)) e in absurd (cc)
+
+  not_check : (first second third : List ℕ) → check_of first second third ≡ Some (Send stream priority (File to)) → ⊥
+  not_check first second third e =
+      let both = if_some (is_name first && (is_name second && is_name third)) (Check first second third) (Send stream priority (File to)) e in absurd (cc)
+
+  not_receive : (from session : Option (List ℕ)) (layers : List ℕ) → receive_of from session layers ≡ Some (Send stream priority (File to)) → ⊥
+  not_receive None session layers e = absurd (cc)
+  not_receive (Some from) None layers e = absurd (cc)
+  not_receive (Some from) (Some session) layers e =
+      let both = if_some (is_name layers && not (bytes_eq from layers)) (Receive (File from) session layers) (Send stream priority (File to)) e in absurd (cc)
+
+  not_true : (t : Bool) → not t ≡ true → t ≡ false
+  not_true true e = absurd (cc)
+  not_true false e = refl
+
+  by_test : (first second third : List ℕ) → not (bytes_eq third first) ≡ true → Send first second (File third) ≡ Send stream priority (File to) → bytes_eq to stream ≡ false
+  by_test first second third other same =
+      let stream_is : first ≡ stream = cc in
+      let to_is : third ≡ to = cc in
+      subst (λ (s : List ℕ). bytes_eq to s ≡ false) stream_is (subst (λ (t : List ℕ). bytes_eq t first ≡ false) to_is (not_true (bytes_eq third first) other))
+
+  of_file : (first second : List ℕ) (file : Option (List ℕ)) → send_of first second file ≡ Some (Send stream priority (File to)) → bytes_eq to stream ≡ false
+  of_file first second None e = absurd (cc)
+  of_file first second (Some third) e =
+      let both = if_some (is_name first && (is_name second && (not (bytes_eq third first) && not (bytes_eq third second)))) (Send first second (File third)) (Send stream priority (File to)) e in
+      let names = and_parts (is_name first) (is_name second && (not (bytes_eq third first) && not (bytes_eq third second))) both.0 in
+      let others = and_parts (is_name second) (not (bytes_eq third first) && not (bytes_eq third second)) names.1 in
+      let tests = and_parts (not (bytes_eq third first)) (not (bytes_eq third second)) others.1 in
+      by_test first second third tests.0 both.1
+
+  pub send_differs : (words : List (List ℕ)) → command_of words ≡ Some (Send stream priority (File to)) → bytes_eq to stream ≡ false
+  send_differs [] e = absurd (cc)
+  send_differs (word ∷ []) e = absurd (cc)
+  send_differs (word ∷ first ∷ []) e = absurd (cc)
+  send_differs (word ∷ first ∷ second ∷ []) e = elim (cases_Bool (bytes_eq word (codes "plan"))) [
+    | inl is ↦ absurd (not_plan first second (sym (cond-true (bytes_eq word (codes "plan")) (plan_of first second) None is) ∙ e))
+    | inr not_it ↦ absurd (none_sent (sym (cond-false (bytes_eq word (codes "plan")) (plan_of first second) None not_it) ∙ e))
+  ]
+    where
+      none_sent : None ≡ Some (Send stream priority (File to)) → ⊥
+      none_sent e = cc
+  send_differs (word ∷ first ∷ second ∷ third ∷ []) e = by_check (bytes_eq word (codes "check")) e
+    where
+      none_sent : None ≡ Some (Send stream priority (File to)) → ⊥
+      none_sent e = cc
+
+      by_receive : (t : Bool) → cond t (receive_of (file_of first) (session_of second) third) None ≡ Some (Send stream priority (File to)) → bytes_eq to stream ≡ false
+      by_receive true e = absurd (not_receive (file_of first) (session_of second) third e)
+      by_receive false e = absurd (none_sent e)
+
+      by_send : (t : Bool) → cond t (send_of first second (file_of third)) (cond (bytes_eq word (codes "receive")) (receive_of (file_of first) (session_of second) third) None) ≡ Some (Send stream priority (File to)) → bytes_eq to stream ≡ false
+      by_send true e = of_file first second (file_of third) e
+      by_send false e = by_receive (bytes_eq word (codes "receive")) e
+
+      by_check : (t : Bool) → cond t (check_of first second third) (cond (bytes_eq word (codes "send")) (send_of first second (file_of third)) (cond (bytes_eq word (codes "receive")) (receive_of (file_of first) (session_of second) third) None)) ≡ Some (Send stream priority (File to)) → bytes_eq to stream ≡ false
+      by_check true e = absurd (not_check first second third e)
+      by_check false e = by_send (bytes_eq word (codes "send")) e
+  send_differs (word ∷ first ∷ second ∷ third ∷ fourth ∷ words) e = absurd (cc)

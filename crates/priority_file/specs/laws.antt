@@ -1,0 +1,2 @@
+pub mod OnlyOne
+pub mod PriorityLaws

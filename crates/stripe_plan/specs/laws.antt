@@ -1,0 +1,2 @@
+pub mod StripeLaws
+pub mod SameLaws
