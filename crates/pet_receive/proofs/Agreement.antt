@@ -6,9 +6,9 @@ use Rattle.std.proofs.lemmas.List.{length-map, length-take, length-drop, length-
 use Rattle.std.proofs.lemmas.List.Elements.{All-map, All-take, All-drop, Contains-get_or}
 use Rattle.pet_field.specs.Field.{Operations, IsField, AreSpellings}
 use Rattle.pet_poly.specs.Value.{value}
-use Rattle.pet_poly.specs.Horner.{value_is}
+use Rattle.pet_poly.specs.laws.HornerLaws.{value_is}
 use Rattle.pet_poly.specs.Rows.{words}
-use Rattle.pet_poly.specs.RowLaws.{length-words, words_are, words_of_spellings, spellings_of_words}
+use Rattle.pet_poly.specs.laws.RowLaws.{length-words, words_are, words_of_spellings, spellings_of_words}
 use Rattle.pet_interp.specs.Points.{IsOnlyThrough, GoesThrough}
 use Rattle.pet_interp.specs.Progressive.{column}
 use Rattle.stripe_plan.specs.declared.layer.LayerSize.{LayerSize}

@@ -12,8 +12,8 @@ use Rattle.packet_set.specs.Packets.{Packets, slot_at, with_packet}
 use Rattle.pet_receive.specs.KeptSet.{header_of, no_packets}
 use Rattle.pet_receive.specs.Arrivals.{GroupState, HoldsAfter}
 use Rattle.pet_receive.specs.Receiving.{IsReadyFor, HasGrown}
-use Rattle.pet_receive.specs.EntryLaws.{lookup_here, set_is_insert, insert_twice}
-use Rattle.pet_receive.specs.KeptSetLaws.{none_in}
+use Rattle.pet_receive.specs.laws.EntryLaws.{lookup_here, set_is_insert, insert_twice}
+use Rattle.pet_receive.specs.laws.KeptSetLaws.{none_in}
 
 module _ {E : Type 0} (P : E → Type 0) (o : Operations E) (spelt : List ℕ → E) (w : ℕ) (point_of : ℕ → E) (es : List (ℕ × GroupState E)) (f : Fields) where
   -- what is written of the open group

@@ -1,11 +1,10 @@
 -- What is held of a group, after one packet more.
-use Rattle.std.specs.Prelude.{cond, false, true, IsSome, is_some, count_by, map, unwrap_or, Contains}
-use Rattle.std.proofs.Common.{◌≡◌, ◌≢◌, ◌↔◌, ℕ, zero, suc, ◌+◌, ◌*◌, ◌<◌, ◌≤◌, List, [], ◌∷◌, ◌++◌, Option, None, Some, length, get_or, take, drop, replicate, All, refl, sym, ap, ap₂, ◌∙◌, arith, subst, inl, inr}
+use Rattle.std.specs.Prelude.{false, true, IsSome, is_some, count_by, map, unwrap_or, Contains}
+use Rattle.std.proofs.Common.{◌≡◌, ◌≢◌, ◌↔◌, ℕ, suc, ◌+◌, ◌*◌, ◌<◌, ◌≤◌, List, [], ◌∷◌, ◌++◌, Option, None, Some, length, get_or, take, drop, replicate, All, refl, sym, ap, ap₂, ◌∙◌, arith, subst, inl, inr}
 use Rattle.std.proofs.lemmas.Bool.{cases_eq, cases_lt}
 use Rattle.std.proofs.Math.ListN as M
-use Rattle.std.proofs.lemmas.List.{length-map, length_push, map_push, get_or-set_same, get_or-set_other, get_or_past, get_or_push, take-append-le, get_or-replicate, length-replicate, nil_from_length}
+use Rattle.std.proofs.lemmas.List.{length-map, length_push, map_push, get_or-set_same, get_or-set_other, get_or_past, get_or_push, take-append-le, nil_from_length}
 use Rattle.std.proofs.lemmas.List.Elements.{All-nil, All-head, All-tail, All-map, Contains-get_or, Contains-push, Contains-push_cases, Contains-append_left}
-use Rattle.std.proofs.lemmas.List.Sums.{sum_by-cons}
 use Rattle.pet_field.specs.Field.{Operations, ArePoints}
 use Rattle.pet_poly.specs.Value.{AreDistinct}
 use Rattle.pet_interp.specs.Points.{IsOnlyThrough}
@@ -17,7 +16,7 @@ use Rattle.packet_set.specs.declared.set.Put.{Put}
 use Rattle.pet_encode.specs.Payload.{stripes_in}
 use Rattle.pet_receive.specs.Arrivals.{GroupState, HoldsAfter, points_of, layers_of, stripe_lengths}
 use Rattle.pet_receive.proofs.Cuts.{sizes_are, cut_at}
-use Rattle.pet_receive.specs.KeptSetLaws.{count_set}
+use Rattle.pet_receive.specs.laws.KeptSetLaws.{count_set, count_none, none_in}
 
 -- ---- lists
 
@@ -53,18 +52,11 @@ puts_new old number payload told new none t p = p ∙ ap (put_in old number payl
 
 -- ---- a group that has kept nothing
 
-count_none : (A : Type 0) (n : ℕ) → count_by {X = Option A} is_some (replicate n None) ≡ 0
-count_none A zero = refl
-count_none A (suc n) = omega (arith, sum_by-cons (λ (x : Option A). cond (is_some x) 1 0) None (replicate n None), count_none A n)
-
 pub holds_none : {E : Type 0} (P : E → Type 0) (o : Operations E) (spelt : List ℕ → E) (w : ℕ) (point_of : ℕ → E) (p : Packets) (held : Held E) (message : List ℕ) (n : ℕ)
     → w ≡ 2 → p.slots ≡ replicate n None → lengths_of held ≡ stripe_lengths (layers_of p) → StandsFor P o held [] → length message ≡ length (needs_of (layers_of p)) * 2 → All (λ b. b < 256) message
     → HoldsAfter P o spelt w point_of (record { packets = p; message = message; held = held }) []
 holds_none P o spelt w point_of p held message n two none lengths stands room bytes =
-    let empty : (i : ℕ) → slot_at p i ≡ None =
-    λ i.
-    ap (λ s. get_or s i None) none
-    ∙ elim (cases_lt i n) [ inl l ↦ get_or-replicate n i None None l | inr past ↦ get_or_past (replicate n None) i None (omega (arith, length-replicate {A = Option (List ℕ)} n None)) ] in
+    let empty : (i : ℕ) → slot_at p i ≡ None = λ i. ap (λ s. get_or s i None) none ∙ none_in (List ℕ) n i in
     let sizes = sizes_are held (layers_of p) lengths in
     record {
       once = tt;

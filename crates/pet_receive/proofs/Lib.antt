@@ -3,7 +3,7 @@ pub mod Cuts
 pub mod Known
 pub mod Needs
 pub mod Holding
-pub mod Shown
+pub mod LayerBytes
 pub mod Received
 pub mod Agreement
 pub mod Sums

@@ -20,11 +20,11 @@ use Rattle.pet_encode.specs.Session.{cost_of}
 use Rattle.pet_receive.specs.declared.verdict.Verdict.{Verdict}
 use Rattle.pet_receive.specs.declared.verdict.Verdict.TheVariants.{Foreign, Clash, Repeated, Full, Kept}
 use Rattle.pet_receive.specs.KeptSet.{KeptSet, IsKeptSet, open_group, payload_of, count_in, count_kept, cost_kept, header_of, no_packets, group_with, keep}
-use Rattle.pet_receive.specs.Verdicts.{tells_other_count, clashes, is_too_much, newly_shown, frame_verdict, layer_set, shown_between}
+use Rattle.pet_receive.specs.Verdicts.{tells_other_count, clashes, is_too_much, newly_shown, frame_verdict, layer_set, shown_between, is_kept}
 use Rattle.pet_receive.specs.Arrivals.{GroupState, ReceiverState, Order, HoldsAfter, HasKept, kept_set, state_of, numbers_of}
 use Rattle.pet_receive.specs.Receiving.{IsReceiver, IsReadyFor, HasGrown, told_by, verdict_at, verdict_in, verdict_new}
-use Rattle.pet_receive.specs.EntryLaws.{lookup_here, lookup_other, lookup_values, insert_values, all_found}
-use Rattle.pet_receive.specs.KeptSetLaws.{IsKeepable, keep_sound, open_here, header_with, cost_opened, cost_same}
+use Rattle.pet_receive.specs.laws.EntryLaws.{lookup_here, lookup_other, lookup_values, insert_values, all_found}
+use Rattle.pet_receive.specs.laws.KeptSetLaws.{IsKeepable, keepable, keep_sound, open_here, header_with, cost_opened, cost_same}
 
 -- ---- the number of groups that the first open group tells
 
@@ -145,6 +145,16 @@ pub is_some_of : {A : Type 0} (o : Option A) → is_some o ≡ true → (x : A) 
 is_some_of None e = absurd (cc)
 is_some_of (Some x) e = (x, refl)
 
+-- a frame whose verdict is `Kept` at a receiver, where its fields say so
+pub keepable_at : {E : Type 0} (r v : ReceiverState E) (f : Fields) → r ≡ v → is_kept (frame_verdict (kept_set v) f) ≡ true → IsKeepable (kept_set r) f
+keepable_at r v f is kept = keepable (kept_set r) f (subst (λ (t : ReceiverState _). is_kept (frame_verdict (kept_set t) f) ≡ true) (sym is) kept)
+
+-- what a receiver is that has kept a frame, and has these entries since
+pub record HasKeptOne {E : Type 0} (P : E → Type 0) (o : Operations E) (spelt : List ℕ → E) (w : ℕ) (point_of : ℕ → E) (count : ℕ) (r : ReceiverState E) (cost : ℕ) (f : Fields) (es : List (ℕ × GroupState E)) : Type 0 where
+  pub set : kept_set (record { session = r.session; limit = r.limit; groups = es }) ≡ keep (kept_set r) f
+  pub order : (order : Order) → HasKept P o spelt w point_of r order → HasKept P o spelt w point_of (record { session = r.session; limit = r.limit; groups = es }) (order ++ ((f.group, f.number) ∷ []))
+  pub again : IsReceiver P o spelt w point_of count (record { session = r.session; limit = r.limit; groups = es }) (Some f.groups) (cost + cond (is_none (state_of r f.group)) (cost_of f.packets f.layers) 0)
+
 module _ {E : Type 0} (P : E → Type 0) (o : Operations E) (spelt : List ℕ → E) (w : ℕ) (point_of : ℕ → E) (count : ℕ) (r : ReceiverState E) (told : Option ℕ) (cost : ℕ)
     (h : IsReceiver P o spelt w point_of count r told cost) (f : Fields) (frame : IsFrame f) (k : IsKeepable (kept_set r) f) where
   opened_is : (g : GroupState E) → state_of r f.group ≡ Some g → open_group (kept_set r) f.group ≡ Some g.packets
@@ -165,14 +175,14 @@ module _ {E : Type 0} (P : E → Type 0) (o : Operations E) (spelt : List ℕ �
     packets_are : gr.state.packets ≡ group_with (kept_set r) f
     packets_are = gr.packets ∙ ap (λ t. with_packet (unwrap_or t (no_packets (header_of f))) f.number f.payload) (sym (found_in r f.group))
 
-    pub set_after : kept_set after_it ≡ keep (kept_set r) f
+    set_after : kept_set after_it ≡ keep (kept_set r) f
     unfolding keep
     set_after =
         ap (λ t. record { session = r.session; limit = r.limit; groups = map (λ (e : ℕ × GroupState E). (e.0, e.1.packets)) t }) gr.entries
         ∙ ap (λ t. record { session = r.session; limit = r.limit; groups = t }) (insert_values (λ (g : GroupState E). g.packets) r.groups f.group gr.state
         ∙ ap (insert_entry nat_cmp (map (λ (e : ℕ × GroupState E). (e.0, e.1.packets)) r.groups) f.group) packets_are)
 
-    pub order_after : (order : Order) → HasKept P o spelt w point_of r order → HasKept P o spelt w point_of after_it (order ++ ((f.group, f.number) ∷ []))
+    order_after : (order : Order) → HasKept P o spelt w point_of r order → HasKept P o spelt w point_of after_it (order ++ ((f.group, f.number) ∷ []))
     order_after order kept group =
         elim (cases_eq f.group group) [
           | inl here ↦
@@ -187,7 +197,7 @@ module _ {E : Type 0} (P : E → Type 0) (o : Operations E) (spelt : List ℕ �
               (subst (λ ns. MatchOption (state_of r group) (ns ≡ []) (λ s. HoldsAfter P o spelt w point_of s ns)) (sym (numbers_other order f.group f.number group ne)) (kept group))
         ]
 
-    pub sound_after : IsKeptSet (kept_set after_it)
+    sound_after : IsKeptSet (kept_set after_it)
     sound_after = subst IsKeptSet (sym set_after) (keep_sound (kept_set r) h.set f frame k)
 
     told_after : Some f.groups ≡ told_by (kept_set after_it)
@@ -199,10 +209,10 @@ module _ {E : Type 0} (P : E → Type 0) (o : Operations E) (spelt : List ℕ �
     cost_by None is = ap (λ n. n + cost_of f.packets f.layers) h.cost_is ∙ sym (ap cost_kept set_after ∙ cost_opened (kept_set r) h.set f frame k (found_in r f.group ∙ ap (option_map (λ (t : GroupState E). t.packets)) is))
     cost_by (Some g) is = ap (λ n. n + 0) h.cost_is ∙ omega arith ∙ sym (ap cost_kept set_after ∙ cost_same (kept_set r) h.set f frame k g.packets (opened_is g is))
 
-    pub cost_after : cost + cond (is_none (state_of r f.group)) (cost_of f.packets f.layers) 0 ≡ cost_kept (kept_set after_it)
+    cost_after : cost + cond (is_none (state_of r f.group)) (cost_of f.packets f.layers) 0 ≡ cost_kept (kept_set after_it)
     cost_after = cost_by (state_of r f.group) refl
 
-    pub sound_again : IsReceiver P o spelt w point_of count after_it (Some f.groups) (cost + cond (is_none (state_of r f.group)) (cost_of f.packets f.layers) 0)
+    sound_again : IsReceiver P o spelt w point_of count after_it (Some f.groups) (cost + cond (is_none (state_of r f.group)) (cost_of f.packets f.layers) 0)
     sound_again = record {
       two = h.two;
       points = h.points;
@@ -212,3 +222,6 @@ module _ {E : Type 0} (P : E → Type 0) (o : Operations E) (spelt : List ℕ �
       told_is = told_after;
       cost_is = cost_after;
     }
+
+    pub kept_one : HasKeptOne P o spelt w point_of count r cost f es
+    kept_one = record { set = set_after; order = order_after; again = sound_again }

@@ -6,7 +6,7 @@ use Rattle.std.proofs.lemmas.List.{length-append, length-drop, length-take-le, t
 use Rattle.std.proofs.lemmas.List.Elements.{recursion_from_All}
 use Rattle.pet_field.specs.Field.{AreSpellings}
 use Rattle.pet_poly.specs.Rows.{words}
-use Rattle.pet_poly.specs.RowLaws.{words_of_spellings}
+use Rattle.pet_poly.specs.laws.RowLaws.{words_of_spellings}
 
 pub take_words : {E : Type 0} (spelt : List ℕ → E) (w n a : ℕ) (bytes : List ℕ) → a ≤ n → take a (words spelt w n bytes) ≡ words spelt w a bytes
 take_words spelt w n zero bytes l = refl

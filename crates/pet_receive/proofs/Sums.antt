@@ -25,8 +25,8 @@ use Rattle.pet_receive.specs.KeptSet.{KeptSet, IsKeptSet, open_group, count_in}
 use Rattle.pet_receive.specs.Arrivals.{GroupState, layers_of}
 use Rattle.pet_receive.specs.ShownBytes.{IsShownIn, IsComplete, shown_in, groups_told}
 use Rattle.pet_receive.specs.Receiving.{is_whole, whole_in, told_by}
-use Rattle.pet_receive.specs.EntryLaws.{all_found, rises_insert, sum_insert}
-use Rattle.pet_receive.specs.LayerSetLaws.{range_more}
+use Rattle.pet_receive.specs.laws.EntryLaws.{all_found, rises_insert, sum_insert}
+use Rattle.pet_receive.specs.laws.LayerSetLaws.{range_more}
 use Rattle.pet_receive.proofs.Received.{tells}
 
 -- ---- counting

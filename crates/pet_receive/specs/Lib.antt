@@ -3,7 +3,5 @@ pub mod Verdicts
 pub mod Arrivals
 pub mod ShownBytes
 pub mod Receiving
-pub mod EntryLaws
-pub mod KeptSetLaws
-pub mod LayerSetLaws
 pub mod Group
+pub mod laws

@@ -26,8 +26,11 @@ use stripe_plan::{LayerSize, Table, count, next_start};
 /// known.
 #[derive(Drop)]
 pub(crate) struct OpenGroup<'f, F: Field> {
+    /// The field of the words.
     field: &'f F,
+    /// The packets.
     packets: PacketSet,
+    /// What is known of each stripe of the plan.
     progress: Progress<'f, F>,
     /// Two bytes a word. A stripe's words stand here from the packet on that makes them known.
     message: Vec<u8>,
@@ -50,7 +53,8 @@ impl<'f, F: Field> OpenGroup<'f, F> {
     ) -> Result<OpenGroup<'f, F>, NoMemory>
         requires width { F.WIDTH ≡ 2 }
         ensures packets { IfOk result (λ g. g.packets ≡ no_packets header.now) }
-        ensures held { IfOk result (λ g. HoldsAfter F.is_element F.ops F.spelt F.WIDTH F.point_of g []) }
+        ensures held { IfOk result (λ g. HoldsAfter F.is_element F.ops F.spelt F.WIDTH
+            F.point_of g []) }
     {
         let lengths = lengths_of_stripes(alloc, &header.table)?;
         let progress = Progress::new(alloc, field, &lengths)?;
@@ -68,15 +72,20 @@ impl<'f, F: Field> OpenGroup<'f, F> {
     pub(crate) fn keep<L: Ledger>(&mut self, number: u16, payload: &[u8], steps: &mut Steps<L>)
         requires width { F.WIDTH ≡ 2 }
         requires points { MAX_PACKETS ≤ F.COUNT }
-        requires held { (numbers : List ℕ) × HoldsAfter F.is_element F.ops F.spelt F.WIDTH F.point_of self.old numbers }
-        requires table { IsTable self.old.packets.header.table.packets (layers_of self.old.packets) }
+        requires held { (numbers : List ℕ) × HoldsAfter F.is_element F.ops F.spelt F.WIDTH
+            F.point_of self.old numbers }
+        requires table { IsTable self.old.packets.header.table.packets
+            (layers_of self.old.packets) }
         requires slots { length self.old.packets.slots ≡ self.old.packets.header.table.packets }
         requires number { number < self.old.packets.header.table.packets }
         requires absent { slot_at self.old.packets number ≡ None }
         requires payload { length payload.now ≡ payload_length_of (layers_of self.old.packets) }
         ensures packets { self.new.packets ≡ with_packet self.old.packets number payload.now }
-        ensures held { (numbers : List ℕ) → HoldsAfter F.is_element F.ops F.spelt F.WIDTH F.point_of self.old numbers → HoldsAfter F.is_element F.ops F.spelt F.WIDTH F.point_of self.new (numbers ++ (number ∷ [])) }
-        ensures cost { steps.new ≤ steps.old + step_bound (count_in self.old.packets) (stripe_lengths (layers_of self.old.packets)) }
+        ensures held { (numbers : List ℕ) → HoldsAfter F.is_element F.ops F.spelt F.WIDTH F.point_of
+            self.old numbers → HoldsAfter F.is_element F.ops F.spelt F.WIDTH F.point_of self.new
+            (numbers ++ (number ∷ [])) }
+        ensures cost { steps.new ≤ steps.old + step_bound (count_in self.old.packets)
+            (stripe_lengths (layers_of self.old.packets)) }
     {
         self.packets.put(number, payload);
         let x = self.field.point(u32::from(number));
@@ -100,9 +109,13 @@ impl<'f, F: Field> OpenGroup<'f, F> {
     pub(crate) fn layer(&self, layer: u8) -> Option<&[u8]>
         requires width { F.WIDTH ≡ 2 }
         requires points { MAX_PACKETS ≤ F.COUNT }
-        requires held { (numbers : List ℕ) × HoldsAfter F.is_element F.ops F.spelt F.WIDTH F.point_of self.now numbers }
+        requires held { (numbers : List ℕ) × HoldsAfter F.is_element F.ops F.spelt F.WIDTH
+            F.point_of self.now numbers }
         ensures shown { IsSome result ↔ IsShownIn self.now.packets layer }
-        ensures bytes { (numbers : List ℕ) → HoldsAfter F.is_element F.ops F.spelt F.WIDTH F.point_of self.now numbers → IfSome result (λ bytes. IsShownBytes F.is_element F.ops F.spelt F.WIDTH F.point_of self.now.packets numbers layer bytes.now) }
+        ensures bytes { (numbers : List ℕ) → HoldsAfter F.is_element F.ops F.spelt F.WIDTH
+            F.point_of self.now numbers → IfSome result
+            (λ bytes. IsShownBytes F.is_element F.ops F.spelt F.WIDTH F.point_of self.now.packets
+            numbers layer bytes.now) }
         ensures agreed { (message : List ℕ) → IsMessage F.WIDTH (layers_of self.now.packets) message → Agrees F.ops F.spelt F.spelling F.WIDTH F.point_of self.now.packets message
             → IfSome result (λ bytes. bytes.now ≡ bytes_of_layer F.WIDTH (layers_of self.now.packets) message layer) }
     {
@@ -132,7 +145,8 @@ fn lengths_of_stripes(alloc: Global, table: &Table) -> Result<Vec<u16>, NoMemory
 
 /// A message of whose words none is known.
 fn empty_message(alloc: Global, table: &Table) -> Result<Vec<u8>, NoMemory>
-    ensures { IfOk result (λ message. message.items ≡ replicate (length (needs_of table.now.layers) * 2) 0) }
+    ensures { IfOk result (λ message. message.items
+        ≡ replicate (length (needs_of table.now.layers) * 2) 0) }
 {
     let words = table.words() as usize;
     Ok(vec![in alloc; 0u8; words * 2]?)

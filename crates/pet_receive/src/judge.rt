@@ -56,7 +56,8 @@ fn shown_next(table: &Table, before: u16) -> LayerSet
 /// Whether a layer is shown by one packet more than `before`, and was not by those.
 fn needs_next(table: &Table, layer: u8, before: u16) -> bool
     requires { layer < length table.now.layers }
-    ensures { result ≡ (nat_lt before (count_of table.now.layers layer) && nat_le (count_of table.now.layers layer) (before + 1)) }
+    ensures { result ≡ (nat_lt before (count_of table.now.layers layer) && nat_le
+        (count_of table.now.layers layer) (before + 1)) }
 {
     let needed = count(table, layer);
     before < needed && u32::from(needed) <= u32::from(before) + 1

@@ -33,11 +33,19 @@ pub(crate) fn keep_frame<'f, F: Field, L: Ledger>(
     requires width { F.WIDTH ≡ 2 }
     requires points { MAX_PACKETS ≤ F.COUNT }
     requires frame { IsFrame (view frame.now) }
-    requires ready { IsReadyFor F.is_element F.ops F.spelt F.WIDTH F.point_of groups.old.entries (view frame.now) }
-    ensures grown { OnOk result (HasGrown F.is_element F.ops F.spelt F.WIDTH F.point_of groups.old.entries (view frame.now) groups.new.entries) }
-    ensures more { IfOk result (λ more. more ≡ cond (is_none (lookup (is_at (nat_cmp frame.now.header.group)) groups.old.entries)) (cost_of frame.now.header.table.packets frame.now.header.table.layers) 0) }
-    ensures cost { OnOk result (steps.new ≤ steps.old + step_bound (unwrap_or (option_map (λ g. count_in g.packets) (lookup (is_at (nat_cmp frame.now.header.group)) groups.old.entries)) 0) (stripe_lengths frame.now.header.table.layers)) }
-    ensures err { OnErr result ((groups.new.entries ≡ groups.old.entries) × (steps.new ≡ steps.old) × (lookup (is_at (nat_cmp frame.now.header.group)) groups.old.entries ≡ None)) }
+    requires ready { IsReadyFor F.is_element F.ops F.spelt F.WIDTH F.point_of groups.old.entries
+        (view frame.now) }
+    ensures grown { OnOk result (HasGrown F.is_element F.ops F.spelt F.WIDTH F.point_of
+        groups.old.entries (view frame.now) groups.new.entries) }
+    ensures more { IfOk result (λ more. more ≡ cond
+        (is_none (lookup (is_at (nat_cmp frame.now.header.group)) groups.old.entries))
+        (cost_of frame.now.header.table.packets frame.now.header.table.layers) 0) }
+    ensures cost { OnOk result (steps.new ≤ steps.old + step_bound
+        (unwrap_or (option_map (λ g. count_in g.packets)
+        (lookup (is_at (nat_cmp frame.now.header.group)) groups.old.entries)) 0)
+        (stripe_lengths frame.now.header.table.layers)) }
+    ensures err { OnErr result ((groups.new.entries ≡ groups.old.entries) × (steps.new ≡ steps.old)
+        × (lookup (is_at (nat_cmp frame.now.header.group)) groups.old.entries ≡ None)) }
 {
     if groups.contains_key(&frame.header.group) {
         keep_in(groups, frame, steps);
@@ -56,7 +64,10 @@ fn open_group<'f, F: Field>(
     header: &Header,
 ) -> Result<(), NoMemory>
     requires width { F.WIDTH ≡ 2 }
-    ensures opened { OnOk result ((g : GroupState F.Elem) × (groups.new.entries ≡ insert_entry nat_cmp groups.old.entries header.now.group g) × (g.packets ≡ no_packets header.now) × HoldsAfter F.is_element F.ops F.spelt F.WIDTH F.point_of g []) }
+    ensures opened { OnOk result ((g : GroupState F.Elem)
+        × (groups.new.entries ≡ insert_entry nat_cmp groups.old.entries header.now.group g)
+        × (g.packets ≡ no_packets header.now)
+        × HoldsAfter F.is_element F.ops F.spelt F.WIDTH F.point_of g []) }
     ensures err { OnErr result (groups.new.entries ≡ groups.old.entries) }
 {
     let open = OpenGroup::open(alloc, field, header)?;
@@ -73,8 +84,10 @@ fn keep_in<'f, F: Field, L: Ledger>(
     requires width { F.WIDTH ≡ 2 }
     requires points { MAX_PACKETS ≤ F.COUNT }
     requires frame { IsFrame (view frame.now) }
-    requires ready { IsReadyFor F.is_element F.ops F.spelt F.WIDTH F.point_of groups.old.entries (view frame.now) }
-    requires open { (g : GroupState F.Elem) × (lookup (is_at (nat_cmp frame.now.header.group)) groups.old.entries ≡ Some g) }
+    requires ready { IsReadyFor F.is_element F.ops F.spelt F.WIDTH F.point_of groups.old.entries
+        (view frame.now) }
+    requires open { (g : GroupState F.Elem) × (lookup (is_at (nat_cmp frame.now.header.group))
+        groups.old.entries ≡ Some g) }
     ensures ordered { IsOrdered nat_cmp groups.old }
     ensures kept { (g : GroupState F.Elem) → lookup (is_at (nat_cmp frame.now.header.group)) groups.old.entries ≡ Some g
         → (h : GroupState F.Elem) × (groups.new.entries ≡ set_value (is_at (nat_cmp frame.now.header.group)) groups.old.entries h) × (h.packets ≡ with_packet g.packets frame.now.number frame.now.payload.now)

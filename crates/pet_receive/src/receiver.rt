@@ -29,10 +29,15 @@ use std::sync::ledger::Ledger;
 /// What was kept of one session, and what it shows.
 #[derive(Drop)]
 pub struct Receiver<'f, F: Field> {
+    /// Where the memory of open groups comes from.
     alloc: Global,
+    /// The field of the words.
     field: &'f F,
+    /// The session's number.
     session: [u8; 8],
+    /// What the open groups may cost.
     limit: u64,
+    /// The open groups by number.
     groups: BTreeMap<u32, OpenGroup<'f, F>>,
     /// How many groups the session has, where a packet is kept.
     told: Option<u32>,
@@ -84,11 +89,17 @@ impl<'f, F: Field> Receiver<'f, F> {
     ) -> Result<Verdict, NoMemory>
         ensures verdict { IfOk result (λ v. v ≡ verdict_of (kept_set self.old) datagram.now) }
         ensures kept { OnOk result (kept_set self.new ≡ after (kept_set self.old) datagram.now) }
-        ensures unchanged { IfOk result (λ v. is_kept v ≡ false → (self.new ≡ self.old) × (steps.new ≡ steps.old)) }
-        ensures memory { OnErr result ((self.new ≡ self.old) × (steps.new ≡ steps.old) × (is_kept (verdict_of (kept_set self.old) datagram.now) ≡ true) × (opens (kept_set self.old) (fields_of datagram.now) ≡ true)) }
+        ensures unchanged { IfOk result (λ v. is_kept v ≡ false → (self.new ≡ self.old)
+            × (steps.new ≡ steps.old)) }
+        ensures memory { OnErr result ((self.new ≡ self.old) × (steps.new ≡ steps.old)
+            × (is_kept (verdict_of (kept_set self.old) datagram.now) ≡ true)
+            × (opens (kept_set self.old) (fields_of datagram.now) ≡ true)) }
         ensures order { IfOk result (λ v. is_kept v ≡ true → (order : Order) → HasKept F.is_element F.ops F.spelt F.WIDTH F.point_of self.old order
             → HasKept F.is_element F.ops F.spelt F.WIDTH F.point_of self.new (order ++ (((fields_of datagram.now).group, (fields_of datagram.now).number) ∷ []))) }
-        ensures cost { IfOk result (λ v. is_kept v ≡ true → steps.new ≤ steps.old + step_bound (count_kept (kept_set self.old) (fields_of datagram.now).group) (stripe_lengths (fields_of datagram.now).layers)) }
+        ensures cost { IfOk result (λ v. is_kept v ≡ true
+            → steps.new ≤ steps.old + step_bound
+            (count_kept (kept_set self.old) (fields_of datagram.now).group)
+            (stripe_lengths (fields_of datagram.now).layers)) }
         ensures sound { IsKeptSet (kept_set self.new) }
     {
         match read_frame(datagram) {
@@ -156,7 +167,7 @@ impl<'f, F: Field> Receiver<'f, F> {
     pub fn kept(&self) -> u32
         ensures { result ≡ kept_in_all (kept_set self.now) }
     {
-        // As in `accept`.
+        // A field is touched, so that what the type promises of itself is known here.
         let _ = &self.told;
         total_kept(&self.groups)
     }
@@ -165,7 +176,7 @@ impl<'f, F: Field> Receiver<'f, F> {
     pub fn shown(&self) -> u32
         ensures { result ≡ shown_in_all (kept_set self.now) }
     {
-        // As in `accept`.
+        // A field is touched, so that what the type promises of itself is known here.
         let _ = &self.told;
         total_shown(&self.groups)
     }
@@ -177,13 +188,21 @@ impl<'f, F: Field> Receiver<'f, F> {
         steps: &mut Steps<L>,
     ) -> Result<Verdict, NoMemory>
         requires frame { IsFrame (view frame.now) }
-        ensures verdict { IfOk result (λ v. v ≡ frame_verdict (kept_set self.old) (view frame.now)) }
-        ensures kept { IfOk result (λ v. is_kept v ≡ true → kept_set self.new ≡ keep (kept_set self.old) (view frame.now)) }
-        ensures unchanged { IfOk result (λ v. is_kept v ≡ false → (self.new ≡ self.old) × (steps.new ≡ steps.old)) }
-        ensures memory { OnErr result ((self.new ≡ self.old) × (steps.new ≡ steps.old) × (is_kept (frame_verdict (kept_set self.old) (view frame.now)) ≡ true) × (opens (kept_set self.old) (view frame.now) ≡ true)) }
+        ensures verdict { IfOk result (λ v. v
+            ≡ frame_verdict (kept_set self.old) (view frame.now)) }
+        ensures kept { IfOk result (λ v. is_kept v ≡ true
+            → kept_set self.new ≡ keep (kept_set self.old) (view frame.now)) }
+        ensures unchanged { IfOk result (λ v. is_kept v ≡ false → (self.new ≡ self.old)
+            × (steps.new ≡ steps.old)) }
+        ensures memory { OnErr result ((self.new ≡ self.old) × (steps.new ≡ steps.old)
+            × (is_kept (frame_verdict (kept_set self.old) (view frame.now)) ≡ true)
+            × (opens (kept_set self.old) (view frame.now) ≡ true)) }
         ensures order { IfOk result (λ v. is_kept v ≡ true → (order : Order) → HasKept F.is_element F.ops F.spelt F.WIDTH F.point_of self.old order
             → HasKept F.is_element F.ops F.spelt F.WIDTH F.point_of self.new (order ++ ((frame.now.header.group, frame.now.number) ∷ []))) }
-        ensures cost { IfOk result (λ v. is_kept v ≡ true → steps.new ≤ steps.old + step_bound (count_kept (kept_set self.old) frame.now.header.group) (stripe_lengths frame.now.header.table.layers)) }
+        ensures cost { IfOk result (λ v. is_kept v ≡ true
+            → steps.new ≤ steps.old + step_bound
+            (count_kept (kept_set self.old) frame.now.header.group)
+            (stripe_lengths frame.now.header.table.layers)) }
         ensures sound { IsKeptSet (kept_set self.new) }
     {
         match self.judge(frame) {
@@ -217,10 +236,13 @@ impl<'f, F: Field> Receiver<'f, F> {
         requires frame { IsFrame (view frame.now) }
         requires kept { is_kept (frame_verdict (kept_set self.old) (view frame.now)) ≡ true }
         ensures kept { OnOk result (kept_set self.new ≡ keep (kept_set self.old) (view frame.now)) }
-        ensures err { OnErr result ((self.new ≡ self.old) × (steps.new ≡ steps.old) × (opens (kept_set self.old) (view frame.now) ≡ true)) }
+        ensures err { OnErr result ((self.new ≡ self.old) × (steps.new ≡ steps.old)
+            × (opens (kept_set self.old) (view frame.now) ≡ true)) }
         ensures order { OnOk result ((order : Order) → HasKept F.is_element F.ops F.spelt F.WIDTH F.point_of self.old order
             → HasKept F.is_element F.ops F.spelt F.WIDTH F.point_of self.new (order ++ ((frame.now.header.group, frame.now.number) ∷ []))) }
-        ensures cost { OnOk result (steps.new ≤ steps.old + step_bound (count_kept (kept_set self.old) frame.now.header.group) (stripe_lengths frame.now.header.table.layers)) }
+        ensures cost { OnOk result (steps.new
+            ≤ steps.old + step_bound (count_kept (kept_set self.old) frame.now.header.group)
+            (stripe_lengths frame.now.header.table.layers)) }
         ensures sound { IsKeptSet (kept_set self.new) }
     {
         let more = keep_frame(self.alloc, self.field, &mut self.groups, frame, steps)?;

@@ -20,7 +20,8 @@ pub(crate) fn write_known<F: Field>(
 )
     requires width { F.WIDTH ≡ 2 }
     requires lengths { lengths_of progress.now ≡ stripe_lengths table.now.layers }
-    requires stands { (points : List (F.Elem × List F.Elem)) × StandsFor F.is_element F.ops progress.now points }
+    requires stands { (points : List (F.Elem × List F.Elem))
+        × StandsFor F.is_element F.ops progress.now points }
     requires room { length message.old ≡ length (needs_of table.now.layers) * 2 }
     requires bytes { All (λ b. b < 256) message.old }
     ensures room { length message.new ≡ length message.old }
@@ -54,11 +55,13 @@ fn write_if_known<F: Field>(
     requires width { F.WIDTH ≡ 2 }
     requires stripe { stripe < length progress.now.stripes }
     requires size { at + length (stripe_of progress.now stripe) ≡ end }
-    requires stands { (points : List (F.Elem × List F.Elem)) × StandsFor F.is_element F.ops progress.now points }
+    requires stands { (points : List (F.Elem × List F.Elem))
+        × StandsFor F.is_element F.ops progress.now points }
     requires room { 2 * end ≤ length message.old }
     ensures written { length (stripe_of progress.now stripe) ≡ progress.now.met
         → All F.is_element (stripe_of progress.now stripe) × (message.new ≡ take (2 * at) message.old ++ flat_map F.spelling (stripe_of progress.now stripe) ++ drop (2 * end) message.old) }
-    ensures same { length (stripe_of progress.now stripe) ≢ progress.now.met → message.new ≡ message.old }
+    ensures same { length (stripe_of progress.now stripe) ≢ progress.now.met
+        → message.new ≡ message.old }
 {
     if end - at == progress.met() {
         write_stripe(field, progress.coefficients(stripe), at as usize, message);
@@ -70,7 +73,8 @@ fn write_stripe<F: Field>(field: &F, stripe: &[F::Elem], at: usize, message: &mu
     requires width { F.WIDTH ≡ 2 }
     requires elements { All F.is_element stripe.now }
     requires room { 2 * (at + length stripe.now) ≤ length message.old }
-    ensures { message.new ≡ take (2 * at) message.old ++ flat_map F.spelling stripe.now ++ drop (2 * (at + length stripe.now)) message.old }
+    ensures { message.new ≡ take (2 * at) message.old ++ flat_map F.spelling stripe.now
+        ++ drop (2 * (at + length stripe.now)) message.old }
 {
     for i in 0..stripe.len() {
         let place = 2 * (at + i);

@@ -12,7 +12,7 @@ use Rattle.pet_receive.specs.Arrivals.{GroupState, layers_of}
 use Rattle.pet_receive.specs.KeptSet.{count_in}
 use Rattle.pet_receive.proofs.Agreement.{agreed_bytes}
 use Rattle.pet_receive.proofs.Holding.{some_inside}
-use Rattle.pet_receive.proofs.Shown.{shown_bytes}
+use Rattle.pet_receive.proofs.LayerBytes.{shown_bytes}
 use Rattle.pet_receive.proofs.group.OpenGroup.layer.Goals as goal
 
 pub returns-clause-bytes : goal.returns-clause-bytes

@@ -8,27 +8,32 @@ use Rattle.pet_receive.specs.declared.verdict.Verdict.{Verdict}
 use Rattle.pet_receive.specs.KeptSet.{IsKeptSet, count_kept}
 use Rattle.pet_receive.specs.Verdicts.{verdict_of, frame_verdict, is_kept, opens}
 use Rattle.pet_receive.specs.Arrivals.{ReceiverState, Order, HasKept, kept_set, stripe_lengths}
-use Rattle.pet_receive.specs.KeptSetLaws.{verdict_read, verdict_damaged, after_other}
+use Rattle.pet_receive.specs.laws.KeptSetLaws.{verdict_read, verdict_damaged, after_other}
 use Rattle.pet_receive.proofs.Accepted.{Answers, verdict_answered, after_answered}
+use Rattle.pet_receive.proofs.receiver.Receiver.accept.Given.{Over}
 use Rattle.pet_receive.proofs.receiver.Receiver.accept.Goals as goal
+use Rattle.pet_receive.proofs.receiver.Receiver.accept.Goals.{After-take}
 
 other_of : {X E : Type 0} (r : Result Verdict X) (old new : ReceiverState E) (s t : ℕ) → IfOk r (λ v. is_kept v ≡ false → (new ≡ old) × (s ≡ t)) → IfOk r (λ v. is_kept v ≡ false → kept_set new ≡ kept_set old)
 other_of (Ok v) old new s t h = λ e. ap kept_set (h e).0
 other_of (Err x) old new s t h = tt
 
+taken : (g : Over) (c : After-take g) → Answers c.take.result (kept_set c.args.self.now) (kept_set c.take.new.self) (view c.in-Ok.frame)
+taken g c = record {
+  verdict = c.take.ensures.verdict;
+  kept = c.take.ensures.kept;
+  other = other_of c.take.result c.args.self.now c.take.new.self c.take.new.steps c.args.steps.now c.take.ensures.unchanged;
+}
+
 pub returns-in-Ok-clause-verdict : goal.returns-in-Ok-clause-verdict
 returns-in-Ok-clause-verdict g c =
-    let old = kept_set c.args.self.now in
-    let f = view c.in-Ok.frame in
-    let a : Answers c.take.result old (kept_set c.take.new.self) f = record { verdict = c.take.ensures.verdict; kept = c.take.ensures.kept; other = other_of c.take.result c.args.self.now c.take.new.self c.take.new.steps c.args.steps.now c.take.ensures.unchanged } in
-    verdict_answered c.take.result old (kept_set c.take.new.self) f c.args.datagram.now c.in-Ok.ensures.fields c.in-Ok.ensures.refused a
+    verdict_answered c.take.result (kept_set c.args.self.now) (kept_set c.take.new.self) (view c.in-Ok.frame) c.args.datagram.now c.in-Ok.ensures.fields c.in-Ok.ensures.refused
+    (taken g (goal.at.returns-in-Ok-clause-verdict g c).After-take)
 
 pub returns-in-Ok-clause-kept : goal.returns-in-Ok-clause-kept
 returns-in-Ok-clause-kept g c =
-    let old = kept_set c.args.self.now in
-    let f = view c.in-Ok.frame in
-    let a : Answers c.take.result old (kept_set c.take.new.self) f = record { verdict = c.take.ensures.verdict; kept = c.take.ensures.kept; other = other_of c.take.result c.args.self.now c.take.new.self c.take.new.steps c.args.steps.now c.take.ensures.unchanged } in
-    after_answered c.take.result old (kept_set c.take.new.self) f c.args.datagram.now c.in-Ok.ensures.fields c.in-Ok.ensures.refused a
+    after_answered c.take.result (kept_set c.args.self.now) (kept_set c.take.new.self) (view c.in-Ok.frame) c.args.datagram.now c.in-Ok.ensures.fields c.in-Ok.ensures.refused
+    (taken g (goal.at.returns-in-Ok-clause-kept g c).After-take)
 
 pub returns-in-Ok-clause-memory : goal.returns-in-Ok-clause-memory
 returns-in-Ok-clause-memory g c =

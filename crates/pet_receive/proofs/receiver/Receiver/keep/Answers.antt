@@ -3,12 +3,13 @@ use Rattle.std.proofs.Common.{◌≡◌, ℕ, ◌+◌, ◌≤◌, List, None, So
 use Rattle.packet_frame.specs.View.{view}
 use Rattle.pet_interp.specs.Progressive.{step_bound}
 use Rattle.pet_receive.specs.KeptSet.{open_group, count_kept, keep}
-use Rattle.pet_receive.specs.Verdicts.{frame_verdict, is_kept, opens}
+use Rattle.pet_receive.specs.Verdicts.{opens}
 use Rattle.pet_receive.specs.Arrivals.{GroupState, ReceiverState, HasKept, kept_set, stripe_lengths}
 use Rattle.pet_receive.specs.Receiving.{IsReceiver}
-use Rattle.pet_receive.specs.KeptSetLaws.{keepable}
-use Rattle.pet_receive.proofs.Received.{is_ready, set_after, order_after, sound_after, sound_again, cost_after, found_in, count_is}
+use Rattle.pet_receive.proofs.Received.{HasKeptOne, keepable_at, is_ready, kept_one, found_in, count_is}
+use Rattle.pet_receive.proofs.receiver.Receiver.keep.Given.{Over}
 use Rattle.pet_receive.proofs.receiver.Receiver.keep.Goals as goal
+use Rattle.pet_receive.proofs.receiver.Receiver.keep.Goals.{In_ok-more}
 
 on_err : {A B : Type 0} (r : Result A B) (P : Type 0) → P → OnErr r P
 on_err (Ok x) P p = tt
@@ -19,7 +20,7 @@ keep_frame-requires-clause-ready g c =
     let F = g.F.Field in
     let r : ReceiverState g.row.F-Elem.Denot = record { session = c.self.inside.session; limit = c.self.inside.limit; groups = c.self.inside.groups.entries } in
     let f = view c.args.frame.now in
-    let k = keepable (kept_set r) f (subst (λ (v : ReceiverState g.row.F-Elem.Denot). is_kept (frame_verdict (kept_set v) f) ≡ true) (sym c.self.view_is) c.requires.kept) in
+    let k = keepable_at r c.args.self.now f c.self.view_is c.requires.kept in
     is_ready F.is_element F.ops F.spelt F.WIDTH F.point_of F.COUNT r c.self.inside.told c.self.inside.cost c.self.invariant f c.requires.frame k
 
 pub returns-in_err-more-clause-err : goal.returns-in_err-more-clause-err
@@ -36,42 +37,37 @@ returns-in_err-more-clause-err g c =
     ) in
     on_err c.from_residual.result ((after ≡ c.args.self.now) × (c.keep_frame.new.steps ≡ c.args.steps.now) × (opens (kept_set c.args.self.now) f ≡ true)) all
 
-pub overflow_add-self : goal.overflow_add-self
-overflow_add-self g c =
+-- ---- a frame that was kept
+
+-- the receiver before the call, as its fields say
+abbrev before : (g : Over) → In_ok-more g → ReceiverState g.row.F-Elem.Denot
+before g c = record { session = c.self.inside.session; limit = c.self.inside.limit; groups = c.self.inside.groups.entries }
+
+after : (g : Over) (c : In_ok-more g)
+    → HasKeptOne g.F.Field.is_element g.F.Field.ops g.F.Field.spelt g.F.Field.WIDTH g.F.Field.point_of g.F.Field.COUNT (before g c) c.self.inside.cost (view c.args.frame.now) c.keep_frame.new.groups.entries
+after g c =
     let F = g.F.Field in
-    let r : ReceiverState g.row.F-Elem.Denot = record { session = c.self.inside.session; limit = c.self.inside.limit; groups = c.self.inside.groups.entries } in
     let f = view c.args.frame.now in
-    let k = keepable (kept_set r) f (subst (λ (v : ReceiverState g.row.F-Elem.Denot). is_kept (frame_verdict (kept_set v) f) ≡ true) (sym c.self.view_is) c.requires.kept) in
-    let cost = cost_after F.is_element F.ops F.spelt F.WIDTH F.point_of F.COUNT r c.self.inside.told c.self.inside.cost c.self.invariant f c.requires.frame k c.keep_frame.new.groups.entries c.in_ok-more.ensures.grown in
-    let sound = sound_after F.is_element F.ops F.spelt F.WIDTH F.point_of F.COUNT r c.self.inside.told c.self.inside.cost c.self.invariant f c.requires.frame k c.keep_frame.new.groups.entries c.in_ok-more.ensures.grown in
-    omega (arith, cost, sound.within, c.in_ok-more.ensures.more, c.self.invariant.fits)
+    let k = keepable_at (before g c) c.args.self.now f c.self.view_is c.requires.kept in
+    kept_one F.is_element F.ops F.spelt F.WIDTH F.point_of F.COUNT (before g c) c.self.inside.told c.self.inside.cost c.self.invariant f c.requires.frame k c.keep_frame.new.groups.entries c.in_ok-more.ensures.grown
+
+pub overflow_add-self : goal.overflow_add-self
+overflow_add-self g c = let again = (after g c).again in omega (arith, again.cost_is, again.set.within, c.in_ok-more.ensures.more, c.self.invariant.fits)
 
 pub invariant_of-self-2 : goal.invariant_of-self-2
 invariant_of-self-2 g c =
     let F = g.F.Field in
-    let r : ReceiverState g.row.F-Elem.Denot = record { session = c.self.inside.session; limit = c.self.inside.limit; groups = c.self.inside.groups.entries } in
-    let f = view c.args.frame.now in
-    let k = keepable (kept_set r) f (subst (λ (v : ReceiverState g.row.F-Elem.Denot). is_kept (frame_verdict (kept_set v) f) ≡ true) (sym c.self.view_is) c.requires.kept) in
-    let again = sound_again F.is_element F.ops F.spelt F.WIDTH F.point_of F.COUNT r c.self.inside.told c.self.inside.cost c.self.invariant f c.requires.frame k c.keep_frame.new.groups.entries c.in_ok-more.ensures.grown in
-    subst (λ n. IsReceiver F.is_element F.ops F.spelt F.WIDTH F.point_of F.COUNT (record { session = c.self.inside.session; limit = c.self.inside.limit; groups = c.keep_frame.new.groups.entries }) (Some f.groups) (c.self.inside.cost + n))
-    (sym c.in_ok-more.ensures.more) again
+    subst (λ n. IsReceiver F.is_element F.ops F.spelt F.WIDTH F.point_of F.COUNT (record { session = c.self.inside.session; limit = c.self.inside.limit; groups = c.keep_frame.new.groups.entries }) (Some c.args.frame.now.header.groups) (c.self.inside.cost + n))
+    (sym c.in_ok-more.ensures.more) (after g (goal.at.invariant_of-self-2 g c).In_ok-more).again
 
 pub returns-clause-kept : goal.returns-clause-kept
 returns-clause-kept g c =
-    let F = g.F.Field in
-    let r : ReceiverState g.row.F-Elem.Denot = record { session = c.self.inside.session; limit = c.self.inside.limit; groups = c.self.inside.groups.entries } in
-    let f = view c.args.frame.now in
-    let k = keepable (kept_set r) f (subst (λ (v : ReceiverState g.row.F-Elem.Denot). is_kept (frame_verdict (kept_set v) f) ≡ true) (sym c.self.view_is) c.requires.kept) in
-    set_after F.is_element F.ops F.spelt F.WIDTH F.point_of F.COUNT r c.self.inside.told c.self.inside.cost c.self.invariant f c.requires.frame k c.keep_frame.new.groups.entries c.in_ok-more.ensures.grown
-    ∙ ap (λ (v : ReceiverState g.row.F-Elem.Denot). keep (kept_set v) f) c.self.view_is
+    (after g (goal.at.returns-clause-kept g c).In_ok-more).set ∙ ap (λ (v : ReceiverState g.row.F-Elem.Denot). keep (kept_set v) (view c.args.frame.now)) c.self.view_is
 
 pub returns-clause-order : goal.returns-clause-order
 returns-clause-order g c order kept =
     let F = g.F.Field in
-    let r : ReceiverState g.row.F-Elem.Denot = record { session = c.self.inside.session; limit = c.self.inside.limit; groups = c.self.inside.groups.entries } in
-    let f = view c.args.frame.now in
-    let k = keepable (kept_set r) f (subst (λ (v : ReceiverState g.row.F-Elem.Denot). is_kept (frame_verdict (kept_set v) f) ≡ true) (sym c.self.view_is) c.requires.kept) in
-    order_after F.is_element F.ops F.spelt F.WIDTH F.point_of F.COUNT r c.self.inside.told c.self.inside.cost c.self.invariant f c.requires.frame k c.keep_frame.new.groups.entries c.in_ok-more.ensures.grown order
+    (after g (goal.at.returns-clause-order g c).In_ok-more).order order
     (subst (λ (v : ReceiverState g.row.F-Elem.Denot). HasKept F.is_element F.ops F.spelt F.WIDTH F.point_of v order) (sym c.self.view_is) kept)
 
 pub returns-clause-cost : goal.returns-clause-cost
@@ -82,9 +78,4 @@ returns-clause-cost g c =
     subst (λ n. c.keep_frame.new.steps ≤ c.args.steps.now + step_bound n (stripe_lengths f.layers)) count c.in_ok-more.ensures.cost
 
 pub returns-clause-sound : goal.returns-clause-sound
-returns-clause-sound g c =
-    let F = g.F.Field in
-    let r : ReceiverState g.row.F-Elem.Denot = record { session = c.self.inside.session; limit = c.self.inside.limit; groups = c.self.inside.groups.entries } in
-    let f = view c.args.frame.now in
-    let k = keepable (kept_set r) f (subst (λ (v : ReceiverState g.row.F-Elem.Denot). is_kept (frame_verdict (kept_set v) f) ≡ true) (sym c.self.view_is) c.requires.kept) in
-    sound_after F.is_element F.ops F.spelt F.WIDTH F.point_of F.COUNT r c.self.inside.told c.self.inside.cost c.self.invariant f c.requires.frame k c.keep_frame.new.groups.entries c.in_ok-more.ensures.grown
+returns-clause-sound g c = (after g (goal.at.returns-clause-sound g c).In_ok-more).again.set

@@ -14,7 +14,8 @@ use Rattle.std.proofs.lemmas.Map.Views.{exact_unsigned_eq}
 use Rattle.std.proofs.lemmas.Slice.Eq.{bytes_eq-Decides}
 use Rattle.std.proofs.lemmas.List.{length-set, length-replicate, get_or-set_same, get_or-set_other, get_or-replicate, get_or_past}
 use Rattle.std.proofs.lemmas.List.Sums.{sum_by-set, sum_by-cons}
-use Rattle.stripe_plan.specs.Same.{same_table, same_table-exact}
+use Rattle.stripe_plan.specs.Same.{same_table}
+use Rattle.stripe_plan.specs.laws.SameLaws.{same_table-exact}
 use Rattle.packet_frame.specs.Frame.{Fields, IsFrame}
 use Rattle.packet_frame.specs.Refusals.{fields_of, first_fault}
 use Rattle.packet_frame.specs.declared.fault.FrameFault.{FrameFault}
@@ -27,7 +28,7 @@ use Rattle.pet_receive.specs.declared.verdict.Verdict.TheVariants.{Damaged, Fore
 use Rattle.pet_receive.specs.declared.verdict.LayerSet.{LayerSet}
 use Rattle.pet_receive.specs.KeptSet.{KeptSet, IsKeptSet, empty_set, IsKeptGroup, open_group, payload_of, count_in, count_kept, kept_in_all, cost_in, cost_kept, header_of, no_packets, group_with, keep}
 use Rattle.pet_receive.specs.Verdicts.{verdict_of, after, after_all, tells_other_count, tells_other_table, tells_other_payload, clashes, opens, is_too_much, newly_shown, layer_set, frame_verdict, is_kept}
-use Rattle.pet_receive.specs.EntryLaws.{lookup_here, lookup_other, rises_insert, sum_insert}
+use Rattle.pet_receive.specs.laws.EntryLaws.{lookup_here, lookup_other, rises_insert, sum_insert}
 
 -- ---- what the verdict Kept tells of a frame
 
