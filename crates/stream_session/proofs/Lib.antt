@@ -1,12 +1,7 @@
 pub mod Above
 pub mod SizesBy
 pub mod Tabled
-pub mod Keeping
+pub mod OneGroupMore
 pub mod Planned
-pub mod Taking
 pub mod Passed
 pub mod Sourced
-pub mod Ending
-pub mod Looking
-pub mod Further
-pub mod Reading

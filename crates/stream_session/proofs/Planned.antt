@@ -13,10 +13,9 @@ use Rattle.layer_split.specs.Faults.{is_too_long, fault_of}
 use Rattle.layer_split.specs.Splitting.{HasAdded, cuts_of, cuts_in}
 use Rattle.stream_session.specs.declared.fault.SessionFault.{SessionFault}
 use Rattle.stream_session.specs.declared.planner.Planner.{Planner}
-use Rattle.stream_session.specs.Tables.{tables_of}
+use Rattle.stream_session.specs.Tables.{tables_of, IsFit}
 use Rattle.stream_session.specs.Refusals.{cost_in, first_above, large_fault, size_fault, fault_after, fault_of_cuts, session_fault}
-use Rattle.stream_session.specs.TableLaws.{IsFit}
-use Rattle.stream_session.specs.FitLaws.{all_fit, all_short}
+use Rattle.stream_session.specs.laws.FitLaws.{all_fit, all_short}
 use Rattle.stream_session.specs.Planning.{HasPlanned, HasTables, HasRefused, KeepsRest, IsLive, table_cost}
 
 some_not_none : {A : Type 0} (x : A) → Some x ≡ None → ⊥

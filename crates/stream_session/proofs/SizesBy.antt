@@ -2,7 +2,7 @@
 use Rattle.std.proofs.Common.{◌≡◌, ℕ, ◌+◌, ◌<◌, ◌≤◌, List, [], ◌∷◌, drop, get_or, length, min, refl, ◌∙◌, ap, arith, inl, inr}
 use Rattle.std.proofs.lemmas.Bool.{cases_lt}
 use Rattle.std.proofs.lemmas.List.{drop_more, drop_all}
-use Rattle.stream_session.specs.TableLaws.{sizes_by}
+use Rattle.stream_session.specs.Tables.{sizes_by}
 
 no_needs : (lengths : List ℕ) → sizes_by lengths [] ≡ []
 no_needs [] = refl

@@ -4,7 +4,10 @@ use Rattle.std.proofs.lemmas.Bool.{cases_lt, lt-ltb, ltb-false}
 use Rattle.std.proofs.lemmas.List.{append-nil, length-append}
 use Rattle.std.specs.Prelude.{nat_lt}
 use Rattle.pet_base.specs.declared.limits.TheConstants.{MAX_STREAM, MAX_PRIORITY_FILE}
-use Rattle.pet_base.specs.Seen.{Seen, Files}
+use Rattle.pet_base.specs.Seen.{Seen, Files, HadFault}
+use Rattle.pet_base.specs.laws.SeenLaws.{HadFault-since}
+use Rattle.pet_base.specs.declared.faults.Stop.{Stop}
+use Rattle.pet_base.specs.declared.faults.Stop.TheVariants as stop
 use Rattle.mpeg_scan.specs.declared.refusal.Scan.{Scan}
 use Rattle.mpeg_scan.specs.declared.refusal.Scan.TheVariants.{TooLong}
 use Rattle.mpeg_scan.specs.Refusals.{Refuses, IsAccepted, max_stream}
@@ -17,9 +20,9 @@ use Rattle.stream_session.specs.declared.pass.StreamFault.{StreamFault}
 use Rattle.stream_session.specs.declared.pass.StreamFault.TheVariants as pass
 use Rattle.stream_session.specs.declared.source.SourceFault.TheVariants as source
 use Rattle.stream_session.specs.Refusals.{session_fault}
-use Rattle.stream_session.specs.Inputs.{IsFile, IsFrontOf}
+use Rattle.command_files.specs.Inputs.{IsFile, IsFrontOf, IsRead, Licensed}
 use Rattle.stream_session.specs.Passing.{IsStreamFault}
-use Rattle.stream_session.specs.Sources.{of_stream, of_priority, BothFiles, IsSourceFault}
+use Rattle.stream_session.specs.Sources.{of_stop, of_stream, of_priority, BothFiles, IsOfSource, IsSourceFault}
 
 -- all of the file was read
 whole_file : (limit : ℕ) (bytes name : List ℕ) (files : Option Files) → length bytes ≤ limit → IsFrontOf limit bytes files name → IsFile files name bytes
@@ -121,6 +124,18 @@ stream_at stream priority file bytes read old between new (pass.Plan fault) judg
     both_files stream priority file bytes read old between _ judged same (whole_file MAX_STREAM bytes stream between.files (short_stream bytes why.0) front)
     (why.0, why.1, subst (λ (p : Priorities). session_fault p (pieces_of bytes) ≡ Some fault) judged.rules why.2)
 stream_at stream priority file bytes read old between new pass.NoMemory judged same front why = tt
+
+-- a fault of the place at the priority file, and one at the stream, where the priority file is accepted
+pub rules_failed : (stream priority : List ℕ) (old new : Seen) (why : Stop) → Licensed (HadFault old new (IsRead priority)) why → IsSourceFault old new stream priority (of_stop why)
+rules_failed stream priority old new stop.NoMemory had = tt
+rules_failed stream priority old new stop.Failed had =
+    HadFault-since old old new (IsRead priority) (IsOfSource old.files stream priority) (omega arith) (λ b at. inl at) had
+
+pub stream_failed : (stream priority file : List ℕ) (read : Priorities) (old between new : Seen) (why : Stop) → IsJudged old.files priority file read → old.faults ≤ between.faults
+    → Licensed (HadFault between new (IsRead stream)) why → IsSourceFault old new stream priority (of_stop why)
+stream_failed stream priority file read old between new stop.NoMemory judged later had = tt
+stream_failed stream priority file read old between new stop.Failed judged later had =
+    HadFault-since old between new (IsRead stream) (IsOfSource old.files stream priority) later (λ b at. inr (at, file, judged.file_is, judged.accepted)) had
 
 -- it is accepted, and answered
 pub answer_at : (stream priority given file bytes : List ℕ) (read : Priorities) (old between : Seen) (P : Priorities → List ℕ → List ℕ → Type 0) → IsJudged old.files priority file read

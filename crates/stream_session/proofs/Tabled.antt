@@ -7,9 +7,9 @@ use Rattle.stripe_plan.specs.declared.layer.LayerSize.{LayerSize}
 use Rattle.stripe_plan.specs.Sizes.{Sizes, IsTable, datagram_length_of}
 use Rattle.priority_file.specs.Priority.{Priorities, is_priority}
 use Rattle.layer_split.specs.Layers.{Cut}
-use Rattle.stream_session.specs.Tables.{sizes_of, table_of}
+use Rattle.stream_session.specs.Tables.{sizes_of, table_of, IsFit}
 use Rattle.stream_session.specs.Refusals.{is_wide}
-use Rattle.stream_session.specs.TableLaws.{IsFit, is_table}
+use Rattle.stream_session.specs.laws.TableLaws.{is_table}
 
 pub made : (priority : Priorities) (cut : Cut) (packets : ℕ) (layers : List LayerSize) (table : Sizes) → packets ≡ priority.packets → layers ≡ sizes_of priority cut → table.packets ≡ packets → table.layers ≡ layers → IsTable packets layers → Some table ≡ (if is_wide priority cut then None else Some (table_of priority cut))
 made priority cut packets layers table p l tp tl is =

@@ -1,13 +1,13 @@
 -- Where a pass stands that marks the groups of a stream as they end, and what it answers at the end. This project's own.
 use Rattle.std.specs.Prelude.{◌≡◌, ℕ, List}
 use Rattle.priority_file.specs.Priority.{Priorities}
-use Rattle.stream_session.specs.declared.groups.GroupCutter.{GroupCutter}
+use Rattle.group_cutter.specs.declared.groups.GroupCutter.{GroupCutter}
 use Rattle.stream_session.specs.declared.mark.GroupMark.{GroupMark}
 use Rattle.stream_session.specs.declared.marking.MarkedPass.{MarkedPass}
 use Rattle.stream_session.specs.declared.marking.MarkedPlan.{MarkedPlan}
 use Rattle.stream_session.specs.Passing.{HasPassed, IsPlanOf}
-use Rattle.stream_session.specs.CutGroups.{CutGroup}
-use Rattle.stream_session.specs.Cutting.{HasCut}
+use Rattle.group_cutter.specs.CutGroups.{CutGroup}
+use Rattle.group_cutter.specs.Cutting.{HasCut}
 use Rattle.stream_session.specs.Marks.{group_marks, marks_of}
 
 -- the cutter has read the stream, and these are the marks of the groups that it gave

@@ -2,7 +2,7 @@
 use Rattle.std.specs.Prelude.{◌≡◌, ◌≢◌, ◌⊎◌, ℕ, List, Option, None, Some}
 use Rattle.pet_base.specs.declared.faults.Stop.{Stop}
 use Rattle.pet_base.specs.declared.faults.Stop.TheVariants as stop
-use Rattle.pet_base.specs.Seen.{Seen, Files, HadFault}
+use Rattle.pet_base.specs.Seen.{Seen, Files, Blame, HadFault}
 use Rattle.mpeg_scan.specs.Refusals.{Refuses, IsAccepted}
 use Rattle.mpeg_scan.specs.Pieces.{pieces_of}
 use Rattle.priority_file.specs.declared.fault.PriorityFault.{PriorityFault}
@@ -18,7 +18,7 @@ use Rattle.stream_session.specs.Tables.{tables_of, cuts_of_stream}
 use Rattle.stream_session.specs.Refusals.{session_fault}
 use Rattle.stream_session.specs.Number.{session_number}
 use Rattle.stream_session.specs.Accepted.{IsAcceptedSession}
-use Rattle.stream_session.specs.Inputs.{IsFile, IsRead}
+use Rattle.command_files.specs.Inputs.{IsFile, IsRead}
 
 -- each cause as one of both files
 abbrev pub of_stop : Stop → SourceFault
@@ -54,11 +54,16 @@ pub record BothFiles (files : Option Files) (stream priority : List ℕ) (P : Li
   pub accepted : refusal_of file ≡ None
   pub holds : P file bytes
 
+-- This was at one of the files. The priority file is judged first: the stream is blamed only where that is accepted.
+abbrev pub IsOfSource : Option Files → List ℕ → List ℕ → Blame → Type 0
+IsOfSource files stream priority blame =
+    IsRead priority blame ⊎ (IsRead stream blame × (file : List ℕ) × IsFile files priority file × (refusal_of file ≡ None))
+
 -- When each fault comes: want of memory at any time, a failure where the place had a fault at one of the files, and else
 -- the first refusal, of the priority file, of the stream, or of the plan.
 abbrev pub IsSourceFault : Seen → Seen → List ℕ → List ℕ → SourceFault → Type 0
 IsSourceFault old new stream priority NoMemory = Unit {0}
-IsSourceFault old new stream priority Failed = HadFault old new (λ b. IsRead stream b ⊎ IsRead priority b)
+IsSourceFault old new stream priority Failed = HadFault old new (IsOfSource old.files stream priority)
 IsSourceFault old new stream priority (Priority fault) =
     (file : List ℕ) × IsFile old.files priority file × (refusal_of file ≡ Some fault)
 IsSourceFault old new stream priority (Stream scan) = BothFiles old.files stream priority (λ file bytes. Refuses bytes scan)

@@ -1,6 +1,6 @@
 -- The tables of a stream's groups: each layer's length is that of the cut, and its need that of the priority. This
 -- project's own.
-use Rattle.std.specs.Prelude.{ℕ, List, [], ◌∷◌, map}
+use Rattle.std.specs.Prelude.{ℕ, List, [], ◌∷◌, map, ◌≡◌, ◌≤◌, length, sum}
 use Rattle.stripe_plan.specs.declared.layer.LayerSize.{LayerSize}
 use Rattle.stripe_plan.specs.Sizes.{Sizes}
 use Rattle.mpeg_scan.specs.Pieces.{pieces_of}
@@ -8,6 +8,7 @@ use Rattle.priority_file.specs.Priority.{Rule, Priorities}
 use Rattle.layer_split.specs.Groups.{groups_of}
 use Rattle.layer_split.specs.Layers.{Cut}
 use Rattle.layer_split.specs.Splitting.{cuts_of}
+use Rattle.pet_base.specs.declared.limits.TheConstants.{MAX_GROUP_BYTES}
 
 -- these lengths, each with the need of its layer
 abbrev pub sizes_with : List ℕ → List Rule → List LayerSize
@@ -27,3 +28,13 @@ tables_of priority cuts = map (table_of priority) cuts
 -- the cuts of a stream's groups
 abbrev pub cuts_of_stream : Priorities → List ℕ → List Cut
 cuts_of_stream priority stream = cuts_of priority (groups_of (pieces_of stream))
+
+-- the cut has a length for each layer of the priority, and is not too long
+pub record IsFit (priority : Priorities) (cut : Cut) : Type 0 where
+  pub count : length cut.lengths ≡ length priority.layers
+  pub bytes : sum cut.lengths ≤ MAX_GROUP_BYTES
+
+-- these lengths, each with its need
+abbrev pub sizes_by : List ℕ → List ℕ → List LayerSize
+sizes_by (bytes ∷ lengths) (need ∷ needs) = record { length = bytes; need = need } ∷ sizes_by lengths needs
+sizes_by _ _ = []

@@ -6,13 +6,13 @@ ghost use Rattle.pet_base.specs.Causes.{Blames};
 ghost use Rattle.pet_base.specs.Seen.{Seen, KeepsOutput, OnlyReads, HadFault};
 ghost use Rattle.priority_file.specs.Priority.{Priorities};
 ghost use Rattle.priority_file.specs.Refusals.{priorities_of};
-ghost use Rattle.stream_session.specs.declared.input.TheConstants.{MAX_PORTION};
-ghost use Rattle.stream_session.specs.Inputs.{IsFrontOf, IsRead, Licensed, HasTakenAll};
+ghost use Rattle.command_files.specs.declared.input.TheConstants.{MAX_PORTION};
+ghost use Rattle.command_files.specs.Inputs.{IsFrontOf, IsRead, Licensed, HasTakenAll};
 ghost use Rattle.stream_session.specs.Sources.{BothFiles, IsSourceFault};
 
-use crate::input::{portion_room, read_file, take_portion};
 use crate::reader::StreamReader;
 use crate::source::SourceFault;
+use command_files::{portion_room, read_file, take_portion};
 use pet_base::{MAX_PRIORITY_FILE, MAX_STREAM, Place, Stop};
 use priority_file::{Priority, read_priority};
 use std::alloc::Global;
@@ -29,7 +29,8 @@ pub(crate) fn read_both<P: Place, R: StreamReader>(
         (both.0 ≡ priorities_of file) × R.answers both.1 (priorities_of file) file bytes)) }
     ensures others { KeepsOutput (P.seen place.old) (P.seen place.new) }
     ensures later { (P.seen place.old).faults ≤ (P.seen place.new).faults }
-    ensures cause { IfErr result (IsSourceFault (P.seen place.old) (P.seen place.new) stream.now priority.now) }
+    ensures cause { IfErr result (IsSourceFault (P.seen place.old) (P.seen place.new) stream.now
+        priority.now) }
 {
     let file = read_file(alloc, priority, u64::from(MAX_PRIORITY_FILE), place)?;
     let rules = read_priority(alloc, &file)?;
@@ -52,7 +53,8 @@ fn read_through<P: Place, R: StreamReader>(
         × R.has_read reader priority.now file.now stream) }
     ensures others { KeepsOutput (P.seen place.old) (P.seen place.new) }
     ensures later { (P.seen place.old).faults ≤ (P.seen place.new).faults }
-    ensures cause { IfErr result (Licensed (HadFault (P.seen place.old) (P.seen place.new) (IsRead name.now))) }
+    ensures cause { IfErr result (Licensed (HadFault (P.seen place.old) (P.seen place.new)
+        (IsRead name.now))) }
 {
     let mut reader = R::begin(alloc, priority, file)?;
     let mut buffer = portion_room(alloc)?;
@@ -73,7 +75,8 @@ fn pass_over<P: Place, R: StreamReader>(
         × ((priority : Priorities) (file : List ℕ) → R.has_read reader.old priority file [] → R.has_read reader.new priority file stream)) }
     ensures others { OnlyReads (P.seen place.old) (P.seen place.new) }
     ensures later { (P.seen place.old).faults ≤ (P.seen place.new).faults }
-    ensures cause { IfErr result (Licensed (HadFault (P.seen place.old) (P.seen place.new) (Blames Read (P.seen place.old).source))) }
+    ensures cause { IfErr result (Licensed (HadFault (P.seen place.old) (P.seen place.new)
+        (Blames Read (P.seen place.old).source))) }
 {
     let mut read = 0u64;
     while read <= MAX_STREAM {

@@ -4,14 +4,11 @@
 //! number. `Planner` makes exactly those tables out of pieces that come one by one, or refuses by exactly that cause; it
 //! holds no bytes of the stream, and one table a group. `Pass` does so for a stream that comes in portions of any size, and
 //! hashes it. `read_source` reads both files of a place, and answers the session that they are, or why they are none.
-//! `GroupCutter` gives a stream's groups with their bytes, each once it has ended, and holds one at a time. `read_marked`
-//! reads as `read_source` does, and gives each group's mark too, by which a later reading can be compared.
+//! `read_marked` reads as `read_source` does, and gives each group's mark too, by which a later reading can be compared.
 #![tactic(auto)]
 
 mod both;
 mod fault;
-mod groups;
-mod input;
 mod mark;
 mod marked;
 mod marking;
@@ -23,8 +20,6 @@ mod source;
 mod total;
 
 pub use fault::SessionFault;
-pub use groups::{Group, GroupCutter};
-pub use input::{MAX_PORTION, portion_room, read_file, take_portion};
 pub use mark::GroupMark;
 pub use marked::{MarkedSource, read_marked};
 pub use pass::{Pass, SessionPlan, StreamFault};
@@ -33,8 +28,6 @@ pub use source::{Source, SourceFault, read_source};
 
 #[cfg(test)]
 mod fixtures;
-#[cfg(test)]
-mod group_tests;
 #[cfg(test)]
 mod mark_tests;
 #[cfg(test)]

@@ -37,7 +37,8 @@ pub fn read_marked<P: Place>(
         × (marked.marks.items ≡ marks_of (priorities_of s.file) s.bytes)) }
     ensures others { KeepsOutput (P.seen place.old) (P.seen place.new) }
     ensures later { (P.seen place.old).faults ≤ (P.seen place.new).faults }
-    ensures cause { IfErr result (IsSourceFault (P.seen place.old) (P.seen place.new) stream.now priority.now) }
+    ensures cause { IfErr result (IsSourceFault (P.seen place.old) (P.seen place.new) stream.now
+        priority.now) }
 {
     let (rules, marked) = read_both::<P, MarkedPass>(alloc, stream, priority, place)?;
     Ok(MarkedSource {

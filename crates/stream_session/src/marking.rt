@@ -1,14 +1,14 @@
 //! The first pass over a stream whose groups are marked.
 ghost use Rattle.std.specs.Prelude.{◌≡◌, ◌++◌, ℕ, List, OnOk};
 ghost use Rattle.priority_file.specs.Priority.{Priorities};
-ghost use Rattle.stream_session.specs.Cutting.{IsCuttable};
+ghost use Rattle.group_cutter.specs.Cutting.{IsCuttable};
 ghost use Rattle.stream_session.specs.Marks.{group_marks, marks_of};
 ghost use Rattle.stream_session.specs.Marking.{AreMarked, HasMarked, IsMarkedPlanOf};
 
-use crate::groups::{Group, GroupCutter};
 use crate::mark::GroupMark;
 use crate::pass::{Pass, SessionPlan, StreamFault};
 use crate::reader::StreamReader;
+use group_cutter::{Group, GroupCutter};
 use pet_base::NoMemory;
 use priority_file::Priority;
 use std::alloc::Global;

@@ -2,9 +2,8 @@
 ghost use Rattle.std.specs.Prelude.{◌≡◌, ◌≤◌, length, Some, None, if◌then◌else◌};
 ghost use Rattle.pet_base.specs.declared.limits.TheConstants.{MAX_LAYERS};
 ghost use Rattle.priority_file.specs.Priority.{Priorities};
-ghost use Rattle.stream_session.specs.Tables.{table_of};
+ghost use Rattle.stream_session.specs.Tables.{table_of, IsFit, sizes_by};
 ghost use Rattle.stream_session.specs.Refusals.{is_wide};
-ghost use Rattle.stream_session.specs.TableLaws.{IsFit, sizes_by};
 ghost use Rattle.stream_session.specs.Planning.{AreOf};
 
 use arrayvec::ArrayVec;

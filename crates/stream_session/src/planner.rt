@@ -7,9 +7,8 @@ ghost use Rattle.layer_split.specs.Groups.{groups_of};
 ghost use Rattle.layer_split.specs.Layers.{Cut};
 ghost use Rattle.layer_split.specs.Splitting.{cuts_of, cuts_in};
 ghost use Rattle.stream_session.specs.declared.fault.SessionFault.{SessionFault};
-ghost use Rattle.stream_session.specs.Tables.{tables_of};
+ghost use Rattle.stream_session.specs.Tables.{tables_of, IsFit};
 ghost use Rattle.stream_session.specs.Refusals.{session_fault, fault_after, fault_of_cuts};
-ghost use Rattle.stream_session.specs.TableLaws.{IsFit};
 ghost use Rattle.stream_session.specs.Planning.{HasPlanned, HasTables, HasRefused, KeepsRest};
 
 use crate::fault::SessionFault;
@@ -53,7 +52,9 @@ impl Planner {
 
     /// Adds the next piece. It fails only for want of memory: a refusal of the pieces is answered at the end.
     pub fn add(&mut self, piece: &Piece) -> Result<(), NoMemory>
-        ensures { OnOk result ((priority : Priorities) (pieces : List Piece) → HasPlanned self.old priority pieces → HasPlanned self.new priority (pieces ++ piece.now ∷ [])) }
+        ensures { OnOk result ((priority : Priorities) (pieces : List Piece)
+            → HasPlanned self.old priority pieces
+            → HasPlanned self.new priority (pieces ++ piece.now ∷ [])) }
     {
         if self.refused.is_some() {
             return Ok(());

@@ -107,7 +107,8 @@ pub fn read_source<P: Place>(
     ensures source { IfOk result (IsSource (P.seen place.old).files stream.now priority.now) }
     ensures others { KeepsOutput (P.seen place.old) (P.seen place.new) }
     ensures later { (P.seen place.old).faults ≤ (P.seen place.new).faults }
-    ensures cause { IfErr result (IsSourceFault (P.seen place.old) (P.seen place.new) stream.now priority.now) }
+    ensures cause { IfErr result (IsSourceFault (P.seen place.old) (P.seen place.new) stream.now
+        priority.now) }
 {
     let (rules, plan) = read_both::<P, Pass>(alloc, stream, priority, place)?;
     Ok(Source::of(rules, plan))

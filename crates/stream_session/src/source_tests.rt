@@ -123,6 +123,16 @@ fn refuses_the_priority_file_first(rt: HostRuntime) -> Result<(), Fail> {
 }
 
 #[test]
+fn refuses_the_priority_file_where_the_stream_is_missing(rt: HostRuntime) -> Result<(), Fail> {
+    let alloc = rt.alloc();
+    let mut place = MemoryPlace::new(alloc, Vec::new(alloc));
+    place.add("p", b"packets").expect(&rt, "a file");
+    let fault = read_source(alloc, "s", "p", &mut place).err();
+    assert_eq!(rt; fault, Some(SourceFault::Priority(PriorityFault::Text)));
+    Ok(())
+}
+
+#[test]
 fn answers_a_failed_call_as_a_failure(rt: HostRuntime) -> Result<(), Fail> {
     let alloc = rt.alloc();
     // the calls are enter, take, take of the one file, and then of the other

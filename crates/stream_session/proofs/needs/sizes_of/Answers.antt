@@ -1,6 +1,6 @@
 -- Nothing is left.
 use Rattle.std.proofs.Common.{◌≡◌, ◌++◌, ◌∙◌, [], length, min, sym, ap, arith, append-nil, drop}
-use Rattle.stream_session.specs.TableLaws.{sizes_by}
+use Rattle.stream_session.specs.Tables.{sizes_by}
 use Rattle.stream_session.proofs.SizesBy.{by_end}
 use Rattle.stream_session.proofs.needs.sizes_of.Goals as goal
 

@@ -1,6 +1,6 @@
 use Rattle.std.proofs.Common.{◌≡◌, ◌++◌, drop}
 use Rattle.arrayvec.specs.ArrayVec.{array_vec_len}
-use Rattle.stream_session.specs.TableLaws.{sizes_by}
+use Rattle.stream_session.specs.Tables.{sizes_by}
 use Rattle.stream_session.proofs.needs.sizes_of.Given as goal
 
 -- the layers so far, and then those of the rest, are those of all

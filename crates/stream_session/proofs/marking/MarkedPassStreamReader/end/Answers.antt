@@ -1,5 +1,5 @@
 use Rattle.mpeg_scan.specs.Pieces.{pieces_of}
-use Rattle.stream_session.specs.FitLaws.{no_cause}
+use Rattle.stream_session.specs.laws.FitLaws.{no_cause}
 use Rattle.stream_session.proofs.marking.MarkedPassStreamReader.end.Goals as goal
 
 pub returns-clause-answer : goal.returns-clause-answer

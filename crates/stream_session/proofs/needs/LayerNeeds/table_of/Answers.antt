@@ -1,7 +1,8 @@
 -- The table of the very layers of the cut.
 use Rattle.std.proofs.Common.{◌≡◌, ◌∙◌, ap, ap₂, refl}
 use Rattle.layer_split.specs.Layers.{Cut}
-use Rattle.stream_session.specs.TableLaws.{sizes_by, by_rules}
+use Rattle.stream_session.specs.laws.TableLaws.{by_rules}
+use Rattle.stream_session.specs.Tables.{sizes_by}
 use Rattle.stream_session.proofs.Tabled.{made, not_made}
 use Rattle.stream_session.proofs.needs.LayerNeeds.table_of.Goals as goal
 

@@ -1,7 +1,7 @@
 -- The first group that is too wide.
 use Rattle.std.proofs.Common.{◌≡◌, ◌∙◌, length, sym, ap, refl, rules, arith}
 use Rattle.std.specs.Prelude.{vec_len}
-use Rattle.stream_session.proofs.Keeping.{is_none, keeps_wide, tables_length}
+use Rattle.stream_session.proofs.OneGroupMore.{is_none, keeps_wide, tables_length}
 use Rattle.stream_session.proofs.planner.Planner.keep_table.Goals as goal
 
 pub returns-in-None-clause-kept : goal.returns-in-None-clause-kept

@@ -1,0 +1,9 @@
+use Rattle.std.proofs.Common.{◌+◌, ◌-◌, vec_len}
+use Rattle.command_files.specs.Inputs.{HasTaken}
+use Rattle.command_files.proofs.input.read_entered.Given as goal
+
+abbrev pub invariant-loop-place : goal.invariant-loop-place
+invariant-loop-place g l = HasTaken l.limit l.bytes.items (g.P.Place.seen l.initial.place) (g.P.Place.seen l.place)
+
+abbrev pub decreases-loop-place : goal.decreases-loop-place
+decreases-loop-place g l = l.limit + 1 - vec_len l.bytes

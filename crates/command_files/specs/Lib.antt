@@ -1,0 +1,6 @@
+pub mod Inputs
+pub mod Outputs
+pub mod Printed
+pub mod Uses
+pub mod Wrote
+pub mod laws

@@ -1,0 +1,5 @@
+pub mod InputLaws
+pub mod OutputLaws
+pub mod PartLaws
+pub mod PrintedLaws
+pub mod WroteLaws

@@ -1,0 +1,4 @@
+pub mod Ending
+pub mod Looking
+pub mod Further
+pub mod Reading

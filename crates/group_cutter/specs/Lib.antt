@@ -1,0 +1,3 @@
+pub mod CutGroups
+pub mod Cutting
+pub mod laws

@@ -1,0 +1,13 @@
+//! The groups of a stream, each with its bytes, as the stream is read.
+//!
+//! `specs/` defines the groups of a stream with their bytes, and which of them had ended before the stream or its groups are
+//! refused. `GroupCutter` gives exactly those, each once it has ended, of a stream that comes in portions of any size, and
+//! holds one at a time.
+#![tactic(auto)]
+
+mod groups;
+
+pub use groups::{Group, GroupCutter};
+
+#[cfg(test)]
+mod group_tests;

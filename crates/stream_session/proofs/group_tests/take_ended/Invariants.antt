@@ -1,6 +1,0 @@
-use Rattle.stream_session.specs.Cutting.{pieces_left}
-use Rattle.stream_session.proofs.group_tests.take_ended.Given as goal
-
--- with each group fewer pieces are left
-abbrev pub decreases-loop-group : goal.decreases-loop-group
-decreases-loop-group l = pieces_left l.cutter

@@ -1,0 +1,7 @@
+pub mod TableLaws
+pub mod FitLaws
+pub mod SessionLaws
+pub mod SourceLaws
+pub mod MarkLaws
+pub mod MessageLaws
+pub mod SessionOfLaws
