@@ -1,0 +1,12 @@
+pub mod PairLaws
+pub mod SumLaws
+pub mod KeptIsMet
+pub mod PacketMore
+pub mod PacketVerdict
+pub mod PacketText
+pub mod DatagramMore
+pub mod AllDatagrams
+pub mod CountsAreMet
+pub mod KeptDatagram
+pub mod DatagramAtEnd
+pub mod FewestStripesLaws
