@@ -1,5 +1,4 @@
-//! What the tests of the commands share: the example session and marks of groups, which were made outside, and `run` on
-//! objects in memory.
+//! What the tests of `run` share: the example session, whose numbers were made outside, and `run` on objects in memory.
 ghost use Rattle.std.specs.Prelude.{◌≡◌, ◌<◌};
 
 use crate::run;
@@ -9,7 +8,6 @@ use std::alloc::{AllocError, Global};
 use std::marker::Brand;
 use std::sync::ledger::{Blank, Ledger};
 use std::test::Fail;
-use stream_session::GroupMark;
 
 /// The example stream.
 pub(crate) const STREAM: [u8; 44] = [
@@ -17,126 +15,30 @@ pub(crate) const STREAM: [u8; 44] = [
     0x55, 0, 0, 1, 0, 0, 0x18, 0x66, 0, 0, 1, 0, 0, 0x18, 0x77, 0x77, 0, 0, 1, 0xB7,
 ];
 
-/// Three groups of 11 bytes, each a group of pictures and an I picture.
-pub(crate) const GROUPS: [u8; 33] = [
-    0, 0, 1, 0xB8, 1, 0, 0, 1, 0, 0, 8, 0, 0, 1, 0xB8, 2, 0, 0, 1, 0, 0, 8, 0, 0, 1, 0xB8, 3, 0, 0,
-    1, 0, 0, 8,
+/// Two groups of 11 bytes, each a group of pictures and an I picture.
+pub(crate) const GROUPS: [u8; 22] = [
+    0, 0, 1, 0xB8, 1, 0, 0, 1, 0, 0, 8, 0, 0, 1, 0xB8, 2, 0, 0, 1, 0, 0, 8,
 ];
 
 /// The example priorities.
 pub(crate) const PRIORITIES: &str =
     "packets = 6\n[[layer]]\nname = \"base\"\nkinds = [\"head\", \"I\"]\nneed = 2\n[[layer]]\nname = \"P\"\nkinds = [\"P\"]\nneed = 3\n[[layer]]\nname = \"B\"\nkinds = [\"B\"]\nneed = 5\n";
 
-/// What packet 0 of the example session begins with, as a file of datagrams has it. The others have other numbers.
-const HEAD: [u8; 45] = [
-    0x00, 0x51, 0x50, 0x45, 0x54, 0x31, 0xA5, 0xAC, 0x94, 0x61, 0xB0, 0x3B, 0xCF, 0x36, 0x00, 0x00,
-    0x00, 0x01, 0x00, 0x00, 0x00, 0x00, 0x00, 0x06, 0x00, 0x00, 0x03, 0x00, 0x00, 0x00, 0x2E, 0x00,
-    0x02, 0x00, 0x00, 0x00, 0x07, 0x00, 0x03, 0x00, 0x00, 0x00, 0x0F, 0x00, 0x05,
-];
+/// The plan of the example.
+pub(crate) const PLAN: &str =
+    "session a5ac9461b03bcf36 groups 1 packets 6\ngroup 0 words 35 stripes 15 bound 16 datagram 81\nlayer 0 base bytes 46 need 2 count 2\nlayer 1 P bytes 7 need 3 count 3\nlayer 2 B bytes 15 need 5 count 5\nlengths 2x12 3x1 5x1 3x1\n";
 
-/// What stands behind the heads of packets 0 to 5.
-const TAILS: [[u8; 38]; 6] = [
-    [
-        0x00, 0x00, 0x00, 0x00, 0x12, 0x01, 0x00, 0x07, 0x00, 0x00, 0x00, 0x00, 0x00, 0x00, 0x11,
-        0x22, 0x01, 0xB8, 0x00, 0x01, 0x08, 0x44, 0x01, 0xB7, 0x01, 0x00, 0x00, 0x00, 0x00, 0x00,
-        0xFC, 0xEE, 0x71, 0x66, 0x0A, 0x12, 0xD2, 0xF2,
-    ],
-    [
-        0x00, 0x04, 0x00, 0x00, 0x12, 0x01, 0x02, 0x07, 0x0F, 0x00, 0x00, 0x04, 0x01, 0xB3, 0x11,
-        0x22, 0x32, 0xB8, 0x00, 0x01, 0x08, 0x44, 0x01, 0xB7, 0x54, 0x10, 0x67, 0x19, 0x6F, 0x77,
-        0x3D, 0xD0, 0x5A, 0xD6, 0x35, 0x25, 0x6A, 0x81,
-    ],
-    [
-        0x00, 0x08, 0x00, 0x00, 0x12, 0x01, 0x04, 0x07, 0x1E, 0x00, 0x00, 0x08, 0x03, 0x66, 0x11,
-        0x22, 0x67, 0xB8, 0x00, 0x01, 0x08, 0x44, 0x01, 0xB7, 0x45, 0x2B, 0x02, 0x6D, 0xFC, 0xE5,
-        0x2C, 0xDB, 0xA9, 0x6E, 0xC3, 0x86, 0xF4, 0x06,
-    ],
-    [
-        0x00, 0x0C, 0x00, 0x00, 0x12, 0x01, 0x06, 0x07, 0x11, 0x00, 0x00, 0x0C, 0x02, 0xD5, 0x11,
-        0x22, 0x54, 0xB8, 0x00, 0x01, 0x08, 0x44, 0x01, 0xB7, 0x10, 0x3B, 0x21, 0x7F, 0x93, 0x92,
-        0x86, 0x79, 0xDC, 0xE3, 0x5D, 0x0F, 0x03, 0x12,
-    ],
-    [
-        0x00, 0x10, 0x00, 0x00, 0x12, 0x01, 0x08, 0x07, 0x3C, 0x00, 0x00, 0x10, 0x06, 0xCC, 0x11,
-        0x22, 0xCD, 0xB8, 0x00, 0x01, 0x08, 0x44, 0x01, 0xB7, 0x01, 0x67, 0x04, 0x68, 0x61, 0xED,
-        0xA2, 0x13, 0x32, 0xA4, 0x03, 0xB4, 0x27, 0xDF,
-    ],
-    [
-        0x00, 0x14, 0x00, 0x00, 0x12, 0x01, 0x0A, 0x07, 0x33, 0x00, 0x00, 0x14, 0x07, 0x7F, 0x11,
-        0x22, 0xFE, 0xB8, 0x00, 0x01, 0x08, 0x44, 0x01, 0xB7, 0x54, 0x77, 0xEB, 0x40, 0x0E, 0x9A,
-        0xF9, 0xE7, 0x35, 0x23, 0x69, 0x07, 0x7D, 0xBC,
-    ],
-];
-
-/// The marks of the example stream, and of that stream with 0x34 at offset 10.
-pub(crate) const EXAMPLE_MARK: GroupMark = GroupMark {
-    length: 44,
-    digest: [0x95, 0xEC, 0x98, 0x51, 0x62, 0xB5, 0xB4, 0x18],
-};
-
-pub(crate) const CHANGED_MARK: GroupMark = GroupMark {
-    length: 44,
-    digest: [0x5C, 0x02, 0x93, 0x2E, 0x5D, 0x5D, 0x06, 0x78],
-};
-
-/// The marks of the three groups of `GROUPS`.
-pub(crate) const FIRST_MARK: GroupMark = GroupMark {
-    length: 11,
-    digest: [0xBA, 0x9B, 0xE9, 0xCE, 0x6C, 0xD4, 0x21, 0x69],
-};
-
-pub(crate) const SECOND_MARK: GroupMark = GroupMark {
-    length: 11,
-    digest: [0x9E, 0x28, 0x34, 0xBC, 0x33, 0x23, 0x0F, 0xBD],
-};
-
-pub(crate) const THIRD_MARK: GroupMark = GroupMark {
-    length: 11,
-    digest: [0x38, 0x7B, 0x49, 0x89, 0x48, 0xD5, 0x4B, 0xBD],
-};
-
-/// The mark of a group that is not found.
-pub(crate) const NO_MARK: GroupMark = GroupMark {
-    length: 0,
-    digest: [0; 8],
-};
-
-/// Packets 0 to 5 of the example session, as a file of datagrams has them.
-pub(crate) fn packets() -> [[u8; 83]; 6] {
-    let mut packets = [[0; 83]; 6];
-    for number in 0..6u8 {
-        packets[usize::from(number)] = packet(number, &TAILS[usize::from(number)]);
-    }
-    packets
-}
-
-fn packet(number: u8, tail: &[u8; 38]) -> [u8; 83] {
-    let mut packet = [0; 83];
-    packet[..45].copy_from_slice(&HEAD);
-    packet[25] = number;
-    packet[45..].copy_from_slice(tail);
-    packet
-}
-
-/// These pieces on end.
-pub(crate) fn joined(alloc: Global, pieces: &[&[u8]]) -> Result<Vec<u8>, AllocError> {
-    let mut bytes = Vec::new(alloc);
-    for piece in pieces {
-        bytes.extend_from_slice(*piece)?;
-    }
-    Ok(bytes)
-}
-
-/// A place that has a stream `s` and priorities `f`, and whose calls of these numbers fail.
+/// A place with a stream `s`, priorities `f` and a file `p`.
 pub(crate) fn place_of(
     alloc: Global,
     stream: &[u8],
     priorities: &str,
-    failing: &[u64],
+    plan: &str,
 ) -> Result<MemoryPlace, Fail> {
-    let mut place = MemoryPlace::new(alloc, Vec::from_slice(alloc, failing)?);
+    let mut place = MemoryPlace::new(alloc, Vec::new(alloc));
     place.add("s", stream).ok().ok_or("memory")?;
     place.add("f", priorities.as_bytes()).ok().ok_or("memory")?;
+    place.add("p", plan.as_bytes()).ok().ok_or("memory")?;
     Ok(place)
 }
 
@@ -148,13 +50,23 @@ pub(crate) fn ends(
     status: Status,
     printed: &str,
 ) -> Result<bool, AllocError> {
+    let mut out = MemorySink::new(alloc, Vec::new(alloc));
+    let told = run_on(alloc, texts, place, &mut out)?;
+    Ok(told == status && out.bytes() == printed.as_bytes())
+}
+
+/// How these words end on the place, with what is printed on the sink.
+pub(crate) fn run_on(
+    alloc: Global,
+    texts: &[&str],
+    place: &mut impl Place,
+    out: &mut MemorySink,
+) -> Result<Status, AllocError> {
     let mut words = Vec::new(alloc);
     for text in texts {
         words.push(String::from_str(alloc, *text)?)?;
     }
-    let mut out = MemorySink::new(alloc, Vec::new(alloc));
-    let told = run_counted::<Brand>(alloc, &words, place, &mut out, Blank::new(1));
-    Ok(told == status && out.bytes() == printed.as_bytes())
+    Ok(run_counted::<Brand>(alloc, &words, place, out, Blank::new(1)))
 }
 
 /// How these words end on the place, with the lines on the sink.

@@ -1,31 +1,32 @@
 //! The top call.
-ghost use Rattle.std.specs.Prelude.{◌≡◌, ◌≢◌, ◌≤◌, ◌↔◌, ℕ, List, [], false, None, Some};
+ghost use Rattle.std.specs.Prelude.{◌≡◌, ◌≢◌, ◌↔◌, ℕ, List, None, Some, false};
 ghost use Rattle.std.specs.Str.{bytes_eq};
-ghost use Rattle.pet_base.specs.Seen.{Seen, Files};
-ghost use Rattle.pet_base.specs.Entries.{datagrams};
-ghost use Rattle.pet_encode.specs.Session.{Session};
+ghost use Rattle.pet_base.specs.OutsideSeen.{outside_seen};
+ghost use Rattle.pet_base.specs.Lent.{seen, AreSame};
+ghost use Rattle.command_files.specs.Printed.{PrintsLine};
+ghost use Rattle.command_plan.specs.Checks.{Checks};
+ghost use Rattle.command_plan.specs.Plans.{Plans};
+ghost use Rattle.command_receive.specs.Receives.{Receives};
+ghost use Rattle.command_send.specs.Sends.{Sends};
 ghost use Rattle.pet_text.specs.Words.{texts_of, command_of};
 ghost use Rattle.pet_text.specs.Lines.{fault_text};
-ghost use Rattle.pet_tool.specs.Check.{Checks, ForCheck, CanCheck, ChecksSession};
-ghost use Rattle.pet_tool.specs.Finished.{Receives, ForReceive};
-ghost use Rattle.pet_tool.specs.Plan.{Plans, ForPlan, CanPlan, PlansSession};
-ghost use Rattle.pet_tool.specs.Receive.{AreGiven, ReceivesSession};
-ghost use Rattle.pet_tool.specs.Reports.{Prints};
-ghost use Rattle.pet_tool.specs.Runs.{Runs};
-ghost use Rattle.pet_tool.specs.Send.{Sends, Costs, ForSend, CanSend, SendsSession};
+ghost use Rattle.pet_tool.specs.Completes.{Completes};
+ghost use Rattle.pet_tool.specs.Does.{Does, Runs};
+ghost use Rattle.pet_tool.specs.Statuses.{status_of_plan, status_of_check, status_of_send, status_of_receive};
 
-use crate::check::check;
-use crate::plan::plan;
-use crate::receive::receive;
-use crate::send::send;
+use crate::statuses::{check_status, plan_status, receive_status, send_status};
 use arrayvec::ArrayVec;
-use pet_base::{Link, Place, Sink, Steps};
+use command_plan::{check, plan};
+use command_receive::receive;
+use command_send::send;
+use pet_base::{Link, Outside, Place, Sink, Steps};
 use pet_text::{Command, End, Status, WordsFault, fault_line, read_words};
 use std::alloc::Global;
 use std::sync::ledger::Ledger;
 
 /// Runs the command that the words give, without the program's name. It reads and writes files of the place, prints to the
 /// output, and counts field steps on the counter that is handed in. The link is not used yet.
+#[tactic(auto, using(crate::proofs::Completing::completes))]
 pub fn run<P: Place, K: Link, S: Sink, L: Ledger>(
     alloc: Global,
     words: &[String],
@@ -36,85 +37,56 @@ pub fn run<P: Place, K: Link, S: Sink, L: Ledger>(
 ) -> Status
     // Words of no form, and nothing else, are refused as usage.
     ensures usage { (result ≡ Status.Usage) ↔ (command_of (texts_of words.now) ≡ None) }
-    ensures refused { (result ≡ Status.Usage) → ((P.seen place.new) ≡ (P.seen place.old)) × Prints [] (fault_text Status.Usage) (S.written out.old) (S.written out.new) (S.faults out.old) (S.faults out.new) }
 
-    // What each status of `plan` tells; and that it is done wherever no cause of another status holds.
-    ensures plan { ForPlan (command_of (texts_of words.now)) (λ stream priority.
-        Plans stream priority (P.seen place.old) (P.seen place.new) (S.written out.old) (S.written out.new) (S.faults out.old) (S.faults out.new) result) }
-    ensures planned { (p b : List ℕ) → ForPlan (command_of (texts_of words.now)) (λ stream priority.
-        CanPlan stream priority p b (P.seen place.old) (P.seen place.new) (S.faults out.old) (S.faults out.new) result → PlansSession p b (S.written out.old) (S.written out.new) result) }
+    // What each status tells, by the command.
+    ensures does { let outside = outside_seen P.Place K.Link S.Sink in
+        Does (command_of (texts_of words.now)) (outside place.old link.old out.old steps.old) (outside place.new link.new out.new steps.new) result }
 
-    // What each status of `check` tells; and that it is done on what `plan` printed.
-    ensures check { ForCheck (command_of (texts_of words.now)) (λ stream priority plan.
-        Checks stream priority plan (P.seen place.old) (P.seen place.new) (S.written out.old) (S.written out.new) (S.faults out.old) (S.faults out.new) result) }
-    ensures checked { (p b : List ℕ) → ForCheck (command_of (texts_of words.now)) (λ stream priority plan.
-        CanCheck stream priority plan p b (P.seen place.old) (P.seen place.new) (S.faults out.old) (S.faults out.new) result → ChecksSession p b (S.written out.old) (S.written out.new) result) }
-
-    // What each status of `send` tells; and that it is done wherever no cause of another status holds.
-    ensures send { ForSend (command_of (texts_of words.now)) (λ stream priority to.
-        Sends stream priority to (P.seen place.old) (P.seen place.new) (S.written out.old) (S.written out.new) (S.faults out.old) (S.faults out.new) result) }
-    ensures sent { (p b : List ℕ) → ForSend (command_of (texts_of words.now)) (λ stream priority to.
-        CanSend stream priority to p b (P.seen place.old) (P.seen place.new) (S.faults out.old) (S.faults out.new) result
-        → SendsSession to p b (P.seen place.old) (P.seen place.new) (S.written out.old) (S.written out.new) result) }
-
-    // How many field steps `send` may count: for each group packets times words.
-    ensures costs { ForSend (command_of (texts_of words.now)) (λ stream priority to. Costs stream priority (P.seen place.old) steps.old steps.new) }
-
-    // What each status of `receive` tells, whatever the datagrams are.
-    ensures receive { ForReceive (command_of (texts_of words.now)) (λ from session layers.
-        Receives session from layers (P.seen place.old) (P.seen place.new) (S.written out.old) (S.written out.new) (S.faults out.old) (S.faults out.new) steps.old steps.new result) }
-
-    // The headline.
-    ensures headline { (s : Session) (files : Files) (bytes : List ℕ) → ForReceive (command_of (texts_of words.now)) (λ from session layers. session ≡ s.number
-        → AreGiven s from layers files bytes (P.seen place.old) (P.seen place.new) (S.faults out.old) (S.faults out.new) result
-        → ReceivesSession s layers files (datagrams bytes) (P.seen place.new) (S.written out.old) (S.written out.new) result) }
-    ensures link { K.seen link.new ≡ K.seen link.old }
-    ensures later { S.faults out.old ≤ S.faults out.new }
+    // Where no cause of another status holds: each command is done, and `receive` meets the headline.
+    ensures completes { let outside = outside_seen P.Place K.Link S.Sink in
+        Completes (command_of (texts_of words.now)) (outside place.old link.old out.old steps.old) (outside place.new link.new out.new steps.new) result }
 {
-    let _ = link;
-    run_words(alloc, words, place, out, steps)
+    let mut outside = Outside {
+        place,
+        link,
+        out,
+        steps,
+    };
+    run_words(alloc, words, &mut outside)
 }
 
 /// Reads the words, and runs the command that they give.
-fn run_words<P: Place, S: Sink, L: Ledger>(
+fn run_words<P: Place, K: Link, S: Sink, L: Ledger>(
     alloc: Global,
     words: &[String],
-    place: &mut P,
-    out: &mut S,
-    steps: &mut Steps<L>,
+    outside: &mut Outside<P, K, S, L>,
 ) -> Status
     ensures usage { (result ≡ Status.Usage) ↔ (command_of (texts_of words.now) ≡ None) }
-    ensures refused { (result ≡ Status.Usage) → ((P.seen place.new) ≡ (P.seen place.old)) × Prints [] (fault_text Status.Usage) (S.written out.old) (S.written out.new) (S.faults out.old) (S.faults out.new) }
-    ensures runs { Runs (command_of (texts_of words.now)) (P.seen place.old) (P.seen place.new) (S.written out.old) (S.written out.new) (S.faults out.old) (S.faults out.new) steps.old steps.new result }
-    ensures later { S.faults out.old ≤ S.faults out.new }
+    ensures does { Does (command_of (texts_of words.now)) (seen outside.old)
+        (seen outside.new) result }
+    ensures same { AreSame outside.old outside.new }
 {
     match read_words(alloc, words) {
-        Ok(command) => run_command(alloc, &command, place, out, steps),
-        Err(WordsFault::Usage) => tell(Status::Usage, out),
-        Err(WordsFault::NoMemory) => tell(Status::NoMemory, out),
+        Ok(command) => run_command(alloc, &command, outside),
+        Err(WordsFault::Usage) => tell(Status::Usage, outside),
+        Err(WordsFault::NoMemory) => tell(Status::NoMemory, outside),
     }
 }
 
 /// Runs a command that words give.
-fn run_command<P: Place, S: Sink, L: Ledger>(
+fn run_command<P: Place, K: Link, S: Sink, L: Ledger>(
     alloc: Global,
     command: &Command,
-    place: &mut P,
-    out: &mut S,
-    steps: &mut Steps<L>,
+    outside: &mut Outside<P, K, S, L>,
 ) -> Status
     requires given { (words : List (List ℕ)) × (command_of words ≡ Some command.now) }
-    ensures plan { ForPlan (Some command.now) (λ stream priority. Plans stream priority (P.seen place.old) (P.seen place.new) (S.written out.old) (S.written out.new) (S.faults out.old) (S.faults out.new) result) }
-    ensures check { ForCheck (Some command.now) (λ stream priority plan. Checks stream priority plan (P.seen place.old) (P.seen place.new) (S.written out.old) (S.written out.new) (S.faults out.old) (S.faults out.new) result) }
-    ensures send { ForSend (Some command.now) (λ stream priority to. Sends stream priority to (P.seen place.old) (P.seen place.new) (S.written out.old) (S.written out.new) (S.faults out.old) (S.faults out.new) result) }
-    ensures costs { ForSend (Some command.now) (λ stream priority to. Costs stream priority (P.seen place.old) steps.old steps.new) }
-    ensures receive { ForReceive (Some command.now) (λ from session layers. Receives session from layers (P.seen place.old) (P.seen place.new) (S.written out.old) (S.written out.new) (S.faults out.old) (S.faults out.new) steps.old steps.new result) }
+    ensures does { Does (Some command.now) (seen outside.old) (seen outside.new) result }
     ensures known { result ≢ Status.Usage }
-    ensures later { S.faults out.old ≤ S.faults out.new }
+    ensures same { AreSame outside.old outside.new }
 {
     match command {
         Command::Plan { stream, priority } => {
-            run_plan(alloc, stream.as_str(), priority.as_str(), place, out)
+            run_plan(alloc, stream.as_str(), priority.as_str(), outside)
         }
         Command::Check {
             stream,
@@ -125,8 +97,7 @@ fn run_command<P: Place, S: Sink, L: Ledger>(
             stream.as_str(),
             priority.as_str(),
             plan.as_str(),
-            place,
-            out,
+            outside,
         ),
         Command::Send {
             stream,
@@ -137,124 +108,116 @@ fn run_command<P: Place, S: Sink, L: Ledger>(
             stream.as_str(),
             priority.as_str(),
             file_name(to),
-            place,
-            out,
-            steps,
+            outside,
         ),
         Command::Receive {
             from,
             session,
             layers,
-        } => run_receive(
-            alloc,
-            file_name(from),
-            *session,
-            layers.as_str(),
-            place,
-            out,
-            steps,
-        ),
+        } => run_receive(alloc, file_name(from), *session, layers.as_str(), outside),
     }
 }
 
 /// The name of a file that datagrams come from or go to.
-fn file_name(from: &End) -> &str
-    ensures { from.now ≡ End.File result.now }
+fn file_name(end: &End) -> &str
+    ensures { end.now ≡ End.File result.now }
 {
-    match from {
+    match end {
         End::File(name) => name.as_str(),
     }
 }
 
 /// Runs `plan`, and prints the line of its status.
-fn run_plan<P: Place, S: Sink>(
+fn run_plan<P: Place, K: Link, S: Sink, L: Ledger>(
     alloc: Global,
     stream: &str,
     priority: &str,
-    place: &mut P,
-    out: &mut S,
+    outside: &mut Outside<P, K, S, L>,
 ) -> Status
-    ensures plan { Plans stream.now priority.now (P.seen place.old) (P.seen place.new) (S.written out.old) (S.written out.new) (S.faults out.old) (S.faults out.new) result }
+    ensures does { Runs (Plans stream.now priority.now) status_of_plan (seen outside.old)
+        (seen outside.new) result }
     ensures known { result ≢ Status.Usage }
-    ensures later { S.faults out.old ≤ S.faults out.new }
+    ensures same { AreSame outside.old outside.new }
 {
-    let status = plan(alloc, stream, priority, place, out);
-    tell(status, out)
+    let end = plan(alloc, stream, priority, outside);
+    tell(plan_status(&end), outside)
 }
 
 /// Runs `check`, and prints the line of its status.
-fn run_check<P: Place, S: Sink>(
+fn run_check<P: Place, K: Link, S: Sink, L: Ledger>(
     alloc: Global,
     stream: &str,
     priority: &str,
     plan: &str,
-    place: &mut P,
-    out: &mut S,
+    outside: &mut Outside<P, K, S, L>,
 ) -> Status
-    ensures check { Checks stream.now priority.now plan.now (P.seen place.old) (P.seen place.new) (S.written out.old) (S.written out.new) (S.faults out.old) (S.faults out.new) result }
+    ensures does { Runs (Checks stream.now priority.now plan.now) status_of_check (seen outside.old)
+        (seen outside.new) result }
     ensures known { result ≢ Status.Usage }
-    ensures later { S.faults out.old ≤ S.faults out.new }
+    ensures same { AreSame outside.old outside.new }
 {
-    let status = check(alloc, stream, priority, plan, place, out);
-    tell(status, out)
+    let end = check(alloc, stream, priority, plan, outside);
+    tell(check_status(&end), outside)
 }
 
 /// Runs `send`, and prints the line of its status.
-fn run_send<P: Place, S: Sink, L: Ledger>(
+fn run_send<P: Place, K: Link, S: Sink, L: Ledger>(
     alloc: Global,
     stream: &str,
     priority: &str,
     to: &str,
-    place: &mut P,
-    out: &mut S,
-    steps: &mut Steps<L>,
+    outside: &mut Outside<P, K, S, L>,
 ) -> Status
     requires differ { bytes_eq to.now stream.now ≡ false }
-    ensures send { Sends stream.now priority.now to.now (P.seen place.old) (P.seen place.new) (S.written out.old) (S.written out.new) (S.faults out.old) (S.faults out.new) result }
-    ensures costs { Costs stream.now priority.now (P.seen place.old) steps.old steps.new }
+    ensures does { Runs (Sends stream.now priority.now to.now) status_of_send (seen outside.old)
+        (seen outside.new) result }
     ensures known { result ≢ Status.Usage }
-    ensures later { S.faults out.old ≤ S.faults out.new }
+    ensures same { AreSame outside.old outside.new }
 {
-    let status = send(alloc, stream, priority, to, place, out, steps);
-    tell(status, out)
+    let end = send(alloc, stream, priority, to, outside);
+    tell(send_status(&end), outside)
 }
 
 /// Runs `receive`, and prints the line of its status.
-fn run_receive<P: Place, S: Sink, L: Ledger>(
+fn run_receive<P: Place, K: Link, S: Sink, L: Ledger>(
     alloc: Global,
     from: &str,
     session: [u8; 8],
     layers: &str,
-    place: &mut P,
-    out: &mut S,
-    steps: &mut Steps<L>,
+    outside: &mut Outside<P, K, S, L>,
 ) -> Status
-    ensures receive { Receives session from.now layers.now (P.seen place.old) (P.seen place.new) (S.written out.old) (S.written out.new) (S.faults out.old) (S.faults out.new) steps.old steps.new result }
+    ensures does { Runs (Receives from.now session layers.now) status_of_receive (seen outside.old)
+        (seen outside.new) result }
     ensures known { result ≢ Status.Usage }
-    ensures later { S.faults out.old ≤ S.faults out.new }
+    ensures same { AreSame outside.old outside.new }
 {
-    let status = receive(alloc, from, session, layers, place, out, steps);
-    tell(status, out)
+    let end = receive(alloc, from, session, layers, outside);
+    tell(receive_status(&end), outside)
 }
 
 /// Prints the line that tells of the status, where it has one. A failure of the output does not change the status.
-fn tell<S: Sink>(status: Status, out: &mut S) -> Status
+fn tell<P: Place, K: Link, S: Sink, L: Ledger>(
+    status: Status,
+    outside: &mut Outside<P, K, S, L>,
+) -> Status
     ensures status { result ≡ status }
-    ensures prints { Prints [] (fault_text status) (S.written out.old) (S.written out.new) (S.faults out.old) (S.faults out.new) }
-    ensures later { S.faults out.old ≤ S.faults out.new }
+    ensures prints { PrintsLine (fault_text status) (seen outside.old) (seen outside.new) }
+    ensures same { AreSame outside.old outside.new }
 {
     let mut line: ArrayVec<u8, 64> = ArrayVec::new();
     fault_line(&status, &mut line);
-    put_line(line.as_slice(), out);
+    put_line(line.as_slice(), outside);
     status
 }
 
 /// Prints a line, where it is not empty.
-fn put_line<S: Sink>(line: &[u8], out: &mut S)
-    ensures prints { Prints [] line.now (S.written out.old) (S.written out.new) (S.faults out.old) (S.faults out.new) }
-    ensures later { S.faults out.old ≤ S.faults out.new }
+fn put_line<P: Place, K: Link, S: Sink, L: Ledger>(line: &[u8], outside: &mut Outside<P, K, S, L>)
+    ensures prints { PrintsLine line.now (seen outside.old) (seen outside.new) }
+    ensures same { AreSame outside.old outside.new }
 {
-    if !line.is_empty() {
-        let _ = out.put(line);
+    if line.is_empty() {
+        return;
     }
+    // the line is the last thing that is printed, and a status stays what it is where its line cannot be
+    let _ = outside.out.put(line);
 }

@@ -1,6 +1,10 @@
-use Rattle.pet_tool.proofs.Telling.{Prints-put}
+use Rattle.std.proofs.Common.{refl}
+use Rattle.command_files.specs.laws.PrintedLaws.{line_put}
 use Rattle.pet_tool.proofs.top.put_line.Goals as goal
 
-pub returns-then-not-is_empty-clause-prints : goal.returns-then-not-is_empty-clause-prints
-returns-then-not-is_empty-clause-prints g c =
-    Prints-put c.put.result c.args.line.now (g.S.Sink.written c.args.out.now) (g.S.Sink.written c.put.new.self) (g.S.Sink.faults c.args.out.now) (g.S.Sink.faults c.put.new.self) c.put.ensures.written c.put.ensures.part c.put.ensures.cause
+pub returns-clause-prints : goal.returns-clause-prints
+returns-clause-prints g c =
+    let out = c.args.outside.now.out.now in
+    let put =
+    line_put c.put.result c.args.line.now (g.S.Sink.written out) (g.S.Sink.written c.put.new.self) (g.S.Sink.faults out) (g.S.Sink.faults c.put.new.self) c.put.ensures.written c.put.ensures.part c.put.ensures.cause in
+    record { place = refl; link = refl; steps = refl; later = c.put.ensures.cause.later; front = put.0; whole = put.1 }

@@ -1,0 +1,7 @@
+pub mod PlanTexts
+pub mod PutTexts
+pub mod PlanEnds
+pub mod Starts
+pub mod GroupCertificates
+pub mod AnswersThrough
+pub mod CheckCauses

@@ -1,0 +1,10 @@
+pub mod SessionPlan
+pub mod Plans
+pub mod Planned
+pub mod Least
+pub mod Certified
+pub mod Checks
+pub mod Checked
+pub mod Checking
+pub mod Ends
+pub mod laws

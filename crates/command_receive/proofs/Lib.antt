@@ -1,0 +1,3 @@
+mod DatagramsSoFar
+mod FilesRead
+mod Ends

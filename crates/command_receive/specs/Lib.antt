@@ -1,0 +1,6 @@
+pub mod Opened
+pub mod SoFar
+pub mod Numbers
+pub mod Receives
+pub mod ReceivesSession
+pub mod laws

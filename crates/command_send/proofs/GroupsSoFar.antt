@@ -1,0 +1,222 @@
+-- The groups that the second pass has sent, and one group more.
+use Rattle.std.proofs.Common.{◌≡◌, ℕ, zero, suc, ◌+◌, ◌<◌, ◌≤◌, List, [], ◌∷◌, ◌++◌, length, map, take, drop, get_or, Option, Some, None, refl, sym, ◌∙◌, ap, subst, arith, inl, inr, append_assoc}
+use Rattle.std.specs.Prelude.{slice_get, sum_by, All, is_some, false}
+use Rattle.std.specs.List.{flat_map}
+use Rattle.std.proofs.lemmas.Bool.{cases_lt}
+use Rattle.std.proofs.lemmas.List.{append-nil, length-append, length-map, map_push, get_or_append_left, get_or_past, take-append-drop, take_more, length-take-le, get_or-append-add}
+use lib.Seq.{get_or-append_seam}
+use Rattle.std.proofs.lemmas.List.Sums.{sum_by-cons}
+use Rattle.std.proofs.lemmas.Grind.{flat_map-append}
+use Rattle.pet_base.specs.Seen.{Seen}
+use Rattle.stripe_plan.specs.Sizes.{Sizes}
+use Rattle.priority_file.specs.Priority.{Priorities}
+use Rattle.pet_encode.specs.Encoding.{Encoding}
+use Rattle.stream_session.specs.declared.mark.GroupMark.{GroupMark}
+use Rattle.stream_session.specs.declared.source.Source.{Source}
+use Rattle.group_cutter.specs.CutGroups.{CutGroup}
+use Rattle.group_cutter.specs.Cutting.{HasCut, HaveEnded, AreAll, cut_groups, pieces_left}
+use Rattle.group_cutter.specs.laws.EndedLaws.{given_ended, ended_longer, ended_before}
+use Rattle.group_cutter.specs.declared.groups.GroupCutter.{GroupCutter}
+use Rattle.group_cutter.specs.laws.FilledLaws.{IsFilled, given_filled}
+use Rattle.group_cutter.specs.laws.FittingLaws.{IsWhole, given_whole}
+use Rattle.stream_session.specs.Marks.{mark_of, no_mark, mark_at, group_marks}
+use Rattle.stream_session.specs.Tables.{table_of}
+use Rattle.command_send.specs.declared.sent_group.Change.{Change}
+use Rattle.command_send.specs.declared.second.SentGroups.{SentGroups}
+use Rattle.session_packets.specs.Packets.{group_entries}
+use Rattle.command_files.specs.Outputs.{Puts, PutsPart}
+use Rattle.command_send.specs.Sending.{encoding_of, encodings_from, sent_text, words_cost, AgreeBelow, HaveTables, HasSentSome, IsPart, AreFound}
+use Rattle.command_send.specs.Second.{HasGone, HasReached, Knows, cost_at, cost_left, SendsGroup, SendsPart}
+use Rattle.command_files.specs.laws.PartLaws.{part_after}
+use Rattle.command_files.specs.laws.OutputLaws.{puts_then}
+use Rattle.command_send.proofs.FoundGroups.{found_of_all}
+use Rattle.command_send.proofs.EncodedGroup.{front_more}
+
+-- the steps that one group may take, and those of the groups after it
+pub cost_step : (tables : List Sizes) (n : ℕ) → cost_at (slice_get tables n) + cost_left tables (suc n) ≡ cost_left tables n
+unfolding cost_left
+cost_step [] zero = refl
+cost_step [] (suc n) = refl
+cost_step (t ∷ tables) zero = sym (sum_by-cons words_cost t tables)
+cost_step (t ∷ tables) (suc n) = cost_step tables n
+
+pub cost_next : (tables : List Sizes) (n : ℕ) → cost_at (slice_get tables n) + cost_left tables (n + 1) ≡ cost_left tables n
+cost_next tables n = let more : n + 1 ≡ suc n = omega arith in ap (λ k. cost_at (slice_get tables n) + cost_left tables k) more ∙ cost_step tables n
+
+pub cost_all : (tables : List Sizes) → cost_left tables 0 ≡ sum_by words_cost tables
+unfolding cost_left
+cost_all tables = refl
+
+encodings_append : (source : Source) (first : ℕ) (a b : List CutGroup) → encodings_from source first (a ++ b) ≡ encodings_from source first a ++ encodings_from source (first + length a) b
+encodings_append source first [] b = ap (λ (k : ℕ). encodings_from source k b) (omega arith)
+encodings_append source first (g ∷ a) b =
+    let along : first + 1 + length a ≡ first + length (g ∷ a) = omega arith in
+    ap (λ (t : List Encoding). encoding_of source first g ∷ t) (encodings_append source (first + 1) a b)
+    ∙ ap (λ (k : ℕ). encoding_of source first g ∷ (encodings_from source (first + 1) a ++ encodings_from source k b)) along
+
+-- the entries of more groups
+pub text_append : (source : Source) (a b : List CutGroup) → sent_text source (a ++ b) ≡ sent_text source a ++ flat_map group_entries (encodings_from source (length a) b)
+unfolding sent_text
+text_append source a b =
+    let at : 0 + length a ≡ length a = omega arith in
+    ap (flat_map group_entries) (encodings_append source 0 a b) ∙ ap (λ (k : ℕ). flat_map group_entries (encodings_from source 0 a ++ encodings_from source k b)) at
+    ∙ flat_map-append group_entries (encodings_from source 0 a) (encodings_from source (length a) b)
+
+pub text_more : (source : Source) (groups : List CutGroup) (g : CutGroup) → sent_text source (groups ++ g ∷ []) ≡ sent_text source groups ++ group_entries (encoding_of source (length groups) g)
+text_more source groups g =
+    text_append source groups (g ∷ []) ∙ ap (λ (t : List ℕ). sent_text source groups ++ t) (append-nil (group_entries (encoding_of source (length groups) g)))
+
+pub text_none : (source : Source) → sent_text source [] ≡ []
+unfolding sent_text
+text_none source = refl
+
+-- the marks of the groups before
+mark_left : (groups : List CutGroup) (g : CutGroup) (k : ℕ) → k < length groups → mark_at (group_marks (groups ++ g ∷ [])) k ≡ mark_at (group_marks groups) k
+mark_left groups g k lt =
+    ap (λ ms. get_or ms k no_mark) (map_push (λ (x : CutGroup). mark_of x.bytes) groups g)
+    ∙ get_or_append_left (group_marks groups) (mark_of g.bytes ∷ []) no_mark k (omega (arith, lt, length-map groups (λ (x : CutGroup). mark_of x.bytes)))
+
+-- and of the last
+pub mark_last : (groups : List CutGroup) (g : CutGroup) → mark_at (group_marks (groups ++ g ∷ [])) (length groups) ≡ mark_of g.bytes
+mark_last groups g =
+    ap (λ ms. get_or ms (length groups) no_mark) (map_push (λ (x : CutGroup). mark_of x.bytes) groups g)
+    ∙ ap (λ n. get_or (group_marks groups ++ mark_of g.bytes ∷ []) n no_mark) (sym (length-map groups (λ (x : CutGroup). mark_of x.bytes)))
+    ∙ get_or-append_seam (group_marks groups) (mark_of g.bytes) [] no_mark
+
+-- beyond the groups there is none
+pub mark_past : (groups : List CutGroup) (k : ℕ) → length groups ≤ k → mark_at (group_marks groups) k ≡ no_mark
+mark_past groups k le = get_or_past (group_marks groups) k no_mark (omega (arith, le, length-map groups (λ (x : CutGroup). mark_of x.bytes)))
+
+agree_more : (marks : List GroupMark) (groups : List CutGroup) (g : CutGroup) → AgreeBelow marks groups (length groups) → mark_at marks (length groups) ≡ mark_of g.bytes → AgreeBelow marks (groups ++ g ∷ []) (length (groups ++ g ∷ []))
+agree_more marks groups g agree same k lt = elim (cases_lt k (length groups)) [
+  | inl below ↦ agree k below ∙ sym (mark_left groups g k below)
+  | inr from ↦
+      let at : length groups ≡ k = omega (arith, lt, from, length-append groups (g ∷ [])) in
+      subst (λ n. mark_at marks n ≡ mark_at (group_marks (groups ++ g ∷ [])) n) at (same ∙ sym (mark_last groups g))
+]
+
+tables_more : (source : Source) (groups : List CutGroup) (g : CutGroup) → HaveTables source groups → slice_get source.tables.items (length groups) ≡ Some (table_of source.priority g.cut) → HaveTables source (groups ++ g ∷ [])
+tables_more source groups g h at =
+    let table : CutGroup → Sizes = λ x. table_of source.priority x.cut in
+    let first : List Sizes = map table groups in
+    let more = front_more first h.0 (table g)
+    (ap (λ ts. slice_get ts (length first)) (sym h.1) ∙ (ap (slice_get source.tables.items) (length-map groups table) ∙ at)) in
+    (more.0, h.1 ∙ (more.1 ∙ ap (λ l. l ++ more.0) (sym (map_push table groups g))))
+
+-- one group more was sent
+pub some_more : (source : Source) (marks : List GroupMark) (groups : List CutGroup) (g : CutGroup) (first before after : Seen) → HasSentSome source marks groups first before → SendsGroup source marks (length groups) g before after → after.target ≡ before.target → HasSentSome source marks (groups ++ g ∷ []) first after
+some_more source marks groups g first before after h sends target = record {
+  agree = agree_more marks groups g h.agree sends.0.mark;
+  tables = tables_more source groups g h.tables sends.0.table;
+  target = target ∙ h.target;
+  puts = subst (λ (t : List ℕ). Puts t first after) (sym (text_more source groups g)) (puts_then (sent_text source groups) (group_entries (encoding_of source (length groups) g)) first before after h.target h.puts sends.1);
+}
+
+-- a front of the next group's packets
+part_at : (source : Source) (marks : List GroupMark) (First : List CutGroup → Type 0) (groups : List CutGroup) (g : CutGroup) (first before after : Seen) → HasSentSome source marks groups first before → First (groups ++ g ∷ [])
+    → SendsPart source marks (length groups) g before after → IsPart source marks First first after
+part_at source marks First groups g first before after h firsts sends = record {
+  groups = groups ++ g ∷ [];
+  first_groups = firsts;
+  agree = agree_more marks groups g h.agree sends.0.mark;
+  tables = tables_more source groups g h.tables sends.0.table;
+  puts = subst (λ (t : List ℕ). PutsPart t first after) (sym (text_more source groups g)) (part_after (sent_text source groups) (group_entries (encoding_of source (length groups) g)) first before after h.target h.puts sends.1);
+}
+
+part_whole : (bytes : List ℕ) (old new : Seen) → Puts bytes old new → PutsPart bytes old new
+part_whole bytes old new puts = (bytes, ([], sym (append-nil bytes)), puts)
+
+-- a failure before a group's packets
+part_some : (source : Source) (marks : List GroupMark) (First : List CutGroup → Type 0) (groups : List CutGroup) (first now : Seen) → HasSentSome source marks groups first now → First groups → IsPart source marks First first now
+part_some source marks First groups first now h firsts = record {
+  groups = groups;
+  first_groups = firsts;
+  agree = h.agree;
+  tables = h.tables;
+  puts = part_whole (sent_text source groups) first now h.puts;
+}
+
+pub part_gone : (source : Source) (marks : List GroupMark) (stream : List ℕ) (pass : SentGroups) (first now : Seen) → HasGone source marks stream pass first now → IsPart source marks (HaveEnded source.priority stream) first now
+part_gone source marks stream pass first now h = part_some source marks (HaveEnded source.priority stream) h.groups first now h.sent (given_ended pass.cutter source.priority stream h.groups h.cut)
+
+pub part_stands : (source : Source) (marks : List GroupMark) (stream : List ℕ) (change : Option Change) (pass : SentGroups) (first now : Seen) → HasReached source marks stream change pass first now → IsPart source marks (HaveEnded source.priority stream) first now
+part_stands source marks stream None pass first now h = part_gone source marks stream pass first now h.0
+part_stands source marks stream (Some change) pass first now h =
+    part_some source marks (HaveEnded source.priority stream) h.0.least.before first now h.0.sent (ended_before source.priority stream h.0.least.before (h.1.next ∷ []) h.2)
+
+-- one group more has ended and was sent
+pub gone_more : (source : Source) (marks : List GroupMark) (stream : List ℕ) (old new : SentGroups) (g : CutGroup) (first before after : Seen) → HasGone source marks stream old first before
+    → ((given : List CutGroup) → HasCut old.cutter source.priority stream given → HasCut new.cutter source.priority stream (given ++ g ∷ [])) → new.sent ≡ old.sent + 1
+    → SendsGroup source marks old.sent g before after → after.target ≡ before.target → HasGone source marks stream new first after
+gone_more source marks stream old new g first before after h cut sent sends target = record {
+  groups = h.groups ++ g ∷ [];
+  cut = cut h.groups h.cut;
+  number = omega (arith, sent, h.number, length-append h.groups (g ∷ []));
+  sent = some_more source marks h.groups g first before after h.sent (subst (λ n. SendsGroup source marks n g before after) h.number sends) target;
+}
+
+pub gone_part : (source : Source) (marks : List GroupMark) (stream : List ℕ) (old : SentGroups) (cutter : GroupCutter) (g : CutGroup) (first before after : Seen) → HasGone source marks stream old first before
+    → ((given : List CutGroup) → HasCut old.cutter source.priority stream given → HasCut cutter source.priority stream (given ++ g ∷ []))
+    → SendsPart source marks old.sent g before after → IsPart source marks (HaveEnded source.priority stream) first after
+gone_part source marks stream old cutter g first before after h cut sends =
+    part_at source marks (HaveEnded source.priority stream) h.groups g first before after h.sent (given_ended cutter source.priority stream (h.groups ++ g ∷ []) (cut h.groups h.cut))
+    (subst (λ n. SendsPart source marks n g before after) h.number sends)
+
+-- the last of the groups that a cutter has given
+at_last : (P : CutGroup → Type 0) (given : List CutGroup) (g : CutGroup) → All P (given ++ g ∷ []) → P g
+at_last P given g all = subst P (get_or-append_seam given g [] g) (all (length given) g (omega (arith, length-append given (g ∷ []))))
+
+pub knows_more : (old new : GroupCutter) (priority : Priorities) (g : CutGroup) → Knows old priority → ((p : Priorities) (stream : List ℕ) (given : List CutGroup) → HasCut old p stream given → HasCut new p stream (given ++ g ∷ [])) → Knows new priority
+knows_more old new priority g k cut = record { stream = k.stream; given = k.given ++ g ∷ []; cut = cut priority k.stream k.given k.cut }
+
+pub knows_whole : (old new : GroupCutter) (priority : Priorities) (g : CutGroup) → Knows old priority → ((p : Priorities) (stream : List ℕ) (given : List CutGroup) → HasCut old p stream given → HasCut new p stream (given ++ g ∷ [])) → IsWhole (length priority.layers) g
+knows_whole old new priority g k cut = at_last (IsWhole (length priority.layers)) k.given g (given_whole new priority k.stream (k.given ++ g ∷ []) (cut priority k.stream k.given k.cut))
+
+pub knows_filled : (old new : GroupCutter) (priority : Priorities) (g : CutGroup) → Knows old priority → ((p : Priorities) (stream : List ℕ) (given : List CutGroup) → HasCut old p stream given → HasCut new p stream (given ++ g ∷ [])) → IsFilled g
+knows_filled old new priority g k cut = at_last IsFilled k.given g (given_filled new priority k.stream (k.given ++ g ∷ []) (cut priority k.stream k.given k.cut))
+
+-- groups on end, the last of the stream
+pub left_part : (source : Source) (marks : List GroupMark) (stream : List ℕ) (sent : List CutGroup) (g : CutGroup) (later : List CutGroup) (first before after : Seen)
+    → AreAll source.priority stream ((sent ++ g ∷ []) ++ later) → HasSentSome source marks sent first before → SendsPart source marks (length sent) g before after → IsPart source marks (AreFound source.priority stream) first after
+left_part source marks stream sent g later first before after all h sends = part_at source marks (AreFound source.priority stream) sent g first before after h (found_of_all source.priority stream (sent ++ g ∷ []) later all) sends
+
+-- the groups so far, the next, and the rest
+pub left_split : (before groups : List CutGroup) (i : ℕ) (g : CutGroup) → i < length groups → get_or groups i g ≡ g → (before ++ take (i + 1) groups ≡ (before ++ take i groups) ++ g ∷ []) × (before ++ groups ≡ ((before ++ take i groups) ++ g ∷ []) ++ drop (i + 1) groups)
+left_split before groups i g lt is =
+    let more : take (i + 1) groups ≡ take i groups ++ g ∷ [] = take_more groups i g lt ∙ ap (λ x. take i groups ++ x ∷ []) is in
+    let one : before ++ take (i + 1) groups ≡ (before ++ take i groups) ++ g ∷ [] = ap (λ l. before ++ l) more ∙ sym (append_assoc before (take i groups) (g ∷ [])) in (
+      one,
+      ap (λ l. before ++ l) (sym (take-append-drop (i + 1) groups)) ∙ sym (append_assoc before (take (i + 1) groups) (drop (i + 1) groups)) ∙ ap (λ l. l ++ drop (i + 1) groups) one,
+    )
+
+pub left_length : (before groups : List CutGroup) (i from number : ℕ) → i < length groups → from ≡ length before → number ≡ from + i → number ≡ length (before ++ take i groups)
+left_length before groups i from number lt at count = omega (arith, length-append before (take i groups), length-take-le i groups (omega arith), at, count)
+
+-- no change was found so far
+pub stands_none : (source : Source) (marks : List GroupMark) (stream : List ℕ) (change : Option Change) (pass : SentGroups) (first now : Seen) → is_some change ≡ false → HasReached source marks stream change pass first now
+    → HasGone source marks stream pass first now × (pieces_left pass.cutter ≡ 0)
+stands_none source marks stream None pass first now none h = h
+stands_none source marks stream (Some c) pass first now none h = absurd cc
+
+all_suffix : (P : CutGroup → Type 0) (xs ys : List CutGroup) → All P (xs ++ ys) → All P ys
+all_suffix P xs ys h i d lt = subst P (get_or-append-add xs ys i d) (h (length xs + i) d (omega (arith, lt, length-append xs ys)))
+
+-- what the groups that are left are
+pub left_all : (P : CutGroup → Type 0) (priority : Priorities) (cutter : GroupCutter) (items groups : List CutGroup) → ((stream : List ℕ) → All P (cut_groups priority stream)) → Knows cutter priority
+    → ((p : Priorities) (stream : List ℕ) (given : List CutGroup) → HasCut cutter p stream given → AreAll p stream (given ++ items)) → groups ≡ items → All P groups
+left_all P priority cutter items groups each k all is =
+    subst (All P) (sym is) (all_suffix P k.given items (subst (All P) (sym (all priority k.stream k.given k.cut).all) (each k.stream)))
+
+-- groups that had ended were found
+pub part_found : (source : Source) (marks : List GroupMark) (stream : List ℕ) (first now : Seen) → IsPart source marks (HaveEnded source.priority stream) first now → IsPart source marks (AreFound source.priority stream) first now
+part_found source marks stream first now h = record { groups = h.groups; first_groups = inl h.first_groups; agree = h.agree; tables = h.tables; puts = h.puts }
+
+-- and did, however the stream goes on
+pub part_longer : (source : Source) (marks : List GroupMark) (stream portion : List ℕ) (first now : Seen) → IsPart source marks (HaveEnded source.priority stream) first now → IsPart source marks (HaveEnded source.priority (stream ++ portion)) first now
+part_longer source marks stream portion first now h = record {
+  groups = h.groups;
+  first_groups = ended_longer source.priority stream portion h.groups h.first_groups;
+  agree = h.agree;
+  tables = h.tables;
+  puts = h.puts;
+}

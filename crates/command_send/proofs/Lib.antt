@@ -1,0 +1,10 @@
+pub mod EncodedGroup
+pub mod FoundGroups
+pub mod GroupsSoFar
+pub mod LeastChange
+pub mod ReadPortions
+pub mod SameStream
+pub mod FirstPass
+pub mod ReopenedFiles
+pub mod SessionRead
+pub mod Ends

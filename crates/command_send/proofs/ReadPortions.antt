@@ -1,0 +1,145 @@
+-- What the second pass has read of the input.
+use Rattle.std.proofs.Common.{◌≡◌, ℕ, ◌+◌, ◌≤◌, List, [], ◌++◌, length, take, Option, Some, None, refl, sym, ◌∙◌, ap, subst, arith, inl, inr}
+use Rattle.std.specs.Prelude.{IfSome, nat_lt, false, MatchOption}
+use Rattle.std.specs.Io.KnownBytes.{prepend_known, IsAtEnd}
+use Rattle.std.proofs.lemmas.List.{append-nil}
+use Rattle.std.proofs.lemmas.Bool.{ltb-false}
+use Rattle.pet_base.specs.declared.limits.TheConstants.{MAX_STREAM}
+use Rattle.pet_base.specs.Seen.{Seen, Files, Grows, OnlyReads}
+use Rattle.pet_base.proofs.Filled.{prepend-prepend}
+use Rattle.stream_session.specs.declared.mark.GroupMark.{GroupMark}
+use Rattle.stream_session.specs.declared.source.Source.{Source}
+use Rattle.mpeg_scan.specs.declared.refusal.Scan.TheVariants.{TooLong}
+use Rattle.mpeg_scan.specs.Refusals.{IsAccepted}
+use Rattle.priority_file.specs.Priority.{Priorities}
+use Rattle.group_cutter.specs.CutGroups.{CutGroup}
+use Rattle.group_cutter.specs.Cutting.{HasCut, HaveEnded, cut_groups}
+use Rattle.group_cutter.specs.laws.EndedLaws.{none_ended, ended_first}
+use Rattle.command_send.specs.declared.sent_group.Change.{Change}
+use Rattle.command_send.specs.declared.second.SentGroups.{SentGroups}
+use Rattle.command_files.specs.Outputs.{IsPrefix, Puts}
+use Rattle.command_send.specs.Sending.{sent_text, HasSentSome, IsPart, IsTaken, SentPart, IsFront, AreFound, HasSentAll, HasSentToChange}
+use Rattle.command_send.specs.Second.{HasGone, HasReached, Ends}
+use Rattle.command_files.specs.laws.PartLaws.{part_nothing}
+use Rattle.command_files.specs.laws.OutputLaws.{puts_nothing}
+use Rattle.command_send.proofs.GroupsSoFar.{text_none}
+
+prefix_at : (stream : List ℕ) (now : Option (List ℕ)) → IfSome (prepend_known stream now) (IsPrefix stream)
+prefix_at stream None = tt
+prefix_at stream (Some more) = (more, refl)
+
+told_at : (priority : Priorities) (stream : List ℕ) (groups : List CutGroup) (now : Option (List ℕ)) → HaveEnded priority stream groups → IfSome (prepend_known stream now) (λ bytes. IsFront priority bytes groups)
+told_at priority stream groups None ended = tt
+told_at priority stream groups (Some more) ended = ended_first priority stream groups ended more
+
+-- what was read stands at the front of the input
+pub part_read : (source : Source) (marks : List GroupMark) (stream : List ℕ) (known : Option (List ℕ)) (first now : Seen) → first.rest ≡ prepend_known stream known → IsPart source marks (HaveEnded source.priority stream) first now → SentPart source marks first now
+part_read source marks stream known first now rest part = record {
+  stream = stream;
+  read = subst (λ (o : Option (List ℕ)). IfSome o (IsPrefix stream)) (sym rest) (prefix_at stream known);
+  part = record { groups = part.groups; first_groups = inl part.first_groups; agree = part.agree; tables = part.tables; puts = part.puts };
+  told = subst (λ (o : Option (List ℕ)). IfSome o (λ bytes. IsFront source.priority bytes part.groups)) (sym rest) (told_at source.priority stream part.groups known part.first_groups);
+}
+
+short_by : (a b : ℕ) → nat_lt a b ≡ false → b ≤ a
+short_by a b e = ltb-false a b e
+
+pub short_stream : (stream : List ℕ) → IsAccepted stream → length stream ≤ MAX_STREAM
+short_stream stream accepted = short_by MAX_STREAM (length stream) (accepted TooLong)
+
+ended_at : (priority : Priorities) (stream : List ℕ) (groups : List CutGroup) (now : Option (List ℕ)) → IsAtEnd now → IsFront priority stream groups → IfSome (prepend_known stream now) (λ bytes. IsFront priority bytes groups)
+ended_at priority stream groups None end front = tt
+ended_at priority stream groups (Some more) end front = subst (λ (s : List ℕ). IsFront priority s groups) (sym (append-nil stream) ∙ ap (λ (m : List ℕ). stream ++ m) (sym end)) front
+
+-- the same of all that was read
+pub part_end : (source : Source) (marks : List GroupMark) (stream : List ℕ) (first mid now : Seen) → IsTaken stream first mid → IsPart source marks (AreFound source.priority stream) first now → SentPart source marks first now
+part_end source marks stream first mid now taken part = record {
+  stream = stream;
+  read = subst (λ (o : Option (List ℕ)). IfSome o (IsPrefix stream)) (sym taken.rest) (prefix_at stream mid.rest);
+  part = part;
+  told = subst (λ (o : Option (List ℕ)). IfSome o (λ bytes. IsFront source.priority bytes part.groups)) (sym taken.rest)
+      (elim part.first_groups [
+        | inl ended ↦ told_at source.priority stream part.groups mid.rest ended
+        | inr all ↦ ended_at source.priority stream part.groups mid.rest (taken.whole (short_stream stream all.0.0)) all.1
+      ]);
+}
+
+pub rest_more : (stream portion : List ℕ) (first before after : Option (List ℕ)) → first ≡ prepend_known stream before → before ≡ prepend_known portion after → first ≡ prepend_known (stream ++ portion) after
+rest_more stream portion first before after rest step = rest ∙ ap (prepend_known stream) step ∙ prepend-prepend stream portion after
+
+some_read : (source : Source) (marks : List GroupMark) (groups : List CutGroup) (first before after : Seen) → OnlyReads before after → HasSentSome source marks groups first before → HasSentSome source marks groups first after
+some_read source marks groups first before after reads h = record {
+  agree = h.agree;
+  tables = h.tables;
+  target = reads.target ∙ h.target;
+  puts = subst (λ (f : Option Files). Grows first.target (sent_text source groups) first.files f) (sym reads.files) h.puts;
+}
+
+-- reading changes nothing that was sent
+pub stands_read : (source : Source) (marks : List GroupMark) (stream : List ℕ) (change : Option Change) (pass : SentGroups) (first before after : Seen) → OnlyReads before after → HasReached source marks stream change pass first before → HasReached source marks stream change pass first after
+stands_read source marks stream None pass first before after reads h =
+    (record { groups = h.0.groups; cut = h.0.cut; number = h.0.number; sent = some_read source marks h.0.groups first before after reads h.0.sent }, h.1)
+stands_read source marks stream (Some c) pass first before after reads h =
+    (record { least = h.0.least; sent = some_read source marks h.0.least.before first before after reads h.0.sent }, h.1, h.2)
+
+prepend_none : (known : Option (List ℕ)) → prepend_known [] known ≡ known
+prepend_none None = refl
+prepend_none (Some bytes) = refl
+
+-- nothing more could be taken
+pub taken_end : (stream portion : List ℕ) (n : ℕ) (first before after : Seen) → first.rest ≡ prepend_known stream before.rest → length stream ≤ MAX_STREAM + 1 → before.rest ≡ prepend_known (take n portion) after.rest → n ≡ 0 → (n ≡ 0 → IsAtEnd before.rest) → IsTaken stream first after
+taken_end stream portion n first before after rest few step none end =
+    let same : before.rest ≡ after.rest = step ∙ ap (λ k. prepend_known (take k portion) after.rest) none ∙ prepend_none after.rest in
+    record {
+      rest = rest ∙ ap (prepend_known stream) same;
+      few = few;
+      whole = λ le. subst IsAtEnd same (end none);
+    }
+
+-- what is written changes nothing of that
+pub taken_write : (stream : List ℕ) (first before after : Seen) → after.rest ≡ before.rest → IsTaken stream first before → IsTaken stream first after
+taken_write stream first before after same h = record {
+  rest = h.rest ∙ ap (prepend_known stream) (sym same);
+  few = h.few;
+  whole = λ le. subst IsAtEnd (sym same) (h.whole le);
+}
+
+prefix_none : (known : Option (List ℕ)) → IfSome known (IsPrefix [])
+prefix_none None = tt
+prefix_none (Some bytes) = (bytes, refl)
+
+front_none : (priority : Priorities) (known : Option (List ℕ)) → IfSome known (λ bytes. IsFront priority bytes [])
+front_none priority None = tt
+front_none priority (Some bytes) = (cut_groups priority bytes, refl)
+
+-- nothing was read yet
+pub part_start : (source : Source) (marks : List GroupMark) (s : Seen) → SentPart source marks s s
+part_start source marks s = record {
+  stream = [];
+  read = prefix_none s.rest;
+  part = record {
+    groups = [];
+    first_groups = inl (none_ended source.priority []);
+    agree = λ k lt. absurd (omega (arith, lt));
+    tables = (source.tables.items, refl);
+    puts = part_nothing (sent_text source []) s;
+  };
+  told = front_none source.priority s.rest;
+}
+
+pub gone_start : (source : Source) (marks : List GroupMark) (pass : SentGroups) (s : Seen) → HasCut pass.cutter source.priority [] [] → pass.sent ≡ 0 → HasGone source marks [] pass s s
+gone_start source marks pass s cut none = record {
+  groups = [];
+  cut = cut;
+  number = none;
+  sent = record {
+    agree = λ k lt. absurd (omega (arith, lt));
+    tables = (source.tables.items, refl);
+    target = refl;
+    puts = subst (λ (t : List ℕ). Puts t s s) (sym (text_none source)) (puts_nothing s s refl);
+  };
+}
+
+pub sent_end : (source : Source) (marks : List GroupMark) (stream : List ℕ) (after : Option Change) (first now : Seen) → IsTaken stream first now → Ends source marks stream after first now → MatchOption after (HasSentAll source marks first now) (λ c. HasSentToChange source marks c first now)
+sent_end source marks stream None first now taken h = record { stream = stream; taken = taken; all = h }
+sent_end source marks stream (Some c) first now taken h = record { stream = stream; taken = taken; change_is = h }

@@ -1,0 +1,164 @@
+-- What the second pass of `send` over a stream has sent, and at which group it found a change. This project's own.
+use Rattle.std.specs.Prelude.{◌≡◌, ◌≢◌, ◌⊎◌, ℕ, ◌+◌, ◌*◌, ◌<◌, ◌≤◌, List, [], ◌∷◌, ◌++◌, length, map, Some, slice_get, IfSome}
+use Rattle.std.specs.List.{flat_map}
+use Rattle.std.specs.Io.KnownBytes.{prepend_known, IsAtEnd}
+use Rattle.pet_base.specs.declared.limits.TheConstants.{MAX_STREAM}
+use Rattle.pet_base.specs.Seen.{Seen}
+use Rattle.stripe_plan.specs.Sizes.{Sizes}
+use Rattle.stripe_plan.specs.Layers.{needs_of}
+use Rattle.layer_split.specs.Layers.{message}
+use Rattle.pet_encode.specs.Encoding.{Encoding}
+use Rattle.stream_session.specs.declared.mark.GroupMark.{GroupMark}
+use Rattle.stream_session.specs.declared.source.Source.{Source}
+use Rattle.group_cutter.specs.CutGroups.{CutGroup}
+use Rattle.group_cutter.specs.Cutting.{HaveEnded, NoneFurther, IsCuttable, cut_groups}
+use Rattle.command_files.specs.Inputs.{Licensed}
+use Rattle.stream_session.specs.Marks.{mark_of, no_mark, mark_at, group_marks, marks_of}
+use Rattle.stream_session.specs.Tables.{table_of, tables_of, cuts_of_stream}
+use Rattle.stream_session.specs.Number.{session_number}
+use Rattle.stream_session.specs.Accepted.{IsAcceptedSession}
+use Rattle.priority_file.specs.Priority.{Priorities}
+use Rattle.priority_file.specs.Refusals.{priorities_of}
+use Rattle.command_send.specs.declared.sent_group.Change.{Change}
+use Rattle.command_send.specs.declared.fault.SendFault.{SendFault}
+use Rattle.command_send.specs.declared.fault.SendFault.TheVariants.{Stopped, Source as Refused, Changed}
+use Rattle.session_packets.specs.Packets.{group_entries}
+use Rattle.command_files.specs.Outputs.{IsPrefix, Puts, PutsPart}
+
+-- a group of the second pass as its packets are made: under this number, of the first pass's session
+abbrev pub encoding_of : Source → ℕ → CutGroup → Encoding
+encoding_of source group g = record {
+  header = record { session = source.number; groups = length source.tables.items; group = group; table = table_of source.priority g.cut };
+  message = message g.bytes g.cut.runs (length source.priority.layers);
+}
+
+-- groups on end, the first of which has this number
+abbrev pub encodings_from : Source → ℕ → List CutGroup → List Encoding
+encodings_from source first [] = []
+encodings_from source first (g ∷ groups) = encoding_of source first g ∷ encodings_from source (first + 1) groups
+
+-- the entries of the packets of these groups, from group 0 on
+unfoldable pub sent_text : Source → List CutGroup → List ℕ
+sent_text source groups = flat_map group_entries (encodings_from source 0 groups)
+
+-- packets times words
+abbrev pub words_cost : Sizes → ℕ
+words_cost table = table.packets * length (needs_of table.layers)
+
+-- the marks of these groups are those of the first pass, up to this group
+abbrev pub AgreeBelow : List GroupMark → List CutGroup → ℕ → Type 0
+AgreeBelow marks groups limit = (k : ℕ) → k < limit → mark_at marks k ≡ mark_at (group_marks groups) k
+
+-- these are the first groups of the stream, which ends here
+abbrev pub IsFront : Priorities → List ℕ → List CutGroup → Type 0
+IsFront priority stream groups = (later : List CutGroup) × (cut_groups priority stream ≡ groups ++ later)
+
+-- A pass finds these groups first: they ended before the stream or its groups were refused, or nothing of it is refused.
+abbrev pub AreFound : Priorities → List ℕ → List CutGroup → Type 0
+AreFound priority stream groups = HaveEnded priority stream groups ⊎ (IsCuttable priority stream × IsFront priority stream groups)
+
+-- and it finds no further one
+pub record AreAllFound (priority : Priorities) (stream : List ℕ) (groups : List CutGroup) : Type 0 where
+  pub found : AreFound priority stream groups
+  pub all : IsCuttable priority stream → cut_groups priority stream ≡ groups
+  pub none_further : NoneFurther priority stream groups
+
+-- The group after these in the stream, as the second pass marks it: it has no mark where its mark is the first
+-- pass's and its table is not.
+pub record IsNext (priority : Priorities) (tables : List Sizes) (marks : List GroupMark) (stream : List ℕ) (before : List CutGroup) (group : ℕ) (second : GroupMark) : Type 0 where
+  pub next : CutGroup
+  pub at : group ≡ length before
+  pub found : AreFound priority stream (before ++ next ∷ [])
+  pub marked : (second ≡ mark_of next.bytes)
+      ⊎ ((second ≡ no_mark) × (mark_at marks group ≡ mark_of next.bytes) × (slice_get tables group ≢ Some (table_of priority next.cut)))
+
+-- The group was not found: these are all that were.
+pub record IsLost (priority : Priorities) (stream : List ℕ) (before : List CutGroup) (group : ℕ) (second : GroupMark) : Type 0 where
+  pub beyond : length before ≤ group
+  pub all : AreAllFound priority stream before
+  pub none : second ≡ no_mark
+
+-- The least group of the stream whose mark is not that of the first pass, which found these tables and marks: the groups
+-- before it have its marks.
+pub record IsLeastChange (priority : Priorities) (tables : List Sizes) (marks : List GroupMark) (stream : List ℕ) (change : Change) : Type 0 where
+  pub before : List CutGroup
+  pub found : AreFound priority stream before
+  pub agree : AgreeBelow marks before change.group
+  pub first_is : change.first ≡ mark_at marks change.group
+  pub second_is : IsNext priority tables marks stream before change.group change.second ⊎ IsLost priority stream before change.group change.second
+  pub differ : change.first ≢ change.second
+
+-- the tables of these groups are the first of the first pass
+abbrev pub HaveTables : Source → List CutGroup → Type 0
+HaveTables source groups = (later : List Sizes) × (source.tables.items ≡ map (λ (g : CutGroup). table_of source.priority g.cut) groups ++ later)
+
+-- the groups so far: each has the mark and the table of the first pass, and the output has grown by their packets
+pub record HasSentSome (source : Source) (marks : List GroupMark) (groups : List CutGroup) (old new : Seen) : Type 0 where
+  pub agree : AgreeBelow marks groups (length groups)
+  pub tables : HaveTables source groups
+  pub target : new.target ≡ old.target
+  pub puts : Puts (sent_text source groups) old new
+
+-- The least group whose marks differ: the output has grown by the packets of the groups before it.
+pub record IsChange (source : Source) (marks : List GroupMark) (stream : List ℕ) (change : Change) (old new : Seen) : Type 0 where
+  pub least : IsLeastChange source.priority source.tables.items marks stream change
+  pub sent : HasSentSome source marks least.before old new
+
+-- All marks agree: the output has grown by the packets of all groups that both passes found.
+pub record IsAllSent (source : Source) (marks : List GroupMark) (stream : List ℕ) (old new : Seen) : Type 0 where
+  pub groups : List CutGroup
+  pub all : AreAllFound source.priority stream groups
+  pub sent : HasSentSome source marks groups old new
+  pub agree : (k : ℕ) → mark_at marks k ≡ mark_at (group_marks groups) k
+
+-- the output has grown by a front of the packets of groups whose marks and tables agree
+pub record IsPart (source : Source) (marks : List GroupMark) (AreFirstGroups : List CutGroup → Type 0) (old new : Seen) : Type 0 where
+  pub groups : List CutGroup
+  pub first_groups : AreFirstGroups groups
+  pub agree : AgreeBelow marks groups (length groups)
+  pub tables : HaveTables source groups
+  pub puts : PutsPart (sent_text source groups) old new
+
+-- These bytes were taken from the front of the input, to its end or past the most that a stream may have.
+pub record IsTaken (stream : List ℕ) (old new : Seen) : Type 0 where
+  pub rest : old.rest ≡ prepend_known stream new.rest
+  pub few : length stream ≤ MAX_STREAM + 1
+  pub whole : length stream ≤ MAX_STREAM → IsAtEnd new.rest
+
+-- what the pass has done of what it has read, to the end
+pub record HasSentAll (source : Source) (marks : List GroupMark) (old new : Seen) : Type 0 where
+  pub stream : List ℕ
+  pub taken : IsTaken stream old new
+  pub all : IsAllSent source marks stream old new
+
+pub record HasSentToChange (source : Source) (marks : List GroupMark) (change : Change) (old new : Seen) : Type 0 where
+  pub stream : List ℕ
+  pub taken : IsTaken stream old new
+  pub change_is : IsChange source marks stream change old new
+
+-- or to a failure
+pub record SentPart (source : Source) (marks : List GroupMark) (old new : Seen) : Type 0 where
+  pub stream : List ℕ
+  pub read : IfSome old.rest (IsPrefix stream)
+  pub part : IsPart source marks (AreFound source.priority stream) old new
+  pub told : IfSome old.rest (λ bytes. IsFront source.priority bytes part.groups)
+
+-- when the pass stops with each cause, and what then holds
+abbrev pub IsSendStop : Source → List GroupMark → Seen → Seen → Type 0 → SendFault → Type 0
+IsSendStop source marks old new fault (Stopped stop) = Licensed fault stop × SentPart source marks old new
+IsSendStop source marks old new fault (Changed change) = HasSentToChange source marks change old new
+IsSendStop source marks old new fault (Refused refusal) = ⊥
+
+-- The source and the marks are those of an accepted session.
+pub record IsFirstPass (p b : List ℕ) (source : Source) (marks : List GroupMark) : Type 0 where
+  pub accepted : IsAcceptedSession p b
+  pub rules : source.priority ≡ priorities_of p
+  pub number : source.number ≡ session_number p b
+  pub tables : source.tables.items ≡ tables_of (priorities_of p) (cuts_of_stream (priorities_of p) b)
+  pub marks_are : marks ≡ marks_of (priorities_of p) b
+
+-- what the pass may answer where the place tells the stream of the first pass: never a change
+abbrev pub IsToldStop : List ℕ → Seen → Seen → SendFault → Type 0
+IsToldStop text old new (Stopped stop) = PutsPart text old new
+IsToldStop text old new (Changed change) = ⊥
+IsToldStop text old new (Refused refusal) = ⊥

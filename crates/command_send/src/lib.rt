@@ -1,0 +1,25 @@
+//! The command `send`: it writes the packets of the session that a stream and a priority file are to a datagram file.
+//!
+//! What it leaves at each of its ends stands in `specs/Sends.antt`; `specs/SendsSession.antt` says when it is done. The stream
+//! is read twice, and none of it is held but the group that has not ended and the last portion: the first reading gives each
+//! group's mark and table, and the second sends each group whose mark and table are those.
+#![tactic(auto)]
+
+mod command;
+mod fault;
+mod first;
+mod second;
+mod sent_group;
+mod session;
+
+pub use command::{SendEnd, send};
+pub use sent_group::Change;
+
+#[cfg(test)]
+mod fixtures;
+#[cfg(test)]
+mod second_tests;
+#[cfg(test)]
+mod send_tests;
+#[cfg(test)]
+mod untold_place;

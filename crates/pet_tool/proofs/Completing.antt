@@ -1,0 +1,101 @@
+-- What each command completes follows from what it does.
+use Rattle.std.proofs.Common.{◌≡◌, ℕ, Bool, true, false, List, ◌++◌, Option, None, Some, refl, ap, ◌∙◌}
+use Rattle.std.proofs.lemmas.List.Elements.{All-contains}
+use Rattle.std.specs.Prelude.{if◌then◌else◌}
+use Rattle.std.specs.Io.KnownBytes.{append_known}
+use Rattle.pet_base.specs.Entries.{datagrams}
+use Rattle.pet_base.specs.OutsideSeen.{OutsideSeen}
+use Rattle.pet_base.specs.Seen.{Files, Seen}
+use Rattle.pet_encode.specs.Session.{IsSession}
+use Rattle.session_packets.specs.Packets.{datagrams_text, IsItsDatagram}
+use Rattle.session_packets.specs.laws.SentLaws.{sent_are_packets}
+use Rattle.stream_session.specs.Accepted.{session_of}
+use Rattle.stream_session.specs.laws.SessionOfLaws.{is_session, session_fits}
+use Rattle.command_plan.specs.Checks.{Checks}
+use Rattle.command_plan.specs.Plans.{Plans}
+use Rattle.command_plan.specs.laws.CheckLaws.{checks_before_line}
+use Rattle.command_plan.specs.laws.PlanLaws.{plans_before_line}
+use Rattle.command_receive.specs.declared.command.ReceiveEnd.TheVariants as receive
+use Rattle.command_receive.specs.Receives.{Receives}
+use Rattle.command_receive.specs.ReceivesSession.{HasPacketsOf}
+use Rattle.command_receive.specs.laws.LineLaws.{can_receive_before, received_with_line}
+use Rattle.command_receive.specs.laws.SessionReceived.{completes_receive}
+use Rattle.command_send.specs.Sends.{Sends}
+use Rattle.command_send.specs.laws.EndLaws.{sends_session, sent_before_line}
+use Rattle.pet_text.specs.declared.status.Status.{Status}
+use Rattle.pet_text.specs.declared.status.Status.TheVariants.{Done, Incomplete}
+use Rattle.pet_text.specs.declared.words.Command.{Command}
+use Rattle.pet_text.specs.declared.words.Command.TheVariants.{Plan, Check, Send, Receive}
+use Rattle.pet_text.specs.declared.words.End.TheVariants.{File}
+use Rattle.pet_text.specs.Lines.{fault_text}
+use Rattle.pet_tool.specs.Completes.{Completes, CompletesPlan, CompletesCheck, CompletesSend}
+use Rattle.pet_tool.specs.Does.{Does, Runs}
+use Rattle.pet_tool.specs.Headline.{Headline, HasWhatWasSent, ReceivesWhatWasSent}
+use Rattle.pet_tool.specs.Statuses.{status_of_plan, status_of_check, status_of_send, status_of_receive}
+use Rattle.pet_tool.specs.Undisturbed.{EndsWith}
+
+-- the lines and then that of the status which the end has
+ends_with : (status told : Status) (lines : List ℕ) (before after : OutsideSeen) → told ≡ status → after.written ≡ append_known before.written (lines ++ fault_text told) → EndsWith status lines before after told
+ends_with status told lines before after ended printed = record {
+  ended = ended;
+  printed = printed ∙ ap (λ (s : Status). append_known before.written (lines ++ fault_text s)) ended;
+}
+
+plan_completes : (stream priority : List ℕ) (before after : OutsideSeen) (status : Status) → Runs (Plans stream priority) status_of_plan before after status → CompletesPlan stream priority before after status
+plan_completes stream priority before after status runs = λ p b calm given.
+    let done = plans_before_line stream priority (fault_text status) before runs.between after runs.end runs.did runs.line p b (λ none. calm.memory (runs.ended ∙ ap status_of_plan none)) calm.well given in
+    ends_with Done status _ before after (runs.ended ∙ ap status_of_plan done.0) done.1
+
+check_completes : (stream priority plan : List ℕ) (before after : OutsideSeen) (status : Status) → Runs (Checks stream priority plan) status_of_check before after status → CompletesCheck stream priority plan before after status
+check_completes stream priority plan before after status runs = λ p b calm given there.
+    let done = checks_before_line stream priority plan (fault_text status) before runs.between after runs.end runs.did runs.line p b (λ none. calm.memory (runs.ended ∙ ap status_of_check none)) calm.well given there in
+    ends_with Done status _ before after (runs.ended ∙ ap status_of_check done.0) done.1
+
+send_completes : (stream priority to : List ℕ) (before after : OutsideSeen) (status : Status) → Runs (Sends stream priority to) status_of_send before after status → CompletesSend stream priority to before after status
+send_completes stream priority to before after status runs = λ p b calm given.
+    let completes = sends_session stream priority to before runs.between runs.end runs.did in
+    let sent = sent_before_line stream priority to (fault_text status) before runs.between after runs.end completes runs.did.later runs.line p b (λ none. calm.memory (runs.ended ∙ ap status_of_send none)) calm.well given in
+    (sent.file, ends_with Done status _ before after (runs.ended ∙ ap status_of_send sent.ended) sent.printed)
+
+-- the status of the end by whether all layers are shown
+shown_status : (all : Bool) → status_of_receive (if all then receive.Done else receive.Incomplete) ≡ (if all then Done else Incomplete)
+shown_status true = refl
+shown_status false = refl
+
+headline : (from session layers : List ℕ) (before after : OutsideSeen) (status : Status) → Runs (Receives from session layers) status_of_receive before after status → Headline from session layers before after status
+headline from session layers before after status runs = λ s files bytes is calm given.
+    let can = can_receive_before s from layers files bytes (fault_text status) before runs.between after runs.end runs.line (record { memory = λ none. calm.memory (runs.ended ∙ ap status_of_receive none); well = calm.well; given = given }) in
+    let received = completes_receive from session layers before runs.between runs.end runs.did s files bytes is can in
+    let lined = received_with_line s from layers files bytes (fault_text status) before runs.between after runs.end runs.line (datagrams bytes) calm.well runs.did.later received in
+    record {
+      file = lined.0;
+      ends = ends_with _ status _ before after (runs.ended ∙ ap status_of_receive received.ended ∙ shown_status _) lined.1;
+      fewest = received.fewest;
+    }
+
+-- what `send` wrote are packets of the session
+sent_given : (p b from : List ℕ) (files : Files) (bytes : List ℕ) (old : Seen) → HasWhatWasSent p b from files bytes old → HasPacketsOf (session_of p b) from files bytes old
+sent_given p b from files bytes old sent =
+    let session : IsSession 2 (session_of p b) = is_session p b sent.stream_bytes sent.accepted in
+    record {
+      session = session;
+      fits = session_fits p b sent.accepted;
+      told = sent.told;
+      found = sent.found;
+      few = sent.few;
+      packets = λ k d lt accepted number.
+          (All-contains (IsItsDatagram (session_of p b)) (datagrams (datagrams_text (session_of p b))) _ (sent_are_packets (session_of p b) session) (sent.sent k d lt)).packet;
+    }
+
+received_sent : (from session layers : List ℕ) (before after : OutsideSeen) (status : Status) → Headline from session layers before after status → ReceivesWhatWasSent from session layers before after status
+received_sent from session layers before after status meets = λ p b files bytes is calm sent.
+    meets (session_of p b) files bytes is calm (sent_given p b from files bytes before.place sent)
+
+pub completes : (command : Option Command) (before after : OutsideSeen) (status : Status) → Does command before after status → Completes command before after status
+completes None before after status does = tt
+completes (Some (Plan stream priority)) before after status runs = plan_completes stream priority before after status runs
+completes (Some (Check stream priority plan)) before after status runs = check_completes stream priority plan before after status runs
+completes (Some (Send stream priority (File to))) before after status runs = send_completes stream priority to before after status runs
+completes (Some (Receive (File from) session layers)) before after status runs =
+    let meets = headline from session layers before after status runs in
+    record { headline = meets; of_send = received_sent from session layers before after status meets }

@@ -1,0 +1,54 @@
+-- Every command may end so before it has done anything: no memory was found to read its words.
+use Rattle.std.proofs.Common.{◌≡◌, Option, Some, None, refl, sym, subst, inl, arith}
+use Rattle.pet_base.specs.OutsideSeen.{OutsideSeen}
+use Rattle.command_files.specs.Printed.{PrintsLine}
+use Rattle.command_files.specs.laws.WroteLaws.{Wrote-nothing}
+use Rattle.command_plan.specs.declared.planning.PlanEnd.TheVariants as plan
+use Rattle.command_plan.specs.declared.checking.CheckEnd.TheVariants as check
+use Rattle.command_send.specs.declared.command.SendEnd.TheVariants as send
+use Rattle.command_receive.specs.declared.command.ReceiveEnd.TheVariants as receive
+use Rattle.pet_text.specs.declared.status.Status.{Status}
+use Rattle.pet_text.specs.declared.status.Status.TheVariants.{NoMemory}
+use Rattle.pet_text.specs.declared.words.Command.{Command}
+use Rattle.pet_text.specs.declared.words.Command.TheVariants.{Plan, Check, Send, Receive}
+use Rattle.pet_text.specs.declared.words.End.TheVariants.{File}
+use Rattle.pet_text.specs.Lines.{fault_text}
+use Rattle.pet_tool.specs.Does.{Does}
+
+module _ (before after : OutsideSeen) (line : PrintsLine (fault_text NoMemory) before after) where
+  no_memory : (command : Command) → Does (Some command) before after NoMemory
+  no_memory (Plan stream priority) = record {
+    between = before;
+    end = plan.NoMemory;
+    did = record { only = record { files = refl; link = refl; steps = refl; later = omega arith }; tells = refl };
+    ended = refl;
+    line = line;
+  }
+  no_memory (Check stream priority file) = record {
+    between = before;
+    end = check.NoMemory;
+    did = record { only = record { files = refl; link = refl; steps = refl; later = omega arith }; tells = refl };
+    ended = refl;
+    line = line;
+  }
+  no_memory (Send stream priority (File to)) = record {
+    between = before;
+    end = send.NoMemory;
+    did = record { link = refl; later = omega arith; costs = inl refl; tells = (inl (Wrote-nothing before.place before.place refl), refl) };
+    ended = refl;
+    line = line;
+  }
+  no_memory (Receive (File from) session layers) = record {
+    between = before;
+    end = receive.NoMemory;
+    did = record { link = refl; later = omega arith; ends = (inl refl, refl) };
+    ended = refl;
+    line = line;
+  }
+
+  some_no_memory : (command : Option Command) → (command ≡ None → ⊥) → Does command before after NoMemory
+  some_no_memory None some = absurd (some refl)
+  some_no_memory (Some command) some = no_memory command
+
+  pub does_no_memory : (command : Option Command) (status : Status) → (command ≡ None → ⊥) → status ≡ NoMemory → Does command before after status
+  does_no_memory command status some is = subst (λ (s : Status). Does command before after s) (sym is) (some_no_memory command some)

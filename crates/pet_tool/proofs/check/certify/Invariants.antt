@@ -1,8 +1,0 @@
-use Rattle.std.proofs.Common.{ℕ, ◌<◌, map}
-use Rattle.pet_tool.specs.Check.{IsLeastAt}
-use Rattle.pet_tool.proofs.check.certify.Given as goal
-
-abbrev pub invariant-loop-group : goal.invariant-loop-group
-invariant-loop-group l = record {
-  least : (earlier : ℕ) → earlier < l.group → IsLeastAt l.tables (map (λ list. list.items) l.lists) earlier;
-}

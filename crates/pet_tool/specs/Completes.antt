@@ -1,0 +1,43 @@
+-- When each command is done, and what it then does; for `receive` this is the headline. This project's own.
+use Rattle.std.specs.Prelude.{◌≡◌, ℕ, List, [], ◌∷◌, length, Option, None, Some}
+use Rattle.pet_base.specs.OutsideSeen.{OutsideSeen}
+use Rattle.command_files.specs.Uses.{reading, writing}
+use Rattle.command_files.specs.Wrote.{Wrote}
+use Rattle.stream_session.specs.Sessions.{IsGiven, tables_in}
+use Rattle.command_plan.specs.SessionPlan.{session_plan}
+use Rattle.command_send.specs.Sends.{packets_file, sent_line_text}
+use Rattle.pet_text.specs.declared.status.Status.{Status}
+use Rattle.pet_text.specs.declared.status.Status.TheVariants.{Done}
+use Rattle.pet_text.specs.declared.words.Command.{Command}
+use Rattle.pet_text.specs.declared.words.Command.TheVariants.{Plan, Check, Send, Receive}
+use Rattle.pet_text.specs.declared.words.End.TheVariants.{File}
+use Rattle.pet_text.specs.PlanLines.{least_text}
+use Rattle.pet_tool.specs.Headline.{MeetsHeadline}
+use Rattle.pet_tool.specs.Undisturbed.{IsUndisturbed, EndsWith}
+
+-- two files that are told and an accepted session are planned
+abbrev pub CompletesPlan : List ℕ → List ℕ → OutsideSeen → OutsideSeen → Status → Type 0
+CompletesPlan stream priority before after status =
+    (p b : List ℕ) → IsUndisturbed (reading stream ∷ reading priority ∷ []) before after status → IsGiven before.place stream priority p b
+    → EndsWith Done (session_plan p b) before after status
+
+-- and the plan that is printed of them is checked
+abbrev pub CompletesCheck : List ℕ → List ℕ → List ℕ → OutsideSeen → OutsideSeen → Status → Type 0
+CompletesCheck stream priority plan before after status =
+    (p b : List ℕ) → IsUndisturbed (reading stream ∷ reading priority ∷ reading plan ∷ []) before after status
+    → (given : IsGiven before.place stream priority p b) → given.files plan ≡ Some (session_plan p b)
+    → EndsWith Done (least_text (length (tables_in p b))) before after status
+
+-- and their packets are sent
+abbrev pub CompletesSend : List ℕ → List ℕ → List ℕ → OutsideSeen → OutsideSeen → Status → Type 0
+CompletesSend stream priority to before after status =
+    (p b : List ℕ) → IsUndisturbed (reading stream ∷ reading priority ∷ writing to ∷ []) before after status → IsGiven before.place stream priority p b
+    → Wrote (packets_file to p b ∷ []) None before.place after.place × EndsWith Done (sent_line_text p b) before after status
+
+-- a case for each form of words; of words of no form nothing is owed here
+abbrev pub Completes : Option Command → OutsideSeen → OutsideSeen → Status → Type 0
+Completes None before after status = Unit {0}
+Completes (Some (Plan stream priority)) before after status = CompletesPlan stream priority before after status
+Completes (Some (Check stream priority plan)) before after status = CompletesCheck stream priority plan before after status
+Completes (Some (Send stream priority (File to))) before after status = CompletesSend stream priority to before after status
+Completes (Some (Receive (File from) session layers)) before after status = MeetsHeadline from session layers before after status

@@ -1,0 +1,63 @@
+-- The status of each end of each command, with the numbers that its line tells. This project's own.
+use Rattle.pet_base.specs.declared.limits.TheConstants.{MAX_GROUPS}
+use Rattle.stream_session.specs.declared.fault.SessionFault.{SessionFault}
+use Rattle.stream_session.specs.declared.fault.SessionFault.TheVariants as session
+use Rattle.command_plan.specs.declared.planning.PlanEnd.{PlanEnd}
+use Rattle.command_plan.specs.declared.planning.PlanEnd.TheVariants as plan
+use Rattle.command_plan.specs.declared.checking.CheckEnd.{CheckEnd}
+use Rattle.command_plan.specs.declared.checking.CheckEnd.TheVariants as check
+use Rattle.command_send.specs.declared.command.SendEnd.{SendEnd}
+use Rattle.command_send.specs.declared.command.SendEnd.TheVariants as send
+use Rattle.command_receive.specs.declared.command.ReceiveEnd.{ReceiveEnd}
+use Rattle.command_receive.specs.declared.command.ReceiveEnd.TheVariants as receive
+use Rattle.pet_text.specs.declared.status.PlanKind.TheVariants as kind
+use Rattle.pet_text.specs.declared.status.Status.{Status}
+use Rattle.pet_text.specs.declared.status.Status.TheVariants.{Done, NoMemory, PlaceFault, OutFault, BadStream, BadPriority, BadPlan, Incomplete, TurnsSpent, NotLeast, Changed}
+
+-- of a session's refusal
+abbrev pub status_of_session : SessionFault → Status
+status_of_session (session.GroupTooLong group) = BadPlan kind.GroupTooLong group
+status_of_session session.TooManyGroups = BadPlan kind.TooManyGroups MAX_GROUPS
+status_of_session (session.TooWide group) = BadPlan kind.TooWide group
+status_of_session (session.TooLarge group) = BadPlan kind.TooLarge group
+status_of_session session.NoMemory = NoMemory
+
+abbrev pub status_of_plan : PlanEnd → Status
+status_of_plan plan.Done = Done
+status_of_plan plan.NoMemory = NoMemory
+status_of_plan plan.PlaceFault = PlaceFault
+status_of_plan plan.OutFault = OutFault
+status_of_plan (plan.BadPriority fault) = BadPriority fault
+status_of_plan (plan.BadStream scan) = BadStream scan
+status_of_plan (plan.BadPlan fault) = status_of_session fault
+
+abbrev pub status_of_check : CheckEnd → Status
+status_of_check check.Done = Done
+status_of_check check.NoMemory = NoMemory
+status_of_check check.PlaceFault = PlaceFault
+status_of_check check.OutFault = OutFault
+status_of_check (check.BadPriority fault) = BadPriority fault
+status_of_check (check.BadStream scan) = BadStream scan
+status_of_check (check.BadPlan fault) = status_of_session fault
+status_of_check check.PlanLong = BadPlan kind.PlanLong 0
+status_of_check (check.Text line) = BadPlan kind.Text line
+status_of_check (check.Lines lines) = BadPlan kind.Lines lines
+status_of_check (check.NotLeast group) = NotLeast group
+
+abbrev pub status_of_send : SendEnd → Status
+status_of_send send.Done = Done
+status_of_send send.NoMemory = NoMemory
+status_of_send send.PlaceFault = PlaceFault
+status_of_send send.OutFault = OutFault
+status_of_send (send.BadPriority fault) = BadPriority fault
+status_of_send (send.BadStream scan) = BadStream scan
+status_of_send (send.BadPlan fault) = status_of_session fault
+status_of_send (send.Changed change) = Changed change.group change.first change.second
+
+abbrev pub status_of_receive : ReceiveEnd → Status
+status_of_receive receive.Done = Done
+status_of_receive receive.NoMemory = NoMemory
+status_of_receive receive.PlaceFault = PlaceFault
+status_of_receive receive.OutFault = OutFault
+status_of_receive receive.Incomplete = Incomplete
+status_of_receive receive.TurnsSpent = TurnsSpent

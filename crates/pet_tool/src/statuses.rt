@@ -1,0 +1,96 @@
+//! The status of each end of each command.
+ghost use Rattle.std.specs.Prelude.{◌≡◌, ◌≢◌};
+ghost use Rattle.pet_tool.specs.Statuses.{status_of_plan, status_of_check, status_of_send, status_of_receive, status_of_session};
+
+use command_plan::{CheckEnd, PlanEnd};
+use command_receive::ReceiveEnd;
+use command_send::SendEnd;
+use pet_base::MAX_GROUPS;
+use pet_text::{PlanKind, Status};
+use stream_session::SessionFault;
+
+/// The status of each end of `plan`.
+pub(crate) fn plan_status(end: &PlanEnd) -> Status
+    ensures status { result ≡ status_of_plan end.now }
+    ensures known { result ≢ Status.Usage }
+{
+    match end {
+        PlanEnd::Done => Status::Done,
+        PlanEnd::NoMemory => Status::NoMemory,
+        PlanEnd::PlaceFault => Status::PlaceFault,
+        PlanEnd::OutFault => Status::OutFault,
+        PlanEnd::BadPriority(fault) => Status::BadPriority(*fault),
+        PlanEnd::BadStream(scan) => Status::BadStream(*scan),
+        PlanEnd::BadPlan(fault) => session_status(fault),
+    }
+}
+
+/// The status of each end of `check`.
+pub(crate) fn check_status(end: &CheckEnd) -> Status
+    ensures status { result ≡ status_of_check end.now }
+    ensures known { result ≢ Status.Usage }
+{
+    match end {
+        CheckEnd::Done => Status::Done,
+        CheckEnd::NoMemory => Status::NoMemory,
+        CheckEnd::PlaceFault => Status::PlaceFault,
+        CheckEnd::OutFault => Status::OutFault,
+        CheckEnd::BadPriority(fault) => Status::BadPriority(*fault),
+        CheckEnd::BadStream(scan) => Status::BadStream(*scan),
+        CheckEnd::BadPlan(fault) => session_status(fault),
+        CheckEnd::PlanLong => Status::BadPlan(PlanKind::PlanLong, 0),
+        CheckEnd::Text(line) => Status::BadPlan(PlanKind::Text, *line),
+        CheckEnd::Lines(lines) => Status::BadPlan(PlanKind::Lines, *lines),
+        CheckEnd::NotLeast(group) => Status::NotLeast(*group),
+    }
+}
+
+/// The status of each end of `send`.
+pub(crate) fn send_status(end: &SendEnd) -> Status
+    ensures status { result ≡ status_of_send end.now }
+    ensures known { result ≢ Status.Usage }
+{
+    match end {
+        SendEnd::Done => Status::Done,
+        SendEnd::NoMemory => Status::NoMemory,
+        SendEnd::PlaceFault => Status::PlaceFault,
+        SendEnd::OutFault => Status::OutFault,
+        SendEnd::BadPriority(fault) => Status::BadPriority(*fault),
+        SendEnd::BadStream(scan) => Status::BadStream(*scan),
+        SendEnd::BadPlan(fault) => session_status(fault),
+        SendEnd::Changed(change) => Status::Changed(change.group, change.first, change.second),
+    }
+}
+
+/// The status of each end of `receive`.
+pub(crate) fn receive_status(end: &ReceiveEnd) -> Status
+    ensures status { result ≡ status_of_receive end.now }
+    ensures known { result ≢ Status.Usage }
+{
+    match end {
+        ReceiveEnd::Done => Status::Done,
+        ReceiveEnd::NoMemory => Status::NoMemory,
+        ReceiveEnd::PlaceFault => Status::PlaceFault,
+        ReceiveEnd::OutFault => Status::OutFault,
+        ReceiveEnd::Incomplete => Status::Incomplete,
+        ReceiveEnd::TurnsSpent => Status::TurnsSpent,
+    }
+}
+
+/// The status of a stream that has no session.
+fn session_status(fault: &SessionFault) -> Status
+    ensures status { result ≡ status_of_session fault.now }
+    ensures known { result ≢ Status.Usage }
+{
+    match fault {
+        SessionFault::GroupTooLong(group) => {
+            Status::BadPlan(PlanKind::GroupTooLong, u64::from(*group))
+        }
+        SessionFault::TooManyGroups => {
+            Status::BadPlan(PlanKind::TooManyGroups, u64::from(MAX_GROUPS))
+        }
+        SessionFault::TooWide(group) => Status::BadPlan(PlanKind::TooWide, u64::from(*group)),
+        SessionFault::TooLarge(group) => Status::BadPlan(PlanKind::TooLarge, u64::from(*group)),
+        SessionFault::NoMemory => Status::NoMemory,
+    }
+}

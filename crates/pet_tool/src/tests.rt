@@ -1,0 +1,158 @@
+//! `run` over objects in memory: each form of words, and statuses with their numbers and lines. Session numbers were made
+//! outside. What each command writes is tested in its own crate.
+use crate::fixtures::{GROUPS, PLAN, PRIORITIES, STREAM, ends, place_of, run_on};
+use mpeg_scan::Scan;
+use pet_base::MemorySink;
+use pet_text::{PlanKind, Status};
+use priority_file::PriorityFault;
+use std::test::Fail;
+
+#[test]
+fn refuses_words_of_no_form(rt: HostRuntime) -> Result<(), Fail> {
+    let alloc = rt.alloc();
+    let rows: [&[&str]; 13] = [
+        &[],
+        &["plan", "s"],
+        &["plan", "s", ""],
+        &["Plan", "s", "f"],
+        &["check", "s", "f"],
+        &["send", "s", "f", "d"],
+        &["send", "s", "f", "file:s"],
+        &["send", "s", "f", "file:f"],
+        &["send", "s", "f", "file:"],
+        &["receive", "file:a", "0123", "l"],
+        &["receive", "a", "0001020304050607", "l"],
+        &["receive", "file:a", "0001020304050607", "a"],
+        &["receive", "file:a", "000102030405060G", "l"],
+    ];
+    for words in rows {
+        let mut place = place_of(alloc, &STREAM, PRIORITIES, "")?;
+        let ended = ends(alloc, words, &mut place, Status::Usage, "fault usage\n")?;
+        assert!(rt; ended, "{words:?}");
+    }
+    Ok(())
+}
+
+#[test]
+fn ends_with_the_status_and_its_line(rt: HostRuntime) -> Result<(), Fail> {
+    let alloc = rt.alloc();
+    let plan: [&str; 3] = ["plan", "s", "f"];
+    let check: [&str; 4] = ["check", "s", "f", "p"];
+    let send: [&str; 4] = ["send", "s", "f", "file:d"];
+    let receive: [&str; 4] = ["receive", "file:p", "0001020304050607", "l"];
+    let missing: [&str; 4] = ["receive", "file:a", "0001020304050607", "l"];
+    let least = "fault least 0\n";
+    let sent = "session a5ac9461b03bcf36 groups 1 datagrams 6\n";
+    let nothing = "read 0 kept 0 shown 0\nfault incomplete\n";
+    let text = Status::BadPlan(PlanKind::Text, 1);
+    let lines = Status::BadPlan(PlanKind::Lines, 0);
+    let rows: [(&[&str], &str, Status, u8, &str); 9] = [
+        (&plan, PLAN, Status::Done, 0, PLAN),
+        (&check, PLAN, Status::Done, 0, "least 1\n"),
+        (&send, PLAN, Status::Done, 0, sent),
+        (&receive, "", Status::Incomplete, 12, nothing),
+        (&missing, "", Status::PlaceFault, 3, "fault place\n"),
+        (&check, "lengths 2x012\n", text, 8, "fault plan Text 1\n"),
+        (&check, "", lines, 8, "fault plan Lines 0\n"),
+        (&check, "lengths 2x12\n", Status::NotLeast(0), 16, least),
+        (
+            &check,
+            "lengths 2x11 1x1 3x1 1x1 5x1 3x1\n",
+            Status::NotLeast(0),
+            16,
+            least,
+        ),
+    ];
+    for (words, file, status, code, printed) in rows {
+        let mut place = place_of(alloc, &STREAM, PRIORITIES, file)?;
+        let ended = ends(alloc, words, &mut place, status, printed)?;
+        assert!(rt; ended, "{words:?}");
+        assert_eq!(rt; status.code(), code);
+    }
+    Ok(())
+}
+
+#[test]
+fn judges_a_file_before_the_next_is_read(rt: HostRuntime) -> Result<(), Fail> {
+    let alloc = rt.alloc();
+    let bad = "packets = 1025\n";
+    let no_key = Status::BadPriority(PriorityFault::MissingKey);
+    let empty = Status::BadStream(Scan::Empty);
+    let place_fault = Status::PlaceFault;
+    let key_line = "fault priority MissingKey\n";
+    let rows: [(&[&str], &str, Status, &str); 7] = [
+        (&["plan", "missing", "f"], bad, no_key, key_line),
+        (&["check", "missing", "f", "p"], bad, no_key, key_line),
+        (&["send", "missing", "f", "file:d"], bad, no_key, key_line),
+        (
+            &["plan", "missing", "f"],
+            PRIORITIES,
+            place_fault,
+            "fault place\n",
+        ),
+        // a bad stream comes before a plan file that is missing
+        (
+            &["check", "s", "f", "missing"],
+            PRIORITIES,
+            empty,
+            "fault stream Empty 0\n",
+        ),
+        (
+            &["send", "s", "f", "file:d"],
+            PRIORITIES,
+            empty,
+            "fault stream Empty 0\n",
+        ),
+        (
+            &["send", "s", "missing", "file:d"],
+            PRIORITIES,
+            place_fault,
+            "fault place\n",
+        ),
+    ];
+    for (words, priorities, status, printed) in rows {
+        let mut place = place_of(alloc, &[], priorities, "")?;
+        let ended = ends(alloc, words, &mut place, status, printed)?;
+        assert!(rt; ended, "{words:?}");
+        assert_eq!(rt; place.bytes_of("d"), None, "{words:?}");
+    }
+    Ok(())
+}
+
+#[test]
+fn receives_what_was_sent(rt: HostRuntime) -> Result<(), Fail> {
+    let alloc = rt.alloc();
+    let mut place = place_of(alloc, &GROUPS, PRIORITIES, "")?;
+    let sent = "session 895ad4c0a13de41c groups 2 datagrams 12\n";
+    let send = ["send", "s", "f", "file:d"];
+    assert!(rt; ends(alloc, &send, &mut place, Status::Done, sent)?);
+    let receive = ["receive", "file:d", "895ad4c0a13de41c", "l"];
+    let received = "read 12 kept 12 shown 6\n";
+    assert!(rt; ends(alloc, &receive, &mut place, Status::Done, received)?);
+    assert_eq!(rt; place.bytes_of("l").map(|bytes| bytes.len()), Some(118));
+    Ok(())
+}
+
+#[test]
+fn prints_nothing_behind_a_failure_of_the_output(rt: HostRuntime) -> Result<(), Fail> {
+    let alloc = rt.alloc();
+    let rows: [(&[&str], Status, u8); 3] = [
+        (&["plan", "s", "f"], Status::OutFault, 5),
+        (
+            &["receive", "file:p", "0001020304050607", "l"],
+            Status::OutFault,
+            5,
+        ),
+        // the line of a status is no text of the command: the status stays
+        (&["plan", "s"], Status::Usage, 1),
+    ];
+    for (words, status, code) in rows {
+        let mut place = place_of(alloc, &STREAM, PRIORITIES, "")?;
+        let mut out = MemorySink::new(alloc, Vec::from_slice(alloc, &[0])?);
+        let told = run_on(alloc, words, &mut place, &mut out)?;
+        assert_eq!(rt; told, status, "{words:?}");
+        assert_eq!(rt; told.code(), code);
+        assert_eq!(rt; out.bytes(), [].as_slice(), "{words:?}");
+    }
+    Ok(())
+}
