@@ -1,6 +1,8 @@
 -- What contracts see of a table, and the bounds that each table keeps (this project's own).
-use Rattle.std.specs.Prelude.{◌≡◌, ℕ, ◌+◌, ◌*◌, ◌<◌, ◌≤◌, Bool, false, ◌||◌, nat_lt, List, [], ◌∷◌, length, sum_by, All}
-use Rattle.pet_base.specs.declared.limits.TheConstants.{MAX_PACKETS, MAX_LAYERS, MAX_GROUP_BYTES, MAX_DATAGRAM}
+use Rattle.std.specs.Prelude.{ℕ, ◌+◌, ◌*◌, ◌<◌, ◌≤◌, List, length, sum_by, All}
+use Rattle.pet_base.specs.declared.limits.TheConstants.{LAYER_LENGTH, MAX_LAYERS, MAX_GROUP_BYTES, MAX_DATAGRAM}
+use Rattle.stripe_plan.specs.declared.bounds.Bounds.{Bounds}
+use Rattle.stripe_plan.specs.declared.bounds.TheConstants.{BOUNDS, OLD_BOUNDS}
 use Rattle.stripe_plan.specs.declared.layer.LayerSize.{LayerSize}
 use Rattle.stripe_plan.specs.Layers.{AllNeeded, plan_ends}
 
@@ -13,23 +15,32 @@ pub record Sizes : Type 0 where
 abbrev pub bytes_of : List LayerSize → ℕ
 bytes_of layers = sum_by (λ layer. layer.length) layers
 
--- the length of a datagram: 25 bytes of head, six for each layer, a word for each stripe, and 8 of tag
-abbrev pub datagram_length_of : List LayerSize → ℕ
-datagram_length_of layers = 33 + 6 * length layers + 2 * length (plan_ends layers)
+-- the length of a frame of these layers, `bare` bytes of it being head and tag, at two bytes for each stripe
+abbrev pub length_over : ℕ → List LayerSize → ℕ
+length_over bare layers = bare + LAYER_LENGTH * length layers + 2 * length (plan_ends layers)
 
--- a need is below the one before it, the first one's being `before`
-abbrev pub falls_after : ℕ → List LayerSize → Bool
-falls_after before [] = false
-falls_after before (layer ∷ layers) = nat_lt layer.need before || falls_after layer.need layers
+-- the length of a datagram
+abbrev pub datagram_length_of : List LayerSize → ℕ
+datagram_length_of layers = length_over BOUNDS.bare layers
+
+-- what bounds the tables of a format is small enough to be reckoned with
+pub record AreBounds (b : Bounds) : Type 0 where
+  pub layers : b.layers ≤ MAX_LAYERS
+  pub bare : b.bare ≤ MAX_DATAGRAM
 
 -- the bounds of a table
-pub record IsTable (packets : ℕ) (layers : List LayerSize) : Type 0 where
+pub record IsTableIn (b : Bounds) (packets : ℕ) (layers : List LayerSize) : Type 0 where
   pub some_packets : 0 < packets
-  pub few_packets : packets ≤ MAX_PACKETS
+  pub few_packets : packets ≤ b.packets
   pub some_layers : 0 < length layers
-  pub few_layers : length layers ≤ MAX_LAYERS
+  pub few_layers : length layers ≤ b.layers
   pub needed : AllNeeded layers
   pub within : All (λ layer. layer.need ≤ packets) layers
-  pub rising : falls_after 0 layers ≡ false
   pub few_bytes : bytes_of layers ≤ MAX_GROUP_BYTES
-  pub narrow : datagram_length_of layers ≤ MAX_DATAGRAM
+  pub narrow : length_over b.bare layers ≤ MAX_DATAGRAM
+
+abbrev pub IsTable : ℕ → List LayerSize → Type 0
+IsTable packets layers = IsTableIn BOUNDS packets layers
+
+abbrev pub IsOldTable : ℕ → List LayerSize → Type 0
+IsOldTable packets layers = IsTableIn OLD_BOUNDS packets layers

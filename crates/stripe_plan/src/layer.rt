@@ -3,6 +3,8 @@ ghost use Rattle.std.specs.Prelude.{◌≡◌, ◌<◌, ◌≤◌, ◌^◌, leng
 ghost use Rattle.stripe_plan.specs.Layers.{words_of, words_before};
 ghost use Rattle.stripe_plan.specs.Sizes.{bytes_of};
 
+use pet_base::MAX_LAYERS;
+
 /// How long a layer is, and how many packets it needs.
 #[derive(Clone, Copy, Debug, Default, PartialEq, Eq)]
 pub struct LayerSize {
@@ -27,8 +29,8 @@ pub(crate) fn total_words(layers: &[LayerSize]) -> u32
     layers.iter().map(|layer| layer_words(layer)).sum()
 }
 
-/// How many words stand before a layer.
-pub(crate) fn first_word(layers: &[LayerSize], layer: usize) -> u32
+/// How many words stand before a layer, which is at most the number of layers.
+pub fn first_word(layers: &[LayerSize], layer: usize) -> u32
     requires few { sum_by words_of layers.now < 2 ^ 32 }
     requires known { layer ≤ length layers.now }
     ensures { result ≡ words_before layers.now layer }
@@ -38,7 +40,7 @@ pub(crate) fn first_word(layers: &[LayerSize], layer: usize) -> u32
 
 /// The bytes of the layers.
 pub(crate) fn total_length(layers: &[LayerSize]) -> u64
-    requires few { length layers.now ≤ 16 }
+    requires few { length layers.now ≤ MAX_LAYERS }
     ensures { result ≡ bytes_of layers.now }
 {
     let mut total = 0;

@@ -4,19 +4,26 @@
 //! into stripes that respect the needs. A `Table` keeps its bounds, and `Table::new` refuses by exactly the first bound
 //! that is broken. The plan is the partition in which every stripe is as long as any respecting stripe from its start. No
 //! respecting partition has fewer stripes, and the plan has at most as many as the layers would have if each were cut for
-//! itself. Apart from the one refusal of falling needs in `Table::new`, all of it holds for needs in any order.
+//! itself. All of it holds for needs in any order.
+//!
+//! What bounds a table is a value, `Bounds`: `measured` tells the stripes of layers within it, or the first bound that is
+//! broken. `Table` and `OldTable` are its two instances, and differ by the length of the tag of their frames.
 //!
 //! No call takes memory, and none takes a step a word or a stripe: they go by the layers, and by runs of equal stripes.
 #![tactic(auto)]
 
+mod bounds;
 mod layer;
 mod longest;
+mod old;
 mod plan;
 mod runs;
 mod table;
 #[cfg(test)]
 mod tests;
 
-pub use layer::LayerSize;
+pub use bounds::{BOUNDS, Bounds, OLD_BOUNDS, bounds_are, measured};
+pub use layer::{LayerSize, first_word};
+pub use old::OldTable;
 pub use plan::{bound, count, datagram_length, next_start, stripes};
 pub use table::{Table, TableFault};

@@ -7,6 +7,7 @@ ghost use Rattle.stripe_plan.specs.Sizes.{datagram_length_of};
 ghost use Rattle.pet_base.specs.declared.limits.TheConstants.{MAX_DATAGRAM};
 
 use crate::Table;
+use crate::bounds::BOUNDS;
 use crate::layer::layer_words;
 use crate::longest::longest_end;
 use crate::runs::{frame_length, plan_count, plan_len};
@@ -68,5 +69,6 @@ pub fn datagram_length(table: &Table) -> u32
     ensures length { result ≡ datagram_length_of table.now.layers }
     ensures narrow { result ≤ MAX_DATAGRAM }
 {
-    frame_length(table.layers())
+    let layers = table.layers();
+    frame_length(BOUNDS.bare, layers, plan_len(layers))
 }

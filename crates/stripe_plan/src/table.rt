@@ -1,33 +1,30 @@
 //! The table of a group, and its bounds.
-ghost use Rattle.std.specs.Prelude.{◌≡◌, ◌+◌, ◌*◌, ◌≤◌, ◌↔◌, ◌||◌, ◌==◌, nat_lt, [], length, None, Some, Ok, IsOk, IfOk, IfErr, IsTrue, ⊤};
-ghost use Rattle.std.specs.List.{list_any};
+ghost use Rattle.std.specs.Prelude.{◌≡◌, ◌+◌, ◌*◌, ◌≤◌, ◌↔◌, [], length, None, Some, Ok, IsOk, IfOk, IfErr, IsTrue, ⊤};
 ghost use Rattle.stripe_plan.specs.Layers.{needs_of, plan_ends, stripes_from};
 ghost use Rattle.stripe_plan.specs.Stripes.{IsPlan};
-ghost use Rattle.stripe_plan.specs.Sizes.{IsTable, bytes_of, falls_after};
+ghost use Rattle.stripe_plan.specs.Sizes.{IsTable, bytes_of};
 ghost use Rattle.stripe_plan.specs.Same.{same_table};
 ghost use Rattle.stripe_plan.specs.laws.SameLaws.{same_table_laws};
 ghost use Rattle.std.specs.Cmp.{partial_equiv_from_equiv};
 ghost use Rattle.stripe_plan.specs.Faults.{fault_of};
 
 use crate::LayerSize;
-use crate::layer::{total_length, total_words};
-use crate::runs::frame_length;
+use crate::bounds::{BOUNDS, measured};
+use crate::layer::total_words;
 use arrayvec::ArrayVec;
-use pet_base::{MAX_DATAGRAM, MAX_GROUP_BYTES, MAX_LAYERS, MAX_PACKETS};
+use pet_base::MAX_LAYERS;
 use std::alloc::AllocError;
 use std::marker::Model;
 
 /// Why there is no such table.
 #[derive(Clone, Copy, Debug, PartialEq, Eq)]
 pub enum TableFault {
-    /// No packets, or more than 1,024.
+    /// No packets, or more than the bounds allow: 4,096 in a `Table` and in an `OldTable`.
     Packets,
-    /// No layers, or more than 16.
+    /// No layers, or more than the bounds allow: 32 in a `Table` and in an `OldTable`.
     Layers,
     /// A need of 0, or above the number of packets.
     Need,
-    /// A need below the one before it.
-    Fall,
     /// Layers of more than 4,194,304 bytes in all.
     Sum,
     /// A datagram of more than 65,000 bytes.
@@ -62,31 +59,25 @@ impl Table {
         ensures refused { IfErr result (λ fault. fault_of packets layers.now ≡ Some fault) }
         ensures bounds { IsOk result ↔ IsTable packets layers.now }
     {
-        if packets == 0 || MAX_PACKETS < packets {
-            return Err(TableFault::Packets);
-        }
-        if layers.len() == 0 || MAX_LAYERS < layers.len() {
-            return Err(TableFault::Layers);
-        }
-        if has_wrong_need(packets, layers) {
-            return Err(TableFault::Need);
-        }
-        if has_falling_need(layers) {
-            return Err(TableFault::Fall);
-        }
-        if u64::from(MAX_GROUP_BYTES) < total_length(layers) {
-            return Err(TableFault::Sum);
-        }
-        if MAX_DATAGRAM < frame_length(layers) {
-            return Err(TableFault::Wide);
-        }
+        measured(&BOUNDS, packets, layers)?;
         Ok(Table {
             packets,
             layers: kept(layers),
         })
     }
 
-    /// The number of packets, from 1 to 1,024.
+    /// The table of packets and layers that are known to be within its bounds.
+    pub fn known(packets: u16, layers: &[LayerSize]) -> Table
+        requires { IsTable packets layers.now }
+        ensures { (result.packets ≡ packets) × (result.layers ≡ layers.now) }
+    {
+        Table {
+            packets,
+            layers: kept(layers),
+        }
+    }
+
+    /// The number of packets, from 1 to 4,096.
     pub fn packets(&self) -> u16
         ensures value { result ≡ self.now.packets }
         ensures bounds { IsTable self.now.packets self.now.layers }
@@ -94,7 +85,7 @@ impl Table {
         self.packets
     }
 
-    /// The layers in order, from 1 to 16.
+    /// The layers in order, from 1 to 32.
     pub fn layers(&self) -> &[LayerSize]
         ensures value { result.now ≡ self.now.layers }
         ensures bounds { IsTable self.now.packets self.now.layers }
@@ -148,7 +139,7 @@ impl Eq for Table {
 }
 
 /// The layers, in a row of their own.
-fn kept(layers: &[LayerSize]) -> ArrayVec<LayerSize, MAX_LAYERS>
+pub(crate) fn kept(layers: &[LayerSize]) -> ArrayVec<LayerSize, MAX_LAYERS>
     requires { length layers.now ≤ MAX_LAYERS }
     ensures { result.items ≡ layers.now }
 {
@@ -157,27 +148,4 @@ fn kept(layers: &[LayerSize]) -> ArrayVec<LayerSize, MAX_LAYERS>
         kept.push(*layer);
     }
     kept
-}
-
-/// Whether a layer has no need, or one above the number of packets.
-fn has_wrong_need(packets: u16, layers: &[LayerSize]) -> bool
-    ensures { result ≡ list_any (λ layer. layer.need == 0 || nat_lt packets layer.need) layers.now }
-{
-    layers
-        .iter()
-        .any(|layer| layer.need == 0 || packets < layer.need)
-}
-
-/// Whether a need is below the one before it.
-fn has_falling_need(layers: &[LayerSize]) -> bool
-    ensures { result ≡ falls_after 0 layers.now }
-{
-    let mut before = 0;
-    for layer in layers {
-        if layer.need < before {
-            return true;
-        }
-        before = layer.need;
-    }
-    false
 }

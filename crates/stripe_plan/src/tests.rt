@@ -1,53 +1,168 @@
 //! The plan of worked tables, the bounds of a table, and small tables against a slow search.
-use super::{LayerSize, Table, TableFault, bound, count, datagram_length, next_start, stripes};
-use crate::longest::longest_end;
-use crate::runs::{plan_count, plan_len};
+use super::{
+    LayerSize, OldTable, Table, TableFault, bound, count, datagram_length, next_start, stripes,
+};
 
 fn layer(length: u32, need: u16) -> LayerSize {
     LayerSize { length, need }
 }
 
+/// Layers and packets, with the stripes of their plan, the bound and the counts.
+const WORKED: [([LayerSize; 3], u16, u32, u32, [u16; 3]); 8] = [
+    (
+        [
+            LayerSize {
+                length: 20,
+                need: 10,
+            },
+            LayerSize {
+                length: 6,
+                need: 20,
+            },
+            LayerSize {
+                length: 0,
+                need: 20,
+            },
+        ],
+        20,
+        2,
+        2,
+        [10, 3, 1],
+    ),
+    (
+        [
+            LayerSize {
+                length: 10,
+                need: 4,
+            },
+            LayerSize {
+                length: 20,
+                need: 8,
+            },
+            LayerSize {
+                length: 39,
+                need: 16,
+            },
+        ],
+        16,
+        5,
+        6,
+        [4, 8, 16],
+    ),
+    (
+        [
+            LayerSize {
+                length: 46,
+                need: 2,
+            },
+            LayerSize { length: 7, need: 3 },
+            LayerSize {
+                length: 15,
+                need: 5,
+            },
+        ],
+        6,
+        15,
+        16,
+        [2, 3, 5],
+    ),
+    (
+        [
+            LayerSize {
+                length: 20,
+                need: 2,
+            },
+            LayerSize { length: 0, need: 3 },
+            LayerSize { length: 0, need: 5 },
+        ],
+        6,
+        5,
+        5,
+        [2, 1, 1],
+    ),
+    (
+        [
+            LayerSize {
+                length: 46,
+                need: 8,
+            },
+            LayerSize { length: 7, need: 2 },
+            LayerSize {
+                length: 15,
+                need: 5,
+            },
+        ],
+        8,
+        7,
+        7,
+        [8, 2, 5],
+    ),
+    (
+        [
+            LayerSize {
+                length: 46,
+                need: 2,
+            },
+            LayerSize {
+                length: 14,
+                need: 3,
+            },
+            LayerSize { length: 8, need: 4 },
+        ],
+        6,
+        15,
+        16,
+        [2, 3, 4],
+    ),
+    (
+        [
+            LayerSize {
+                length: 10,
+                need: 10,
+            },
+            LayerSize { length: 0, need: 1 },
+            LayerSize {
+                length: 10,
+                need: 10,
+            },
+        ],
+        10,
+        1,
+        2,
+        [10, 1, 10],
+    ),
+    (
+        [
+            LayerSize {
+                length: 20_000,
+                need: 60,
+            },
+            LayerSize {
+                length: 30_000,
+                need: 80,
+            },
+            LayerSize {
+                length: 22_000,
+                need: 95,
+            },
+        ],
+        100,
+        471,
+        471,
+        [60, 80, 95],
+    ),
+];
+
 #[test]
 fn has_the_numbers_of_worked_tables(rt: HostRuntime) {
-    let rows = [
-        (
-            [layer(20, 10), layer(6, 20), layer(0, 20)],
-            20,
-            2,
-            2,
-            [10, 3, 1],
-        ),
-        (
-            [layer(10, 4), layer(20, 8), layer(39, 16)],
-            16,
-            5,
-            6,
-            [4, 8, 16],
-        ),
-        (
-            [layer(46, 2), layer(7, 3), layer(15, 5)],
-            6,
-            15,
-            16,
-            [2, 3, 5],
-        ),
-        ([layer(20, 2), layer(0, 3), layer(0, 5)], 6, 5, 5, [2, 1, 1]),
-        (
-            [layer(20_000, 60), layer(30_000, 80), layer(22_000, 95)],
-            100,
-            471,
-            471,
-            [60, 80, 95],
-        ),
-    ];
-    for (layers, packets, plan, most, counts) in rows {
+    for (layers, packets, plan, most, counts) in WORKED {
         match Table::new(packets, &layers) {
             Ok(table) => {
                 assert!(rt; table.layers().len() == 3);
                 assert_eq!(rt; table.packets(), packets);
                 assert_eq!(rt; stripes(&table), plan);
                 assert_eq!(rt; bound(&table), most);
-                assert_eq!(rt; datagram_length(&table), 51 + 2 * plan);
+                assert_eq!(rt; datagram_length(&table), 59 + 2 * plan);
                 assert_eq!(rt;
                     [count(&table, 0), count(&table, 1), count(&table, 2)],
                     counts
@@ -61,10 +176,12 @@ fn has_the_numbers_of_worked_tables(rt: HostRuntime) {
 #[test]
 fn goes_over_the_stripes(rt: HostRuntime) {
     let three = [layer(10, 4), layer(20, 8), layer(40, 16)];
-    let two = [layer(20, 10), layer(6, 20)];
-    let rows: [(u16, &[LayerSize], &[u32]); 2] = [
+    let falling = [layer(6, 8), layer(6, 2)];
+    let mixed = [layer(46, 8), layer(7, 2), layer(15, 5)];
+    let rows: [(u16, &[LayerSize], &[u32]); 3] = [
         (16, &three, &[4, 8, 16, 32, 35]),
-        (20, &two, &[10, 13]),
+        (8, &falling, &[3, 5, 6]),
+        (8, &mixed, &[8, 16, 23, 25, 27, 32, 35]),
     ];
     for (packets, layers, ends) in rows {
         match Table::new(packets, layers) {
@@ -84,52 +201,67 @@ fn goes_over_the_stripes(rt: HostRuntime) {
 }
 
 #[test]
-fn plans_falling_needs(rt: HostRuntime) {
-    let layers = [
-        LayerSize { length: 6, need: 8 },
-        LayerSize { length: 6, need: 2 },
-    ];
-    assert_eq!(rt; plan_len(&layers), 3);
-    assert_eq!(rt; longest_end(&layers, 0), 3);
-    assert_eq!(rt; longest_end(&layers, 3), 5);
-    assert_eq!(rt; longest_end(&layers, 5), 6);
-    assert_eq!(rt; [plan_count(&layers, 0), plan_count(&layers, 1)], [3, 2]);
-}
-
-#[test]
 fn refuses_by_the_first_broken_bound(rt: HostRuntime) {
-    let rows = [
-        (0, [layer(1, 0), layer(0, 0)], TableFault::Packets),
-        (1_025, [layer(1, 0), layer(0, 0)], TableFault::Packets),
-        (2, [layer(1, 2), layer(1, 0)], TableFault::Need),
-        (2, [layer(1, 2), layer(1, 3)], TableFault::Need),
-        (2, [layer(4_194_304, 2), layer(1, 1)], TableFault::Fall),
-        (1, [layer(4_194_304, 1), layer(1, 1)], TableFault::Sum),
-        (1, [layer(4_194_304, 1), layer(0, 1)], TableFault::Wide),
+    let few = [layer(1, 2), layer(1, 0)];
+    let many = [layer(1, 2), layer(1, 3)];
+    let long = [layer(4_194_304, 1), layer(1, 1)];
+    let wide = [layer(4_194_304, 1), layer(0, 1)];
+    let none = [layer(0, 4_096); 33];
+    let rows: [(u16, &[LayerSize], Option<TableFault>); 9] = [
+        (0, &few, Some(TableFault::Packets)),
+        (4_097, &none, Some(TableFault::Packets)),
+        (4_096, &none[..0], Some(TableFault::Layers)),
+        (4_096, &none, Some(TableFault::Layers)),
+        (4_096, &none[..32], None),
+        (2, &few, Some(TableFault::Need)),
+        (2, &many, Some(TableFault::Need)),
+        (1, &long, Some(TableFault::Sum)),
+        (1, &wide, Some(TableFault::Wide)),
     ];
     for (packets, layers, fault) in rows {
-        assert_eq!(rt; Table::new(packets, &layers).err(), Some(fault));
+        assert_eq!(rt; Table::new(packets, layers).err(), fault);
+        assert_eq!(rt; OldTable::new(packets, layers).err(), fault);
     }
-    assert_eq!(rt; Table::new(1, &[]).err(), Some(TableFault::Layers));
-    assert_eq!(rt;
-        Table::new(1, &[layer(0, 1); 17]).err(),
-        Some(TableFault::Layers)
-    );
-    assert!(rt; Table::new(1_024, &[layer(0, 1_024); 16]).is_ok());
 }
 
 #[test]
 fn has_datagrams_of_64_999_bytes_at_most(rt: HostRuntime) {
-    match Table::new(1, &[layer(64_948, 1), layer(0, 1), layer(0, 1)]) {
+    match Table::new(1, &[layer(64_940, 1), layer(0, 1), layer(0, 1)]) {
         Ok(table) => {
-            assert_eq!(rt; table.words(), 32_474);
+            assert_eq!(rt; table.words(), 32_470);
             assert_eq!(rt; datagram_length(&table), 64_999);
             assert!(rt; matches!(table.clone(), Ok(copy) if copy == table));
         }
         Err(fault) => assert!(rt; false, "{fault:?}"),
     }
-    let wider = [layer(64_950, 1), layer(0, 1), layer(0, 1)];
+    let wider = [layer(64_942, 1), layer(0, 1), layer(0, 1)];
     assert_eq!(rt; Table::new(1, &wider).err(), Some(TableFault::Wide));
+}
+
+#[test]
+fn has_eight_bytes_more_in_frames_of_the_first_version(rt: HostRuntime) {
+    let rows = [
+        ([layer(64_940, 1), layer(0, 1), layer(0, 1)], 32_470, true),
+        ([layer(64_948, 1), layer(0, 1), layer(0, 1)], 32_474, false),
+    ];
+    for (layers, plan, is_kept) in rows {
+        match OldTable::new(1, &layers) {
+            Ok(old) => {
+                assert_eq!(rt; old.stripes(), plan);
+                match old.table() {
+                    Some(table) => {
+                        assert!(rt; is_kept);
+                        assert_eq!(rt; table.packets(), old.packets());
+                        assert!(rt; table.layers() == old.layers());
+                    }
+                    None => assert!(rt; !is_kept),
+                }
+            }
+            Err(fault) => assert!(rt; false, "{fault:?}"),
+        }
+    }
+    let wider = [layer(64_950, 1), layer(0, 1), layer(0, 1)];
+    assert_eq!(rt; OldTable::new(1, &wider).err(), Some(TableFault::Wide));
 }
 
 /// How many stripes the words have, one from each set bit of `cuts` on, or the words' number and one more where a stripe
