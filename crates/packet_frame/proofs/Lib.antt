@@ -1,8 +1,5 @@
-pub mod Layers
-pub mod Rows
-pub mod Tables
-pub mod Passed
-pub mod Spelled
-pub mod Again
-pub mod Laws
-pub mod Written
+mod Layers
+mod Results
+mod Rows
+mod Tables
+mod Written

@@ -1,3 +1,4 @@
+pub mod Format
 pub mod Frame
 pub mod Refusals
 pub mod View

@@ -4,10 +4,13 @@ use Rattle.std.specs.Prelude.{ℕ, zero, suc, ◌+◌, ◌-◌, ◌*◌, Bool, n
 use Rattle.std.specs.List.{list_any}
 use Rattle.std.specs.Str.{bytes_eq}
 use Rattle.std.specs.Int.{Width, w16, w32, byte_len, from_be_bytes}
-use Rattle.pet_base.specs.declared.limits.TheConstants.{MAX_DATAGRAM, MAX_GROUP_BYTES, MAX_GROUPS, MAX_LAYERS, MAX_PACKETS}
+use Rattle.pet_base.specs.declared.limits.TheConstants.{HEAD_LENGTH, LAYER_LENGTH, MAX_DATAGRAM, MAX_GROUP_BYTES, MAX_GROUPS}
 use Rattle.stripe_plan.specs.declared.layer.LayerSize.{LayerSize}
-use Rattle.stripe_plan.specs.Sizes.{bytes_of, datagram_length_of, falls_after}
-use Rattle.packet_frame.specs.Frame.{Fields, magic, tag_length, tag_of}
+use Rattle.stripe_plan.specs.Sizes.{bytes_of, length_over}
+use Rattle.packet_frame.specs.declared.format.Format.{Format}
+use Rattle.packet_frame.specs.declared.format.TheConstants.{FORMAT, OLD_FORMAT}
+use Rattle.packet_frame.specs.Format.{bare_length, frame_length_in}
+use Rattle.packet_frame.specs.Frame.{Fields, tag_of}
 use Rattle.packet_frame.specs.declared.fault.Field1.TheVariants.{Groups, Group, Packets, Number, Layers, Lengths, Need}
 use Rattle.packet_frame.specs.declared.fault.FrameFault.{FrameFault}
 use Rattle.packet_frame.specs.declared.fault.FrameFault.TheVariants.{Short, Magic, Range, Length, Tag}
@@ -23,30 +26,22 @@ layer_in bytes = record { length = number w32 0 bytes; need = number w16 4 bytes
 -- so many layers from the front of the bytes
 unfoldable pub layers_at : ℕ → List ℕ → List LayerSize
 layers_at zero bytes = []
-layers_at (suc count) bytes = layer_in bytes ∷ layers_at count (drop 6 bytes)
-
--- the bytes before the layers
-abbrev pub head_length : ℕ
-head_length = 25
-
--- the bytes of a frame of so many layers that has no payload
-abbrev pub bare_length : ℕ → ℕ
-bare_length count = head_length + tag_length + 6 * count
+layers_at (suc count) bytes = layer_in bytes ∷ layers_at count (drop LAYER_LENGTH bytes)
 
 -- how many layers the bytes name
 abbrev pub count_of : List ℕ → ℕ
 count_of bytes = slice_index bytes 24
 
 -- the fields, each at its place
-abbrev pub fields_of : List ℕ → Fields
-fields_of bytes = record {
+abbrev pub fields_in : Format → List ℕ → Fields
+fields_in t bytes = record {
   session = take 8 (drop 4 bytes);
   groups = number w32 12 bytes;
   group = number w32 16 bytes;
   packets = number w16 20 bytes;
   number = number w16 22 bytes;
-  layers = layers_at (count_of bytes) (drop head_length bytes);
-  payload = take (length bytes - bare_length (count_of bytes)) (drop (head_length + 6 * count_of bytes) bytes);
+  layers = layers_at (count_of bytes) (drop HEAD_LENGTH bytes);
+  payload = take (length bytes - bare_length t (count_of bytes)) (drop (HEAD_LENGTH + LAYER_LENGTH * count_of bytes) bytes);
 }
 
 -- a row of the table: where it holds, and its refusal
@@ -58,21 +53,21 @@ abbrev pub first_of : List Row → Option FrameFault
 first_of [] = None
 first_of (row ∷ rows) = if row.0 then Some row.1 else first_of rows
 
-abbrev pub head_rows : List ℕ → Fields → List Row
-head_rows bytes f =
-    (nat_lt (length bytes) (bare_length 1), Short)
-    ∷ (not (bytes_eq (take 4 bytes) magic), Magic)
+abbrev pub head_rows : Format → List ℕ → Fields → List Row
+head_rows t bytes f =
+    (nat_lt (length bytes) (bare_length t 1), Short)
+    ∷ (not (bytes_eq (take 4 bytes) t.mark), Magic)
     ∷ ((f.groups == 0) || nat_lt MAX_GROUPS f.groups, Range Groups)
     ∷ (not (nat_lt f.group f.groups), Range Group)
-    ∷ ((f.packets == 0) || nat_lt MAX_PACKETS f.packets, Range Packets)
+    ∷ ((f.packets == 0) || nat_lt t.bounds.packets f.packets, Range Packets)
     ∷ (not (nat_lt f.number f.packets), Range Number)
-    ∷ ((count_of bytes == 0) || nat_lt MAX_LAYERS (count_of bytes), Range Layers)
-    ∷ (nat_lt (length bytes) (bare_length (count_of bytes)), Length)
+    ∷ ((count_of bytes == 0) || nat_lt t.bounds.layers (count_of bytes), Range Layers)
+    ∷ (nat_lt (length bytes) (bare_length t (count_of bytes)), Length)
     ∷ []
 
--- a need is 0 or above the packets, or below the need before it
+-- a need is 0 or above the packets
 abbrev pub has_wrong_need : ℕ → List LayerSize → Bool
-has_wrong_need packets layers = list_any (λ layer. layer.need == 0 || nat_lt packets layer.need) layers || falls_after 0 layers
+has_wrong_need packets layers = list_any (λ layer. layer.need == 0 || nat_lt packets layer.need) layers
 
 abbrev pub layer_rows : ℕ → List LayerSize → List Row
 layer_rows packets layers =
@@ -81,23 +76,40 @@ layer_rows packets layers =
     ∷ []
 
 -- the last bytes are the tag of those before them
-abbrev pub ends_in_tag : List ℕ → Bool
-ends_in_tag bytes = bytes_eq (drop (length bytes - tag_length) bytes) (tag_of (take (length bytes - tag_length) bytes))
+abbrev pub ends_in_tag : Format → List ℕ → Bool
+ends_in_tag t bytes = bytes_eq (drop (length bytes - t.tag) bytes) (tag_of t (take (length bytes - t.tag) bytes))
 
-abbrev pub end_rows : List ℕ → List LayerSize → List Row
-end_rows bytes layers =
-    (not (length bytes == datagram_length_of layers) || nat_lt MAX_DATAGRAM (length bytes), Length)
-    ∷ (not (ends_in_tag bytes), Tag)
+abbrev pub end_rows : Format → List ℕ → List LayerSize → List Row
+end_rows t bytes layers =
+    (not (length bytes == frame_length_in t layers) || nat_lt MAX_DATAGRAM (length_over t.bounds.bare layers), Length)
+    ∷ (not (ends_in_tag t bytes), Tag)
     ∷ []
 
-abbrev pub rows : List ℕ → Fields → List Row
-rows bytes f = head_rows bytes f ++ layer_rows f.packets f.layers ++ end_rows bytes f.layers
+abbrev pub rows : Format → List ℕ → Fields → List Row
+rows t bytes f = head_rows t bytes f ++ layer_rows f.packets f.layers ++ end_rows t bytes f.layers
 
 -- the refusal of the bytes, or none
-unfoldable pub first_fault : List ℕ → Option FrameFault
-first_fault bytes = first_of (rows bytes (fields_of bytes))
+unfoldable pub first_fault_in : Format → List ℕ → Option FrameFault
+first_fault_in t bytes = first_of (rows t bytes (fields_in t bytes))
+
+-- of the frames that are written today
+abbrev pub fields_of : List ℕ → Fields
+fields_of bytes = fields_in FORMAT bytes
+
+abbrev pub first_fault : List ℕ → Option FrameFault
+first_fault bytes = first_fault_in FORMAT bytes
+
+-- of the frames of the first version
+abbrev pub old_fields_of : List ℕ → Fields
+old_fields_of bytes = fields_in OLD_FORMAT bytes
+
+abbrev pub first_old_fault : List ℕ → Option FrameFault
+first_old_fault bytes = first_fault_in OLD_FORMAT bytes
 
 -- the bytes are accepted, and have these fields
-pub record ReadsAs (bytes : List ℕ) (f : Fields) : Type 0 where
-  pub accepted : first_fault bytes ≡ None
-  pub fields : fields_of bytes ≡ f
+pub record ReadsAsIn (t : Format) (bytes : List ℕ) (f : Fields) : Type 0 where
+  pub accepted : first_fault_in t bytes ≡ None
+  pub fields : fields_in t bytes ≡ f
+
+abbrev pub ReadsAs : List ℕ → Fields → Type 0
+ReadsAs bytes f = ReadsAsIn FORMAT bytes f

@@ -3,6 +3,7 @@ use Rattle.std.specs.Prelude.{ℕ, List}
 use Rattle.packet_frame.specs.Frame.{Fields}
 use Rattle.packet_frame.specs.declared.frame.Frame.{Frame}
 use Rattle.packet_frame.specs.declared.frame.Header.{Header}
+use Rattle.packet_frame.specs.declared.old.OldFrame.{OldFrame}
 
 -- the fields of the packet of this header, number and payload
 abbrev pub fields_with : Header → ℕ → List ℕ → Fields
@@ -19,3 +20,15 @@ fields_with header number payload = record {
 -- the fields of a frame
 abbrev pub view : Frame → Fields
 view frame = fields_with frame.header frame.number frame.payload.now
+
+-- the fields of a frame of the first version
+abbrev pub old_view : OldFrame → Fields
+old_view frame = record {
+  session = frame.session;
+  groups = frame.groups;
+  group = frame.group;
+  packets = frame.table.packets;
+  number = frame.number;
+  layers = frame.table.layers;
+  payload = frame.payload.now;
+}

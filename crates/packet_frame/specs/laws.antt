@@ -1,1 +1,6 @@
+pub mod Formats
+pub mod LayerLaws
+pub mod Passed
+pub mod Spelled
+pub mod Again
 pub mod Laws

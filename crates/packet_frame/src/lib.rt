@@ -4,19 +4,28 @@
 //! word for each stripe of the table's plan. It has one text, which ends with a tag by SHA-256. `read_frame` accepts
 //! exactly the texts of frames and answers the first refusal of other bytes; `write_frame` appends the text of a
 //! frame, which is read back as that frame.
+//!
+//! A format of frames is a value, `Format`: `read_text` and `write_text` are the one reader and the one writer of every
+//! format, and the calls above are instances. `read_old_frame` reads the frames of the first version.
 #![tactic(auto)]
 
 mod fault;
+mod format;
 mod frame;
-mod layout;
+mod old;
 mod parts;
 mod read;
+mod text;
 mod write;
 
 pub use fault::{Field1, FrameFault};
+pub use format::{FORMAT, Format, OLD_FORMAT, formats_are};
 pub use frame::{Frame, Header};
+pub use old::{OldFrame, read_old_frame};
+pub use parts::{Head, Parts};
 pub use read::read_frame;
-pub use write::write_frame;
+pub use text::read_text;
+pub use write::{write_frame, write_text};
 
 #[cfg(test)]
 mod tests;

@@ -1,14 +1,46 @@
 //! The parts of a frame, each at its place in the bytes.
-ghost use Rattle.std.specs.Prelude.{◌≡◌, ◌+◌, ◌*◌, ◌≤◌, length};
+ghost use Rattle.std.specs.Prelude.{◌≡◌, ◌+◌, ◌*◌, ◌≤◌, length, drop};
 ghost use Rattle.std.specs.Int.{w16, w32};
-ghost use Rattle.packet_frame.specs.Frame.{tag_length};
-ghost use Rattle.packet_frame.specs.Refusals.{number, layer_in, layers_at, count_of, fields_of, bare_length, ends_in_tag};
+ghost use Rattle.packet_frame.specs.Format.{IsFormat, bare_length};
+ghost use Rattle.packet_frame.specs.Refusals.{number, layer_in, layers_at, count_of, fields_in, ends_in_tag};
 
-use crate::layout::{HEAD_LENGTH, LAYER_LENGTH, TAG_LENGTH};
+use crate::format::Format;
 use arrayvec::ArrayVec;
-use pet_base::MAX_LAYERS;
+use pet_base::{HEAD_LENGTH, LAYER_LENGTH, MAX_LAYERS};
 use sha2::{Digest, Sha256};
 use stripe_plan::LayerSize;
+
+/// The bytes before the layers.
+pub(crate) const HEAD: usize = HEAD_LENGTH as usize;
+
+/// The bytes of a layer: its length and its need.
+pub(crate) const LAYER: usize = LAYER_LENGTH as usize;
+
+/// The fields before the layers.
+#[derive(Clone, Copy)]
+pub struct Head {
+    /// The number of the session.
+    pub session: [u8; 8],
+    /// How many groups the session has, 1 to 65,535.
+    pub groups: u32,
+    /// The group, below `groups`.
+    pub group: u32,
+    /// The number of packets of the group.
+    pub packets: u16,
+    /// The packet's number, below `packets`.
+    pub number: u16,
+}
+
+/// A frame of any format, as it is read.
+#[derive(Drop)]
+pub struct Parts<'a> {
+    /// The fields before the layers.
+    pub head: Head,
+    /// The layers, in order.
+    pub layers: ArrayVec<LayerSize, MAX_LAYERS>,
+    /// The bytes between the layers and the tag.
+    pub payload: &'a [u8],
+}
 
 /// The number in the four bytes from `at` on.
 pub(crate) fn u32_at(bytes: &[u8], at: usize) -> u32
@@ -30,39 +62,41 @@ pub(crate) fn u16_at(bytes: &[u8], at: usize) -> u16
 pub(crate) fn layers_in(bytes: &[u8], count: u8) -> ArrayVec<LayerSize, MAX_LAYERS>
     requires count { count ≡ count_of bytes.now }
     requires few { count ≤ MAX_LAYERS }
-    requires room { bare_length count ≤ length bytes.now }
-    ensures { result.items ≡ (fields_of bytes.now).layers }
+    requires room { HEAD_LENGTH + LAYER_LENGTH * count ≤ length bytes.now }
+    ensures { result.items ≡ layers_at (count_of bytes.now) (drop HEAD_LENGTH bytes.now) }
 {
-    let (_, rest) = bytes.split_at(HEAD_LENGTH);
+    let (_, rest) = bytes.split_at(HEAD);
     layers_of(rest, count)
 }
 
 /// The bytes between the layers and the tag.
-pub(crate) fn payload_in(bytes: &[u8], count: u8) -> &[u8]
+pub(crate) fn payload_in<'a>(format: &Format, bytes: &'a [u8], count: u8) -> &'a [u8]
+    requires format { IsFormat format.now }
     requires count { count ≡ count_of bytes.now }
-    requires room { bare_length count ≤ length bytes.now }
-    ensures { result.now ≡ (fields_of bytes.now).payload }
+    requires room { bare_length format.now count ≤ length bytes.now }
+    ensures { result.now ≡ (fields_in format.now bytes.now).payload }
 {
-    let at = HEAD_LENGTH + LAYER_LENGTH * usize::from(count);
+    let at = HEAD + LAYER * usize::from(count);
     let (_, rest) = bytes.split_at(at);
-    let (payload, _) = rest.split_at(bytes.len() - (at + TAG_LENGTH));
+    let (payload, _) = rest.split_at(bytes.len() - (at + format.tag));
     payload
 }
 
 /// Whether the last bytes are the tag of those before them.
-pub(crate) fn has_tag(bytes: &[u8]) -> bool
-    requires { tag_length ≤ length bytes.now }
-    ensures { result ≡ ends_in_tag bytes.now }
+pub(crate) fn has_tag(format: &Format, bytes: &[u8]) -> bool
+    requires format { IsFormat format.now }
+    requires room { format.now.tag ≤ length bytes.now }
+    ensures { result ≡ ends_in_tag format.now bytes.now }
 {
-    let (front, tag) = bytes.split_at(bytes.len() - TAG_LENGTH);
+    let (front, tag) = bytes.split_at(bytes.len() - format.tag);
     let digest = Sha256::digest(front);
-    tag == &digest[..TAG_LENGTH]
+    tag == &digest[..format.tag]
 }
 
 /// So many layers from the front of the bytes.
 #[tactic(auto, unfolding(crate::specs::Refusals::layers_at))]
 fn layers_of(bytes: &[u8], count: u8) -> ArrayVec<LayerSize, MAX_LAYERS>
-    requires room { 6 * count ≤ length bytes.now }
+    requires room { LAYER_LENGTH * count ≤ length bytes.now }
     requires few { count ≤ MAX_LAYERS }
     ensures { result.items ≡ layers_at count bytes.now }
 {
@@ -70,7 +104,7 @@ fn layers_of(bytes: &[u8], count: u8) -> ArrayVec<LayerSize, MAX_LAYERS>
     let mut rest = bytes;
     for _ in 0..count {
         layers.push(layer_at(rest));
-        let (_, after) = rest.split_at(LAYER_LENGTH);
+        let (_, after) = rest.split_at(LAYER);
         rest = after;
     }
     layers
@@ -78,7 +112,7 @@ fn layers_of(bytes: &[u8], count: u8) -> ArrayVec<LayerSize, MAX_LAYERS>
 
 /// The layer at the front of the bytes: its length and its need.
 fn layer_at(bytes: &[u8]) -> LayerSize
-    requires { 6 ≤ length bytes.now }
+    requires { LAYER_LENGTH ≤ length bytes.now }
     ensures { result ≡ layer_in bytes.now }
 {
     LayerSize {

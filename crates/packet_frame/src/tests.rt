@@ -1,21 +1,27 @@
-//! A small frame as its bytes, the refusals of its neighbours, and each change of one bit.
-use super::{Field1, FrameFault, Header, read_frame, write_frame};
-use sha2::{Digest, Sha256};
+//! A small frame of each version as its bytes, the refusals of their neighbours, and each change of one bit. The tags were
+//! made by another program.
+use super::{Field1, FrameFault, Header, read_frame, read_old_frame, write_frame};
 use std::alloc::{AllocError, Global};
 use std::test::Fail;
 use stripe_plan::{LayerSize, Table, datagram_length};
 
 /// Packet 1 of 2 of the only group of a session: one layer of 3 bytes and need 1.
-const FRAME: [u8; 43] = [
+const FRAME: [u8; 51] = [
+    b'P', b'E', b'T', b'2', 0, 1, 2, 3, 4, 5, 6, 7, 0, 0, 0, 1, 0, 0, 0, 0, 0, 2, 0, 1, 1, 0, 0, 0,
+    3, 0, 1, 0xAB, 0xCD, 0xEF, 0, 0x3A, 0x1B, 0x65, 0x06, 0xD1, 0x75, 0x88, 0xD0, 0x26, 0x0F, 0x80,
+    0xED, 0x45, 0xE0, 0x9D, 0xE1,
+];
+
+/// The same packet in a frame of the first version.
+const OLD_FRAME: [u8; 43] = [
     b'P', b'E', b'T', b'1', 0, 1, 2, 3, 4, 5, 6, 7, 0, 0, 0, 1, 0, 0, 0, 0, 0, 2, 0, 1, 1, 0, 0, 0,
     3, 0, 1, 0xAB, 0xCD, 0xEF, 0, 0x43, 0xE1, 0x4A, 0x0C, 0x5E, 0x82, 0xAC, 0x8B,
 ];
 
-/// The bytes and their tag.
-fn tagged(alloc: Global, bytes: &[u8]) -> Result<Vec<u8>, AllocError> {
+/// The bytes and a tag.
+fn tagged(alloc: Global, bytes: &[u8], tag: &[u8]) -> Result<Vec<u8>, AllocError> {
     let mut frame = Vec::from_slice(alloc, bytes)?;
-    let digest = Sha256::digest(bytes);
-    frame.extend_from_slice(&digest[..8])?;
+    frame.extend_from_slice(tag)?;
     Ok(frame)
 }
 
@@ -39,71 +45,244 @@ fn reads_and_writes_the_small_frame(rt: HostRuntime) -> Result<(), Fail> {
     let payload = [0xAB, 0xCD, 0xEF, 0];
     let mut bytes = Vec::from_slice(rt.alloc(), b"front")?;
     assert!(rt; header.groups == 1 && header.group == 0 && header.table.packets() == 2);
-    assert!(rt; datagram_length(&header.table) == 43);
+    assert!(rt; datagram_length(&header.table) == 51);
     write_frame(&header, 1, &payload, &mut bytes)?;
-    assert_eq!(rt; bytes.len(), 48);
+    assert_eq!(rt; bytes.len(), 56);
     assert_eq!(rt; &bytes[5..], FRAME.as_slice());
     Ok(())
 }
 
 #[test]
+fn reads_the_small_frame_of_the_first_version(rt: HostRuntime) -> Result<(), Fail> {
+    let frame = read_old_frame(&OLD_FRAME)?;
+    assert_eq!(rt; frame.session, [0, 1, 2, 3, 4, 5, 6, 7]);
+    assert_eq!(rt; (frame.groups, frame.group), (1, 0));
+    assert_eq!(rt; frame.table.packets(), 2);
+    assert!(rt; frame.table.layers() == [LayerSize { length: 3, need: 1 }].as_slice());
+    assert_eq!(rt; frame.number, 1);
+    assert_eq!(rt; frame.payload, [0xAB, 0xCD, 0xEF, 0].as_slice());
+    assert_eq!(rt; read_frame(&OLD_FRAME).err(), Some(FrameFault::Short));
+    assert_eq!(rt; read_old_frame(&FRAME).err(), Some(FrameFault::Magic));
+    assert_eq!(rt; read_frame(&FRAME[..46]).err(), Some(FrameFault::Short));
+    assert_eq!(rt;
+        read_old_frame(&OLD_FRAME[..38]).err(),
+        Some(FrameFault::Short)
+    );
+    Ok(())
+}
+
+/// Two places and the bytes that are set there in the frame of each version, the tags of these bytes, and the refusal.
+const CAUSES: [(usize, u8, usize, u8, u128, u64, Option<FrameFault>); 15] = [
+    (
+        1,
+        70,
+        1,
+        70,
+        0x2F01C8A4F9286BF3D934BD86FBAC4400,
+        0x415EDBCD86CE627B,
+        Some(FrameFault::Magic),
+    ),
+    (
+        15,
+        0,
+        15,
+        0,
+        0xACDFA5CFC747D7E98B7B7E64E37AB007,
+        0xB5BDAC055F7E1DE9,
+        Some(FrameFault::Range(Field1::Groups)),
+    ),
+    (
+        13,
+        1,
+        15,
+        0,
+        0x4C665EC4BFCAE50296198E512293C55F,
+        0xDD0B05FF65F2FF09,
+        Some(FrameFault::Range(Field1::Groups)),
+    ),
+    (
+        19,
+        1,
+        19,
+        1,
+        0x1A7470A91C1D6C337CE6A0BF5BBCC915,
+        0x19AA227899DD81A4,
+        Some(FrameFault::Range(Field1::Group)),
+    ),
+    (
+        21,
+        0,
+        21,
+        0,
+        0xD82BC341B61682EA688E54FA1C1F6924,
+        0x80C6C07D50818E9D,
+        Some(FrameFault::Range(Field1::Packets)),
+    ),
+    (
+        20,
+        16,
+        21,
+        1,
+        0x854716D99F4D9685062E1BDCDB08FCDA,
+        0x5CC6030D9ABA579B,
+        Some(FrameFault::Range(Field1::Packets)),
+    ),
+    (
+        23,
+        2,
+        23,
+        2,
+        0x0F3FEF54CC25F217DF31FF34EF21CFF0,
+        0x635116BCBC305BCF,
+        Some(FrameFault::Range(Field1::Number)),
+    ),
+    (
+        24,
+        0,
+        24,
+        0,
+        0xE671935CAB65C881E3EF62ACA8437B2F,
+        0x226E3AA676C0871E,
+        Some(FrameFault::Range(Field1::Layers)),
+    ),
+    (
+        24,
+        33,
+        24,
+        33,
+        0xF88E902202F44FF277EB717E79352443,
+        0x2EBECEBDEFF58775,
+        Some(FrameFault::Range(Field1::Layers)),
+    ),
+    (
+        24,
+        2,
+        24,
+        2,
+        0xE6612F879BB7850E785588B53F18E6D9,
+        0x7A6DB7999410C6F7,
+        Some(FrameFault::Length),
+    ),
+    (
+        30,
+        0,
+        30,
+        0,
+        0x0D0909A45C19686CA843F17F346FAF5B,
+        0x46FB63ABF1E39478,
+        Some(FrameFault::Range(Field1::Need)),
+    ),
+    (
+        30,
+        3,
+        30,
+        3,
+        0x40495369F3F84D158D037AEFC1307374,
+        0x18F2970313ECCFC4,
+        Some(FrameFault::Range(Field1::Need)),
+    ),
+    (
+        26,
+        64,
+        28,
+        1,
+        0xD975147837F2177C10283091BD3C5E1A,
+        0x3D2EB966464EDC16,
+        Some(FrameFault::Range(Field1::Lengths)),
+    ),
+    (
+        28,
+        4,
+        28,
+        4,
+        0x73CBEB51D47D2588B26B10CEAC4D57E9,
+        0x4751C2600725DFCF,
+        None,
+    ),
+    (
+        28,
+        5,
+        28,
+        5,
+        0x148C41C30194353E9AF770CCF34078D6,
+        0x80E93915B9B9D4B8,
+        Some(FrameFault::Length),
+    ),
+];
+
+#[test]
 fn answers_the_first_cause(rt: HostRuntime) -> Result<(), Fail> {
-    // Two bytes of the frame are set, and the tag is made anew.
-    let rows = [
-        (1, b'F', 1, b'F', Some(FrameFault::Magic)),
-        (15, 0, 15, 0, Some(FrameFault::Range(Field1::Groups))),
-        (13, 1, 15, 0, Some(FrameFault::Range(Field1::Groups))),
-        (19, 1, 19, 1, Some(FrameFault::Range(Field1::Group))),
-        (21, 0, 21, 0, Some(FrameFault::Range(Field1::Packets))),
-        (20, 4, 21, 1, Some(FrameFault::Range(Field1::Packets))),
-        (23, 2, 23, 2, Some(FrameFault::Range(Field1::Number))),
-        (24, 0, 24, 0, Some(FrameFault::Range(Field1::Layers))),
-        (24, 17, 24, 17, Some(FrameFault::Range(Field1::Layers))),
-        (24, 2, 24, 2, Some(FrameFault::Length)),
-        (30, 0, 30, 0, Some(FrameFault::Range(Field1::Need))),
-        (30, 3, 30, 3, Some(FrameFault::Range(Field1::Need))),
-        (26, 0x40, 28, 1, Some(FrameFault::Range(Field1::Lengths))),
-        (28, 4, 28, 4, None),
-        (28, 5, 28, 5, Some(FrameFault::Length)),
-    ];
     let alloc = rt.alloc();
-    for (first, a, second, b, want) in rows {
+    for (first, a, second, b, tag, old_tag, want) in CAUSES {
+        assert!(rt; first < 35 && second < 35);
         let mut bytes = [0u8; 35];
         bytes.copy_from_slice(&FRAME[..35]);
-        assert!(rt; first < 35 && second < 35);
         bytes[first] = a;
         bytes[second] = b;
+        let frame = tagged(alloc, &bytes, &u128::to_be_bytes(tag))?;
+        assert_eq!(rt; read_frame(&frame).err(), want, "{first} {a} {second} {b}");
+        bytes[3] = b'1';
+        let frame = tagged(alloc, &bytes, &u64::to_be_bytes(old_tag))?;
         assert_eq!(rt;
-            read_frame(&tagged(alloc, &bytes)?).err(),
+            read_old_frame(&frame).err(),
             want,
             "{first} {a} {second} {b}"
         );
     }
+    Ok(())
+}
 
-    let mut longer = Vec::from_slice(alloc, &FRAME[..35])?;
-    longer.push(0)?;
-    assert_eq!(rt;
-        read_frame(&tagged(alloc, &longer)?).err(),
-        Some(FrameFault::Length)
-    );
-    let mut falling = Vec::from_slice(alloc, &FRAME[..24])?;
-    falling.extend_from_slice(&[2, 0, 0, 0, 2, 0, 2, 0, 0, 0, 2, 0, 1, 1, 1, 2, 2])?;
-    assert_eq!(rt;
-        read_frame(&tagged(alloc, &falling)?).err(),
-        Some(FrameFault::Range(Field1::Need))
-    );
-    let mut empty = Vec::from_slice(alloc, &FRAME[..28])?;
-    empty.extend_from_slice(&[0, 0, 1])?;
-    assert_eq!(rt; read_frame(&tagged(alloc, &empty)?).err(), None);
-    assert_eq!(rt; read_frame(&FRAME[..38]).err(), Some(FrameFault::Short));
+#[test]
+fn reads_other_layers(rt: HostRuntime) -> Result<(), Fail> {
+    // What stands behind the packet's number; the tags are those of these bytes.
+    let rows: [(&[u8], u128, u64, Option<FrameFault>); 3] = [
+        // one byte more before the tag
+        (
+            &[1, 0, 0, 0, 3, 0, 1, 171, 205, 239, 0, 0],
+            0xDA68C00DBF69666AB40E59ACD5ABC2B7,
+            0x8CDF6E80C8DA29B6,
+            Some(FrameFault::Length),
+        ),
+        // no payload
+        (
+            &[1, 0, 0, 0, 0, 0, 1],
+            0x54D91691DD4C30BEBF2DFCC04427E987,
+            0x4F32A1CA1B88E6D7,
+            None,
+        ),
+        // needs that fall
+        (
+            &[2, 0, 0, 0, 2, 0, 2, 0, 0, 0, 2, 0, 1, 1, 1, 2, 2],
+            0x96815AC702099FDC6048B51ADA16810A,
+            0x6A58847C1ADDB72A,
+            None,
+        ),
+    ];
+    let alloc = rt.alloc();
+    for (rest, tag, old_tag, want) in rows {
+        let bytes = tagged(alloc, &FRAME[..24], rest)?;
+        let frame = tagged(alloc, &bytes, &u128::to_be_bytes(tag))?;
+        assert_eq!(rt; read_frame(&frame).err(), want);
+        let bytes = tagged(alloc, &OLD_FRAME[..24], rest)?;
+        let frame = tagged(alloc, &bytes, &u64::to_be_bytes(old_tag))?;
+        assert_eq!(rt; read_old_frame(&frame).err(), want);
+        if frame.len() >= 47 {
+            assert_eq!(rt; read_frame(&frame).err(), Some(FrameFault::Magic));
+        }
+    }
     Ok(())
 }
 
 #[test]
 fn refuses_each_change_of_one_bit(rt: HostRuntime) {
-    for bit in 0..344usize {
+    for bit in 0..408usize {
         let mut bytes = FRAME;
         bytes[bit / 8] ^= 1 << (bit % 8);
         assert!(rt; read_frame(&bytes).is_err(), "bit {bit}");
+    }
+    for bit in 0..344usize {
+        let mut bytes = OLD_FRAME;
+        bytes[bit / 8] ^= 1 << (bit % 8);
+        assert!(rt; read_old_frame(&bytes).is_err(), "bit {bit}");
     }
 }

@@ -1,16 +1,18 @@
 //! A frame to its bytes.
 ghost use Rattle.std.specs.Prelude.{◌≡◌, ◌+◌, ◌-◌, ◌*◌, ◌<◌, ◌≤◌, [], ◌++◌, length, take, drop, OnOk, OnErr, vec_len, vec_capacity};
 ghost use Rattle.std.specs.List.{flat_map};
-ghost use Rattle.packet_frame.specs.Frame.{IsFrame, text, tag_of, tag_length, layer_text, head_text, text_before_tag, payload_length_of};
-ghost use Rattle.packet_frame.specs.Refusals.{head_length, ReadsAs};
+ghost use Rattle.packet_frame.specs.Format.{IsFormat};
+ghost use Rattle.packet_frame.specs.Frame.{IsFrame, IsFrameIn, text, text_in, tag_of, layer_text, head_text, payload_length_of};
+ghost use Rattle.packet_frame.specs.Refusals.{ReadsAs};
+ghost use Rattle.packet_frame.specs.Reading.{fields_by};
 ghost use Rattle.packet_frame.specs.View.{fields_with};
-ghost use Rattle.stripe_plan.specs.Sizes.{datagram_length_of};
 
+use crate::format::{FORMAT, Format};
 use crate::frame::Header;
-use crate::layout::{MARK, TAG_LENGTH};
-use pet_base::{MAX_GROUPS, NoMemory};
+use crate::parts::{HEAD, Head, LAYER};
+use pet_base::{HEAD_LENGTH, LAYER_LENGTH, MAX_GROUPS, MAX_LAYERS, NoMemory};
 use sha2::{Digest, Sha256};
-use stripe_plan::{LayerSize, datagram_length};
+use stripe_plan::LayerSize;
 
 /// Appends the text of a frame. The room is taken before the first byte.
 pub fn write_frame(
@@ -33,37 +35,64 @@ pub fn write_frame(
         (fields_with header.now number payload.now) }
 {
     let layers = header.table.layers();
-    into.reserve(datagram_length(&header.table) as usize)?;
+    let session = header.session;
+    let head = Head {
+        session,
+        groups: header.groups,
+        group: header.group,
+        packets: header.table.packets(),
+        number,
+    };
+    write_text(&FORMAT, &head, layers, payload, into)
+}
+
+/// Appends the text of a frame of a format. The room is taken before the first byte.
+pub fn write_text(
+    format: &Format,
+    head: &Head,
+    layers: &[LayerSize],
+    payload: &[u8],
+    into: &mut Vec<u8>,
+) -> Result<(), NoMemory>
+    requires format { IsFormat format.now }
+    requires frame { IsFrameIn format.now (fields_by head.now layers.now payload.now) }
+    ensures ok { OnOk result (into.new.items ≡ into.old.items
+        ++ text_in format.now (fields_by head.now layers.now payload.now)) }
+    ensures err { OnErr result (into.new.items ≡ into.old.items) }
+{
+    into.reserve(HEAD + LAYER * layers.len() + payload.len() + format.tag)?;
     let start = into.len();
-    append_head(header, number, into);
+    append_head(format, head, layers, into);
     append_layers(layers, into);
     append(payload, into);
-    append_tag(start, into);
+    append_tag(format, start, into);
     Ok(())
 }
 
 /// Appends all that is before the layers.
-fn append_head(header: &Header, number: u16, into: &mut Vec<u8>)
-    requires room { vec_len into.old + head_length ≤ vec_capacity into.old }
+fn append_head(format: &Format, head: &Head, layers: &[LayerSize], into: &mut Vec<u8>)
+    requires format { IsFormat format.now }
+    requires few { length layers.now ≤ MAX_LAYERS }
+    requires room { vec_len into.old + HEAD_LENGTH ≤ vec_capacity into.old }
     ensures items { into.new.items ≡ into.old.items
-        ++ head_text (fields_with header.now number []) }
-    ensures len { vec_len into.new ≡ vec_len into.old + head_length }
+        ++ head_text format.now (fields_by head.now layers.now []) }
+    ensures len { vec_len into.new ≡ vec_len into.old + HEAD_LENGTH }
     ensures room { vec_capacity into.old ≤ vec_capacity into.new }
 {
-    append(&MARK, into);
-    append(&header.session, into);
-    append(&header.groups.to_be_bytes(), into);
-    append(&header.group.to_be_bytes(), into);
-    append(&header.table.packets().to_be_bytes(), into);
-    append(&number.to_be_bytes(), into);
-    append(&[header.table.layers().len() as u8], into);
+    append(&format.mark, into);
+    append(&head.session, into);
+    append(&head.groups.to_be_bytes(), into);
+    append(&head.group.to_be_bytes(), into);
+    append(&head.packets.to_be_bytes(), into);
+    append(&head.number.to_be_bytes(), into);
+    append(&[layers.len() as u8], into);
 }
 
 /// Appends the layers, each its length and its need.
 fn append_layers(layers: &[LayerSize], into: &mut Vec<u8>)
-    requires room { vec_len into.old + 6 * length layers.now ≤ vec_capacity into.old }
+    requires room { vec_len into.old + LAYER_LENGTH * length layers.now ≤ vec_capacity into.old }
     ensures items { into.new.items ≡ into.old.items ++ flat_map layer_text layers.now }
-    ensures len { vec_len into.new ≡ vec_len into.old + 6 * length layers.now }
+    ensures len { vec_len into.new ≡ vec_len into.old + LAYER_LENGTH * length layers.now }
     ensures room { vec_capacity into.old ≤ vec_capacity into.new }
 {
     for layer in layers {
@@ -73,13 +102,15 @@ fn append_layers(layers: &[LayerSize], into: &mut Vec<u8>)
 }
 
 /// Appends the tag of the bytes from `start` on.
-fn append_tag(start: usize, into: &mut Vec<u8>)
+fn append_tag(format: &Format, start: usize, into: &mut Vec<u8>)
+    requires format { IsFormat format.now }
     requires start { start ≤ vec_len into.old }
-    requires room { vec_len into.old + tag_length ≤ vec_capacity into.old }
-    ensures items { into.new.items ≡ into.old.items ++ tag_of (drop start into.old.items) }
+    requires room { vec_len into.old + format.now.tag ≤ vec_capacity into.old }
+    ensures items { into.new.items ≡ into.old.items
+        ++ tag_of format.now (drop start into.old.items) }
 {
     let digest = Sha256::digest(&into[start..]);
-    append(&digest[..TAG_LENGTH], into);
+    append(&digest[..format.tag], into);
 }
 
 /// Appends bytes for which there is room.

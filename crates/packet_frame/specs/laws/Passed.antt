@@ -1,6 +1,5 @@
 -- What holds of bytes and fields at which no row of the table of refusals holds, and back.
-use Rattle.std.proofs.Common.{◌≡◌, ℕ, ◌+◌, ◌-◌, ◌*◌, ◌<◌, ◌≤◌, Bool, true, false, not, eqb, ltb, cond, ◌||◌, List, [], ◌∷◌, length, take, drop, Option, None, Some, refl, arith}
-use Rattle.std.specs.Prelude.{sum_by, codes}
+use Rattle.std.proofs.Common.{◌≡◌, ℕ, ◌-◌, ◌<◌, ◌≤◌, Bool, true, false, not, eqb, ltb, cond, ◌||◌, List, [], ◌∷◌, length, take, drop, Option, None, Some, refl, arith}
 use Rattle.std.specs.List.{list_any, All}
 use Rattle.std.specs.Str.{bytes_eq}
 use Rattle.std.proofs.lemmas.Bool.Decides.{nat_tests}
@@ -8,10 +7,13 @@ use Rattle.std.proofs.lemmas.List.Elements.{All-nil, All-cons}
 use Rattle.std.proofs.lemmas.List.Folds.{list_any_none}
 use Rattle.std.proofs.lemmas.Slice.Eq.{bytes_eq-Decides}
 use Rattle.stripe_plan.specs.declared.layer.LayerSize.{LayerSize}
-use Rattle.stripe_plan.specs.Sizes.{falls_after}
-use Rattle.stripe_plan.specs.Sizes.{datagram_length_of}
+use Rattle.pet_base.specs.declared.limits.TheConstants.{MAX_DATAGRAM, MAX_GROUP_BYTES, MAX_GROUPS}
+use Rattle.stripe_plan.specs.Sizes.{bytes_of, length_over}
+use Rattle.packet_frame.specs.declared.format.Format.{Format}
+use Rattle.packet_frame.specs.declared.format.TheConstants.{FORMAT}
+use Rattle.packet_frame.specs.Format.{bare_length, frame_length_in}
 use Rattle.packet_frame.specs.declared.fault.FrameFault.{FrameFault}
-use Rattle.packet_frame.specs.Frame.{Fields, magic, tag_of}
+use Rattle.packet_frame.specs.Frame.{Fields, tag_of}
 use Rattle.packet_frame.specs.Refusals.{Row, first_of, rows, count_of}
 
 -- no row's test holds
@@ -32,24 +34,23 @@ none_holds [] h = refl
 none_holds (row ∷ rows) h = rw h.0 (none_holds rows h.1)
 
 -- what each row leaves, row by row
-pub record Passes (bytes : List ℕ) (f : Fields) : Type 0 where
-  pub long : 39 ≤ length bytes
-  pub magic : take 4 bytes ≡ codes "PET1"
+pub record PassesIn (t : Format) (bytes : List ℕ) (f : Fields) : Type 0 where
+  pub long : bare_length t 1 ≤ length bytes
+  pub magic : take 4 bytes ≡ t.mark
   pub some_groups : 0 < f.groups
-  pub few_groups : f.groups ≤ 65535
+  pub few_groups : f.groups ≤ MAX_GROUPS
   pub group : f.group < f.groups
   pub some_packets : 0 < f.packets
-  pub few_packets : f.packets ≤ 1024
+  pub few_packets : f.packets ≤ t.bounds.packets
   pub number : f.number < f.packets
   pub some_layers : 0 < count_of bytes
-  pub few_layers : count_of bytes ≤ 16
-  pub room : 33 + 6 * count_of bytes ≤ length bytes
+  pub few_layers : count_of bytes ≤ t.bounds.layers
+  pub room : bare_length t (count_of bytes) ≤ length bytes
   pub needs : list_any (λ (layer : LayerSize). eqb layer.need 0 || ltb f.packets layer.need) f.layers ≡ false
-  pub rising : falls_after 0 f.layers ≡ false
-  pub lengths : sum_by (λ layer. layer.length) f.layers ≤ 4194304
-  pub whole : length bytes ≡ datagram_length_of f.layers
-  pub narrow : length bytes ≤ 65000
-  pub tag : drop (length bytes - 8) bytes ≡ tag_of (take (length bytes - 8) bytes)
+  pub lengths : bytes_of f.layers ≤ MAX_GROUP_BYTES
+  pub whole : length bytes ≡ frame_length_in t f.layers
+  pub narrow : length_over t.bounds.bare f.layers ≤ MAX_DATAGRAM
+  pub tag : drop (length bytes - t.tag) bytes ≡ tag_of t (take (length bytes - t.tag) bytes)
 
 same_bytes : (x y : List ℕ) → not (bytes_eq x y) ≡ false → x ≡ y
 same_bytes x y h = (bytes_eq-Decides x y).0 (not_false (bytes_eq x y) h)
@@ -79,67 +80,72 @@ at_most a b h = grind (arith, nat_tests)
 not_above : (a b : ℕ) → b ≤ a → ltb a b ≡ false
 not_above a b p = grind (arith, nat_tests)
 
-fits : (size wanted most : ℕ) → (not (eqb size wanted) || ltb most size) ≡ false → (size ≡ wanted) × (size ≤ most)
-fits size wanted most h = (grind (arith, nat_tests), grind (arith, nat_tests))
+fits : (size wanted most bound : ℕ) → (not (eqb size wanted) || ltb most bound) ≡ false → (size ≡ wanted) × (bound ≤ most)
+fits size wanted most bound h = (grind (arith, nat_tests), grind (arith, nat_tests))
 
-not_unfit : (size wanted most : ℕ) → size ≡ wanted → size ≤ most → (not (eqb size wanted) || ltb most size) ≡ false
-not_unfit size wanted most p q = grind (arith, nat_tests)
+not_unfit : (size wanted most bound : ℕ) → size ≡ wanted → bound ≤ most → (not (eqb size wanted) || ltb most bound) ≡ false
+not_unfit size wanted most bound p q = grind (arith, nat_tests)
 
 neither : (a b : Bool) → (a || b) ≡ false → (a ≡ false) × (b ≡ false)
 neither true b h = absurd cc
 neither false b h = (refl, h)
 
-pub passes : (bytes : List ℕ) (f : Fields) → first_of (rows bytes f) ≡ None → Passes bytes f
-passes bytes f h =
-    let t = all_false (rows bytes f) h in
-    let groups = in_range f.groups 65535 t.1.1.0 in
-    let packets = in_range f.packets 1024 t.1.1.1.1.0 in
-    let count = in_range (count_of bytes) 16 t.1.1.1.1.1.1.0 in
-    let wrong = neither (list_any (λ layer. eqb layer.need 0 || ltb f.packets layer.need) f.layers) (falls_after 0 f.layers) t.1.1.1.1.1.1.1.1.0 in
-    let size = fits (length bytes) (datagram_length_of f.layers) 65000 t.1.1.1.1.1.1.1.1.1.1.0 in
+pub passes_in : (t : Format) (bytes : List ℕ) (f : Fields) → first_of (rows t bytes f) ≡ None → PassesIn t bytes f
+passes_in t bytes f h =
+    let r = all_false (rows t bytes f) h in
+    let groups = in_range f.groups MAX_GROUPS r.1.1.0 in
+    let packets = in_range f.packets t.bounds.packets r.1.1.1.1.0 in
+    let count = in_range (count_of bytes) t.bounds.layers r.1.1.1.1.1.1.0 in
+    let size = fits (length bytes) (frame_length_in t f.layers) MAX_DATAGRAM (length_over t.bounds.bare f.layers) r.1.1.1.1.1.1.1.1.1.1.0 in
     record {
-      long = at_most _ _ t.0;
-      magic = same_bytes (take 4 bytes) magic t.1.0;
+      long = at_most _ _ r.0;
+      magic = same_bytes (take 4 bytes) t.mark r.1.0;
       some_groups = groups.0;
       few_groups = groups.1;
-      group = below _ _ t.1.1.1.0;
+      group = below _ _ r.1.1.1.0;
       some_packets = packets.0;
       few_packets = packets.1;
-      number = below _ _ t.1.1.1.1.1.0;
+      number = below _ _ r.1.1.1.1.1.0;
       some_layers = count.0;
       few_layers = count.1;
-      room = at_most _ _ t.1.1.1.1.1.1.1.0;
-      needs = wrong.0;
-      rising = wrong.1;
-      lengths = at_most _ _ t.1.1.1.1.1.1.1.1.1.0;
+      room = at_most _ _ r.1.1.1.1.1.1.1.0;
+      needs = r.1.1.1.1.1.1.1.1.0;
+      lengths = at_most _ _ r.1.1.1.1.1.1.1.1.1.0;
       whole = size.0;
       narrow = size.1;
-      tag = same_bytes _ _ t.1.1.1.1.1.1.1.1.1.1.1.0;
+      tag = same_bytes _ _ r.1.1.1.1.1.1.1.1.1.1.1.0;
     }
 
-pub not_refused : (bytes : List ℕ) (f : Fields) → Passes bytes f → first_of (rows bytes f) ≡ None
-not_refused bytes f p = none_holds (rows bytes f) (
+-- the same of the frames that are written today
+abbrev pub Passes : List ℕ → Fields → Type 0
+Passes bytes f = PassesIn FORMAT bytes f
+
+pub passes : (bytes : List ℕ) (f : Fields) → first_of (rows FORMAT bytes f) ≡ None → Passes bytes f
+passes bytes f h = passes_in FORMAT bytes f h
+
+pub not_refused : (t : Format) (bytes : List ℕ) (f : Fields) → PassesIn t bytes f → first_of (rows t bytes f) ≡ None
+not_refused t bytes f p = none_holds (rows t bytes f) (
   not_above _ _ p.long,
   (
-    equal_bytes (take 4 bytes) magic p.magic,
+    equal_bytes (take 4 bytes) t.mark p.magic,
     (
-      out_of_range f.groups 65535 p.some_groups p.few_groups,
+      out_of_range f.groups MAX_GROUPS p.some_groups p.few_groups,
       (
         not_below f.group f.groups p.group,
         (
-          out_of_range f.packets 1024 p.some_packets p.few_packets,
+          out_of_range f.packets t.bounds.packets p.some_packets p.few_packets,
           (
             not_below f.number f.packets p.number,
             (
-              out_of_range (count_of bytes) 16 p.some_layers p.few_layers,
+              out_of_range (count_of bytes) t.bounds.layers p.some_layers p.few_layers,
               (
                 not_above _ _ p.room,
                 (
-                  rw (p.needs, p.rising) refl,
+                  p.needs,
                   (
                     not_above _ _ p.lengths,
                     (
-                      not_unfit (length bytes) (datagram_length_of f.layers) 65000 p.whole p.narrow,
+                      not_unfit (length bytes) (frame_length_in t f.layers) MAX_DATAGRAM (length_over t.bounds.bare f.layers) p.whole p.narrow,
                       (
                         equal_bytes _ _ p.tag,
                         tt,
