@@ -1,7 +1,6 @@
 -- What a group of a session costs to carry: one word a stripe in each packet, and the fewest stripes. This project's own.
 use Rattle.std.specs.Prelude.{◌≡◌, ℕ, ◌*◌, ◌≤◌, List, length, slice_get, Some}
-use Rattle.std.specs.Int.{w16, from_be_bytes, to_be_bytes}
-use Rattle.pet_field.specs.Gf16.{gf16}
+use Rattle.pet_field.specs.Gf16.{gf16_coding}
 use Rattle.stripe_plan.specs.declared.layer.LayerSize.{LayerSize}
 use Rattle.stripe_plan.specs.Layers.{needs_of, plan_stripes, count_of, bound_of}
 use Rattle.stripe_plan.specs.Stripes.{IsPartition}
@@ -10,7 +9,7 @@ use Rattle.pet_encode.specs.Session.{SessionGroup}
 
 -- the payload of the group's packet of this number
 abbrev pub payload_of_packet : SessionGroup → ℕ → List ℕ
-payload_of_packet g number = payload_at gf16 (from_be_bytes w16) (to_be_bytes w16) 2 g.layers g.message number
+payload_of_packet g number = payload_at gf16_coding g.layers g.message number
 
 -- The group's packets carry the fewest stripes.
 pub record CarriesFewestStripes (g : SessionGroup) : Type 0 where

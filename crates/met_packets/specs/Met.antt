@@ -36,32 +36,32 @@ shows pairs group g layer = nat_le (count_of g.layers layer) (distinct_met pairs
 abbrev pub newly_shown_by : List Pair → List Pair → ℕ → SessionGroup → List ℕ
 newly_shown_by before now group g = filter (λ layer. shows now group g layer && not (shows before group g layer)) (range_with_len 0 (length g.layers))
 
--- the records of a group's layers, with the bytes that these have in the session
-abbrev pub group_text : ℕ → ℕ → SessionGroup → List ℕ → List ℕ
-group_text arrival group g layers = flat_map (λ layer. record_text arrival group layer (bytes_of_layer 2 g.layers g.message layer)) layers
+-- the records of a group's layers, with the bytes that these have in the session, whose words have `width` bytes
+abbrev pub group_text : ℕ → ℕ → ℕ → SessionGroup → List ℕ → List ℕ
+group_text width arrival group g layers = flat_map (λ layer. record_text arrival group layer (bytes_of_layer width g.layers g.message layer)) layers
 
 -- what the arrival of a pair writes
-abbrev pub pair_text : Session → List Pair → ℕ → Pair → List ℕ
-pair_text s before arrival pair =
-    option_map_or (λ g. group_text arrival pair.0 g (newly_shown_by before (before ++ pair ∷ []) pair.0 g)) (slice_get s.groups pair.0) []
+abbrev pub pair_text : ℕ → Session → List Pair → ℕ → Pair → List ℕ
+pair_text width s before arrival pair =
+    option_map_or (λ g. group_text width arrival pair.0 g (newly_shown_by before (before ++ pair ∷ []) pair.0 g)) (slice_get s.groups pair.0) []
 
-abbrev pub datagram_text : Session → List Pair → ℕ → Option Pair → List ℕ
-datagram_text s before arrival None = []
-datagram_text s before arrival (Some pair) = pair_text s before arrival pair
+abbrev pub datagram_text : ℕ → Session → List Pair → ℕ → Option Pair → List ℕ
+datagram_text width s before arrival None = []
+datagram_text width s before arrival (Some pair) = pair_text width s before arrival pair
 
 abbrev pub met_after : List Pair → Option Pair → List Pair
 met_after before None = before
 met_after before (Some pair) = before ++ pair ∷ []
 
 -- what these datagrams write, the first of them being of the given arrival
-unfoldable pub text_from : Session → List Pair → ℕ → List (List ℕ) → List ℕ
-text_from s before arrival [] = []
-text_from s before arrival (bytes ∷ datagrams) =
-    datagram_text s before arrival (pair_in s.number bytes) ++ text_from s (met_after before (pair_in s.number bytes)) (arrival + 1) datagrams
+unfoldable pub text_from : ℕ → Session → List Pair → ℕ → List (List ℕ) → List ℕ
+text_from width s before arrival [] = []
+text_from width s before arrival (bytes ∷ datagrams) =
+    datagram_text width s before arrival (pair_in s.number bytes) ++ text_from width s (met_after before (pair_in s.number bytes)) (arrival + 1) datagrams
 
--- the layers text of a session for these datagrams
+-- the layers text of a session of words of two bytes for these datagrams
 abbrev pub layers_text : Session → List (List ℕ) → List ℕ
-layers_text s datagrams = text_from s [] 1 datagrams
+layers_text s datagrams = text_from 2 s [] 1 datagrams
 
 -- every layer of every group is shown
 abbrev pub all_shown : Session → List Pair → Bool

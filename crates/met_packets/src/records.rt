@@ -7,17 +7,16 @@ ghost use Rattle.packet_set.specs.Packets.{Packets};
 ghost use Rattle.pet_base.specs.declared.place.Side.TheVariants.{Written};
 ghost use Rattle.pet_base.specs.Causes.{Blames};
 ghost use Rattle.pet_base.specs.Seen.{Seen, OnlyWrites, HasBlame};
-ghost use Rattle.pet_receive.specs.Arrivals.{Order, kept_set, numbers_of, layers_of};
+ghost use Rattle.pet_receive.specs.Arrivals.{Order, HasKept, kept_set, numbers_of, layers_of};
 ghost use Rattle.pet_receive.specs.KeptSet.{open_group};
 ghost use Rattle.pet_receive.specs.ShownBytes.{IsShown};
-ghost use Rattle.met_packets.specs.Gf16.{HasKeptIn};
 ghost use Rattle.met_packets.specs.LayersText.{record_text, IsLayer};
 ghost use Rattle.met_packets.specs.Records.{layers_in, records_text, AreLayersOf, AreShownText};
 ghost use Rattle.command_files.specs.Outputs.{Puts, PutsPart};
 
 use arrayvec::ArrayVec;
 use pet_base::{Failed, MAX_LAYERS, Place};
-use pet_field::Gf16Plain;
+use pet_field::Field;
 use pet_receive::{LayerSet, Receiver};
 
 /// A layer that is shown, with its bytes.
@@ -32,9 +31,9 @@ struct ShownLayer<'a> {
 /// # Errors
 ///
 /// The call of the place failed, and then its count of faults rose; a front of the records was put.
-pub fn put_shown<P: Place>(
+pub fn put_shown<P: Place, F: Field>(
     place: &mut P,
-    receiver: &Receiver<'_, Gf16Plain>,
+    receiver: &Receiver<'_, F>,
     arrival: u32,
     group: u32,
     shown: LayerSet,
@@ -42,14 +41,14 @@ pub fn put_shown<P: Place>(
     requires output { (P.seen place.old).has_output ≡ true }
     requires shown { (layer : ℕ) → bit_at shown.bits layer ≡ 1
         → IsShown (kept_set receiver.now) group layer }
-    requires held { (order : Order) × HasKeptIn receiver.now order }
+    requires held { (order : Order) × HasKept F.is_element F.coding receiver.now order }
     requires narrow { (p : Packets) × (open_group (kept_set receiver.now) group ≡ Some p)
         × (bytes_of (layers_of p) ≤ MAX_GROUP_BYTES) }
     ensures puts { OnOk result ((text : List ℕ)
-        × AreShownText receiver.now arrival group (layers_in shown) text
+        × AreShownText F.is_element F.coding receiver.now arrival group (layers_in shown) text
         × Puts text (P.seen place.old) (P.seen place.new)) }
     ensures part { OnErr result ((text : List ℕ)
-        × AreShownText receiver.now arrival group (layers_in shown) text
+        × AreShownText F.is_element F.coding receiver.now arrival group (layers_in shown) text
         × PutsPart text (P.seen place.old) (P.seen place.new)) }
     ensures others { OnlyWrites (P.seen place.old) (P.seen place.new) }
     ensures cause { HasBlame (P.seen place.old) (P.seen place.new) result
@@ -60,15 +59,15 @@ pub fn put_shown<P: Place>(
 }
 
 /// The layers of the set, each lent out by the receiver.
-fn shown_layers<'a>(
-    receiver: &'a Receiver<'_, Gf16Plain>,
+fn shown_layers<'a, F: Field>(
+    receiver: &'a Receiver<'_, F>,
     group: u32,
     shown: LayerSet,
 ) -> ArrayVec<ShownLayer<'a>, MAX_LAYERS>
     requires shown { (layer : ℕ) → bit_at shown.bits layer ≡ 1
         → IsShown (kept_set receiver.now) group layer }
     ensures layers { map (λ e. e.layer) result.items ≡ layers_in shown }
-    ensures bytes { AreLayersOf receiver.now group result.items }
+    ensures bytes { AreLayersOf F.is_element F.coding receiver.now group result.items }
 {
     let mut layers = ArrayVec::new();
     for layer in 0..MAX_LAYERS as u8 {
@@ -82,11 +81,11 @@ fn shown_layers<'a>(
 }
 
 /// The bytes of a layer that is shown.
-fn shown_layer<'a>(receiver: &'a Receiver<'_, Gf16Plain>, group: u32, layer: u8) -> &'a [u8]
+fn shown_layer<'a, F: Field>(receiver: &'a Receiver<'_, F>, group: u32, layer: u8) -> &'a [u8]
     requires { IsShown (kept_set receiver.now) group layer }
-    ensures { (order : Order) (p : Packets) → HasKeptIn receiver.now order
+    ensures { (order : Order) (p : Packets) → HasKept F.is_element F.coding receiver.now order
         → open_group (kept_set receiver.now) group ≡ Some p
-        → IsLayer p (numbers_of order group) layer result.now }
+        → IsLayer F.is_element F.coding p (numbers_of order group) layer result.now }
 {
     match receiver.layer(group, layer) {
         Some(bytes) => bytes,

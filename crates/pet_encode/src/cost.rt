@@ -2,13 +2,15 @@
 ghost use Rattle.std.specs.Prelude.{◌≡◌, ◌*◌, ◌<◌, ◌≤◌};
 ghost use Rattle.pet_encode.specs.Session.{cost_of};
 
+use pet_base::{MAX_DATAGRAM, MAX_PACKETS};
 use stripe_plan::{Table, datagram_length};
 
-/// The bytes of all packets of a group with this table: packets times datagram length, at most 66,560,000.
+/// The bytes of all packets of a group with this table: packets times datagram length, at most `MAX_PACKETS` times
+/// `MAX_DATAGRAM`.
 pub fn group_cost(table: &Table) -> u64
     ensures value { result ≡ cost_of table.now.packets table.now.layers }
     ensures some { 0 < result }
-    ensures few { result ≤ 1024 * 65000 }
+    ensures few { result ≤ MAX_PACKETS * MAX_DATAGRAM }
 {
     u64::from(table.packets()) * u64::from(datagram_length(table))
 }

@@ -6,7 +6,7 @@ ghost use Rattle.pet_encode.specs.Session.{Session, IsMessage, IsPacketOf};
 ghost use Rattle.stripe_plan.specs.Layers.{needs_of};
 ghost use Rattle.stripe_plan.specs.Sizes.{IsTable};
 
-use crate::payload::{elements, payload};
+use crate::values::{elements, payload};
 use packet_frame::{Header, write_frame};
 use pet_base::{MAX_GROUPS, MAX_PACKETS, NoMemory, Steps};
 use pet_field::Field;
@@ -30,26 +30,30 @@ impl<'f, F: Field> Model for Encoder<'f, F> {
 
     ghost Value = { Encoding };
 
-    ghost view = { λ e. record { header = e.header; message = flat_map F.spelling e.row.items } };
+    ghost view = { λ e. record {
+      header = e.header;
+      message = flat_map F.coding.spelling e.row.items;
+    } };
 
-    ghost invariant = { λ e. IsStored F.is_element F.WIDTH F.COUNT e.header e.row.items };
+    ghost invariant = { λ e. IsStored F.is_element F.COUNT F.coding e.header e.row.items };
 }
 
 impl<'f, F: Field> Encoder<'f, F> {
     /// The encoder of the group of this header, whose message has two bytes for each word of the table. The elements of
-    /// the field are written in two bytes, and it has a point for each of 1,024 numbers. It fails only for want of
-    /// memory.
+    /// the field are written in two bytes, and it has a point for each of `MAX_PACKETS` numbers. It fails only for want
+    /// of memory.
     pub fn new(
         alloc: Global,
         f: &'f F,
         header: Header,
         message: &[u8],
     ) -> Result<Encoder<'f, F>, NoMemory>
-        requires width { F.WIDTH ≡ 2 }
+        requires width { F.coding.width ≡ 2 }
         requires points { MAX_PACKETS ≤ F.COUNT }
         requires groups { header.groups ≤ MAX_GROUPS }
         requires group { header.group < header.groups }
-        requires message { length message.now ≡ length (needs_of header.table.layers) * 2 }
+        requires message { length message.now
+            ≡ length (needs_of header.table.layers) * F.coding.width }
         ensures header { IfOk result (λ e. e.header ≡ header) }
         ensures message { IfOk result (λ e. e.message ≡ message.now) }
     {
@@ -71,17 +75,14 @@ impl<'f, F: Field> Encoder<'f, F> {
     ) -> Result<(), NoMemory>
         requires { number < self.now.header.table.packets }
         ensures ok { OnOk result (into.new.items
-            ≡ into.old.items ++ text (frame_of F.ops F.spelt F.spelling F.WIDTH F.point_of self.now
-            number)) }
+            ≡ into.old.items ++ text (frame_of F.coding self.now number)) }
         ensures err { OnErr result (into.new.items ≡ into.old.items) }
         ensures cost { steps.new ≤ steps.old + length (needs_of self.now.header.table.layers) }
 
         // The frame is in its ranges, and is a packet of each session that has this group.
-        ensures ranges { OnOk result (IsFrame
-            (frame_of F.ops F.spelt F.spelling F.WIDTH F.point_of self.now number)) }
+        ensures ranges { OnOk result (IsFrame (frame_of F.coding self.now number)) }
         ensures session { (s : Session) → IsGroupOf s self.now
-            → IsPacketOf F.ops F.spelt F.spelling F.WIDTH F.point_of s
-            (frame_of F.ops F.spelt F.spelling F.WIDTH F.point_of self.now number) }
+            → IsPacketOf F.coding s (frame_of F.coding self.now number) }
     {
         let x = self.field.point(u32::from(number));
         let alloc = *self.row.allocator();
@@ -95,7 +96,7 @@ impl<'f, F: Field> Encoder<'f, F> {
         ensures groups { self.now.header.groups ≤ MAX_GROUPS }
         ensures group { self.now.header.group < self.now.header.groups }
         ensures table { IsTable self.now.header.table.packets self.now.header.table.layers }
-        ensures message { IsMessage 2 self.now.header.table.layers self.now.message }
+        ensures message { IsMessage F.coding.width self.now.header.table.layers self.now.message }
     {
         &self.header
     }

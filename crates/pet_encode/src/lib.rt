@@ -4,18 +4,20 @@
 //! frame whose payload has, for each stripe of the table's plan in order, the value at the number's point of the
 //! polynomial that has the stripe's words as its coefficients: `specs/Payload.antt` defines it, and
 //! `specs/Session.antt` the packets of a whole session. `packet` appends exactly the text of that frame, counts at most
-//! one step for each word of the table, and leaves what it appends to as it was where it finds no memory. All of this
-//! holds over any lawful field of words of two bytes that has a point for each packet. `specs/laws/SessionLaws.antt`
-//! says that the list of a session's packets has each of them and nothing else, and that each is a frame. `group_cost`
-//! is what a group's packets take of the bytes that a session may have.
+//! one step for each word of the table, and leaves what it appends to as it was where it finds no memory. The
+//! definitions take a field's coding and hold at any width, as do `elements` and `payload`, which turn bytes into
+//! elements and these into the bytes of a payload; an `Encoder` asks for words of two bytes and a point for each packet.
+//! `specs/laws/SessionLaws.antt` says that the list of a session's packets has each of them and nothing else, and that
+//! each is a frame. `group_cost` is what a group's packets take of the bytes that a session may have.
 #![tactic(auto)]
 
 mod cost;
 mod encoder;
-mod payload;
+mod values;
 
 pub use cost::group_cost;
 pub use encoder::Encoder;
+pub use values::{elements, payload};
 
 #[cfg(test)]
 mod tests;

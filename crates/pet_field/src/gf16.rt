@@ -1,9 +1,9 @@
 //! The field of 65,536 elements.
-ghost use Rattle.std.specs.Prelude.{◌≡◌, ◌<◌, ℕ, List};
+ghost use Rattle.std.specs.Prelude.{◌≡◌, refl, ◌<◌, ℕ, List};
 ghost use Rattle.std.specs.Int.{w16, to_be_bytes, from_be_bytes};
 ghost use Rattle.pet_field.specs.BinaryField.{IsBinaryField};
-ghost use Rattle.pet_field.specs.Gf16.{gf16};
-ghost use Rattle.pet_field.specs.laws.Gf16Laws.{gf16_lawful, gf16_equal, gf16_points, gf16_spellings};
+ghost use Rattle.pet_field.specs.Gf16.{gf16_coding};
+ghost use Rattle.pet_field.specs.laws.Gf16Laws.{gf16_lawful, gf16_equal};
 
 use crate::field::Field;
 use crate::residues::{invert_modulo, multiply_modulo};
@@ -24,10 +24,11 @@ impl Gf16Plain {
     /// What this field is: the polynomials over GF(2) of degree below 16, modulo x^16 + x^12 + x^3 + x + 1. The number i
     /// is the point of i. An element is written in two bytes, the high one first.
     pub fn meaning(&self)
-        ensures field { IsBinaryField 16 0x1100B ⟦<Gf16Plain as Field>⟧.is_element ⟦<Gf16Plain as Field>⟧.ops ⟦<Gf16Plain as Field>⟧.point_of }
+        ensures field { IsBinaryField 16 0x1100B ⟦<Gf16Plain as Field>⟧.is_element
+            ⟦<Gf16Plain as Field>⟧.coding.ops ⟦<Gf16Plain as Field>⟧.coding.point_of }
         ensures written { (a : ℕ) → a < 65536
-            → ⟦<Gf16Plain as Field>⟧.spelling a ≡ to_be_bytes w16 a }
-        ensures read { (bytes : List ℕ) → ⟦<Gf16Plain as Field>⟧.spelt bytes
+            → ⟦<Gf16Plain as Field>⟧.coding.spelling a ≡ to_be_bytes w16 a }
+        ensures read { (bytes : List ℕ) → ⟦<Gf16Plain as Field>⟧.coding.spelt bytes
             ≡ from_be_bytes w16 bytes }
         ensures width { ⟦<Gf16Plain as Field>⟧.WIDTH ≡ 2 }
         ensures count { ⟦<Gf16Plain as Field>⟧.COUNT ≡ 65536 }
@@ -47,21 +48,13 @@ impl Field for Gf16Plain {
 
     ghost is_element = { λ a. a < 65536 };
 
-    ghost ops = { gf16 };
-
-    ghost point_of = { λ i. i };
-
-    ghost spelt = { from_be_bytes w16 };
-
-    ghost spelling = { to_be_bytes w16 };
+    ghost coding = { gf16_coding };
 
     ghost lawful = { gf16_lawful };
 
     ghost equal = { gf16_equal };
 
-    ghost points = { gf16_points };
-
-    ghost spellings = { gf16_spellings };
+    ghost wide = { refl };
 
     fn zero(&self) -> u16 {
         0

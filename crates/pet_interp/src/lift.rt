@@ -27,17 +27,17 @@ pub(crate) fn advance<F: Field, L: Ledger>(
     requires elements { All F.is_element places.old }
     requires products { All F.is_element product.old }
     requires point { F.is_element x }
-    requires width { length values.now ≡ length ends.now * F.WIDTH }
+    requires width { length values.now ≡ length ends.now * F.coding.width }
     requires weight { met < length product.old
-        → value_monic F.ops (take met product.old) x ≢ F.ops.nought }
+        → value_monic F.coding.ops (take met product.old) x ≢ F.coding.ops.nought }
     ensures elements { All F.is_element places.new }
     ensures products { All F.is_element product.new }
     ensures lifted { met < length product.old
-        → IsLifted F.is_element F.ops (take met product.old) x
-        (words F.spelt F.WIDTH (length ends.now) values.now) (pieces 0 ends.now places.old)
-        (pieces 0 ends.now places.new) }
+        → IsLifted F.is_element F.coding.ops (take met product.old) x
+        (words F.coding.spelt F.coding.width (length ends.now) values.now)
+        (pieces 0 ends.now places.old) (pieces 0 ends.now places.new) }
     ensures product { met < length product.old
-        → product.new ≡ linear_product F.ops x (take met product.old)
+        → product.new ≡ linear_product F.coding.ops x (take met product.old)
         ++ drop (met + 1) product.old }
     ensures same { length product.old ≤ met → (places.new ≡ places.old)
         × (product.new ≡ product.old) }
@@ -68,10 +68,10 @@ fn lift_all<F: Field, L: Ledger>(
     requires products { All F.is_element product.now }
     requires point { F.is_element x }
     requires inverse { F.is_element inverse }
-    requires width { length values.now ≡ length ends.now * F.WIDTH }
+    requires width { length values.now ≡ length ends.now * F.coding.width }
     ensures places { pieces 0 ends.now places.new
-        ≡ lifted_all F.ops product.now x inverse (pieces 0 ends.now places.old)
-        (words F.spelt F.WIDTH (length ends.now) values.now) }
+        ≡ lifted_all F.coding.ops product.now x inverse (pieces 0 ends.now places.old)
+        (words F.coding.spelt F.coding.width (length ends.now) values.now) }
     ensures elements { All F.is_element places.new }
     ensures cost { steps.new ≤ steps.old + longer_than (length product.now)
         (map length (pieces 0 ends.now places.old)) * (2 * length product.now + 1) }
@@ -102,7 +102,7 @@ fn lift<F: Field, L: Ledger>(
     requires point { F.is_element x }
     requires inverse { F.is_element inverse }
     requires value { F.is_element y }
-    ensures places { places.new ≡ lifted F.ops product.now x inverse places.old y }
+    ensures places { places.new ≡ lifted F.coding.ops product.now x inverse places.old y }
     ensures elements { All F.is_element places.new }
     ensures cost { steps.new ≤ steps.old + cond (nat_lt (length product.now) (length places.old)) 1
         0 * (2 * length product.now + 1) }

@@ -40,7 +40,7 @@ impl<'f, F: Field> Progress<'f, F> {
     /// A state for stripes of these lengths that has met no point yet. It takes all the memory that it will need, and
     /// fails only for want of it.
     pub fn new(alloc: Global, f: &'f F, lengths: &[u16]) -> Result<Progress<'f, F>, NoMemory>
-        ensures stands { IfOk result (λ p. StandsFor F.is_element F.ops p []) }
+        ensures stands { IfOk result (λ p. StandsFor F.is_element F.coding.ops p []) }
         ensures lengths { IfOk result (λ p. lengths_of p ≡ lengths.now) }
     {
         let mut ends = Vec::new(alloc);
@@ -67,14 +67,14 @@ impl<'f, F: Field> Progress<'f, F> {
     /// (q + 1)(2r + 1) steps after r points, where q stripes are longer than r.
     pub fn add<L: Ledger>(&mut self, x: F::Elem, values: &[u8], steps: &mut Steps<L>)
         requires stands { (points : List (F.Elem × List F.Elem))
-            × (StandsFor F.is_element F.ops self.old points × All (λ p. x ≢ p.0) points) }
+            × (StandsFor F.is_element F.coding.ops self.old points × All (λ p. x ≢ p.0) points) }
         requires point { F.is_element x }
         requires few { self.old.met < 65536 }
-        requires width { length values.now ≡ length self.old.stripes * F.WIDTH }
+        requires width { length values.now ≡ length self.old.stripes * F.coding.width }
         ensures stands { (points : List (F.Elem × List F.Elem))
-            → StandsFor F.is_element F.ops self.old points → All (λ p. x ≢ p.0) points
-            → StandsFor F.is_element F.ops self.new
-            (points ++ ((x, words F.spelt F.WIDTH (length self.old.stripes) values.now) ∷ [])) }
+            → StandsFor F.is_element F.coding.ops self.old points → All (λ p. x ≢ p.0) points
+            → StandsFor F.is_element F.coding.ops self.new
+            (points ++ ((x, words F.coding.spelt F.coding.width (length self.old.stripes) values.now) ∷ [])) }
         ensures met { self.new.met ≡ self.old.met + 1 }
         ensures lengths { lengths_of self.new ≡ lengths_of self.old }
         ensures cost { steps.new ≤ steps.old + step_bound self.old.met (lengths_of self.old) }
@@ -107,12 +107,13 @@ impl<'f, F: Field> Progress<'f, F> {
         requires enough { length (stripe_of self.now stripe) ≤ self.now.met }
         ensures value { result.now ≡ stripe_of self.now stripe }
         ensures only { (points : List (F.Elem × List F.Elem))
-            → StandsFor F.is_element F.ops self.now points
-            → IsOnlyThrough F.is_element F.ops
-            (column F.ops stripe (take (length result.now) points)) result.now }
+            → StandsFor F.is_element F.coding.ops self.now points
+            → IsOnlyThrough F.is_element F.coding.ops
+            (column F.coding.ops stripe (take (length result.now) points)) result.now }
         ensures common { (points : List (F.Elem × List F.Elem)) (common : List F.Elem)
-            → StandsFor F.is_element F.ops self.now points → length common ≡ length result.now
-            → All F.is_element common → GoesThrough F.ops common (column F.ops stripe points)
+            → StandsFor F.is_element F.coding.ops self.now points
+            → length common ≡ length result.now → All F.is_element common
+            → GoesThrough F.coding.ops common (column F.coding.ops stripe points)
             → result.now ≡ common }
     {
         let start = start_of(&self.ends, stripe);

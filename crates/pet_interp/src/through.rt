@@ -21,7 +21,7 @@ pub fn interpolate<F: Field, L: Ledger>(
     requires elements { All (λ p. F.is_element p.0 × F.is_element p.1) points.now }
     requires distinct { AreDistinct (firsts points.now) }
     requires room { length into.old ≡ length points.now }
-    ensures { IsOnlyThrough F.is_element F.ops points.now into.new }
+    ensures { IsOnlyThrough F.is_element F.coding.ops points.now into.new }
 {
     'form: for i in 0..points.len() {
         let point = points[i];
@@ -49,8 +49,8 @@ fn next_coefficient<F: Field, L: Ledger>(
     requires value { F.is_element y }
     requires other { All (λ p. x ≢ p.0) points.now }
     ensures element { F.is_element result }
-    ensures fits { F.ops.plus (nested F.ops (firsts points.now) form.now x)
-        (F.ops.times result (gap F.ops (firsts points.now) x)) ≡ y }
+    ensures fits { F.coding.ops.plus (nested F.coding.ops (firsts points.now) form.now x)
+        (F.coding.ops.times result (gap F.coding.ops (firsts points.now) x)) ≡ y }
 {
     let mut value = f.zero();
     let mut weight = f.one();
@@ -67,7 +67,7 @@ fn next_coefficient<F: Field, L: Ledger>(
 fn expand<F: Field, L: Ledger>(f: &F, into: &mut [F::Elem], x: F::Elem, steps: &mut Steps<L>)
     requires elements { All F.is_element into.old }
     requires point { F.is_element x }
-    ensures { into.new ≡ expanded F.ops x into.old }
+    ensures { into.new ≡ expanded F.coding.ops x into.old }
 {
     for i in 1..into.len() {
         into[i - 1] = f.sub(into[i - 1], f.mul(x, into[i], steps));

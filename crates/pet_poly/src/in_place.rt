@@ -19,13 +19,14 @@ pub fn times_linear<F: Field, L: Ledger>(
     requires room { degree < length low.old }
     requires elements { All F.is_element (take degree low.old) }
     requires point { F.is_element x }
-    ensures places { low.new ≡ linear_product F.ops x (take degree low.old)
+    ensures places { low.new ≡ linear_product F.coding.ops x (take degree low.old)
         ++ drop (degree + 1) low.old }
     ensures elements { All F.is_element (take (degree + 1) low.new) }
     // at every y the value is that of before times y - x
     ensures value { (y : F.Elem) → F.is_element y →
-        value_monic F.ops (take (degree + 1) low.new) y
-        ≡ F.ops.times (F.ops.minus y x) (value_monic F.ops (take degree low.old) y) }
+        value_monic F.coding.ops (take (degree + 1) low.new) y
+        ≡ F.coding.ops.times (F.coding.ops.minus y x)
+        (value_monic F.coding.ops (take degree low.old) y) }
     ensures cost { steps.new ≤ steps.old + degree }
 {
     let mut before = f.zero();
@@ -50,12 +51,13 @@ pub fn add_scaled<F: Field, L: Ledger>(
     requires elements { All F.is_element (take (length other.now) into.old) }
     requires others { All F.is_element other.now }
     requires factor { F.is_element by }
-    ensures places { into.new ≡ scaled_sum F.ops by into.old other.now }
+    ensures places { into.new ≡ scaled_sum F.coding.ops by into.old other.now }
     ensures elements { All F.is_element into.old → All F.is_element into.new }
     // at every y the value is that of before and `by` times that of the other list
     ensures value { All F.is_element into.old → (y : F.Elem) → F.is_element y →
-        value F.ops into.new y
-        ≡ F.ops.plus (value F.ops into.old y) (F.ops.times by (value F.ops other.now y)) }
+        value F.coding.ops into.new y
+        ≡ F.coding.ops.plus (value F.coding.ops into.old y)
+        (F.coding.ops.times by (value F.coding.ops other.now y)) }
     ensures cost { steps.new ≤ steps.old + length other.now }
 {
     for i in 0..other.len() {

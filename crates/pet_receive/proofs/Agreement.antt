@@ -2,9 +2,10 @@
 use Rattle.std.specs.Prelude.{flat_map, map, unwrap_or, IsSome, Contains, min}
 use Rattle.std.proofs.Common.{◌≡◌, ℕ, suc, ◌+◌, ◌-◌, ◌*◌, ◌<◌, ◌≤◌, List, [], ◌∷◌, ◌++◌, Option, None, Some, length, get_or, take, drop, All, refl, sym, ap, ◌∙◌, arith, subst, inl, inr}
 use Rattle.std.proofs.lemmas.Bool.{cases_lt}
+use Rattle.std.proofs.Math.Nat.{mul-le-mul_left, mul-le-mul_right}
 use Rattle.std.proofs.lemmas.List.{length-map, length-take, length-drop, length-take-le, get_or-map, get_or-take, get_or-drop, get_or_default, same_lists, take-append-drop, take-take}
 use Rattle.std.proofs.lemmas.List.Elements.{All-map, All-take, All-drop, Contains-get_or}
-use Rattle.pet_field.specs.Field.{Operations, IsField, AreSpellings}
+use Rattle.pet_field.specs.Field.{Coding, IsCoding, AreSpellings}
 use Rattle.pet_poly.specs.Value.{value}
 use Rattle.pet_poly.specs.laws.HornerLaws.{value_is}
 use Rattle.pet_poly.specs.Rows.{words}
@@ -77,126 +78,128 @@ same_stretch row other first size long room each =
 -- ---- bytes by their words
 
 -- the bytes of a stretch of words are their spellings
-stretch_bytes : {E : Type 0} (P : E → Type 0) (spelt : List ℕ → E) (spelling : E → List ℕ) → AreSpellings P 2 spelt spelling → (n first size : ℕ) (bytes : List ℕ) → length bytes ≡ n * 2 → All (λ b. b < 256) bytes → first + size ≤ n
-    → take (size * 2) (drop (first * 2) bytes) ≡ flat_map spelling (take size (drop first (words spelt 2 n bytes)))
-stretch_bytes P spelt spelling laws n first size bytes long fits room =
-    let rest = drop (first * 2) bytes in
-    let part = take (size * 2) rest in
-    let part_long : length part ≡ size * 2 = length-take-le (size * 2) rest (omega (arith, length-drop (first * 2) bytes)) in
+stretch_bytes : {E : Type 0} (P : E → Type 0) (c : Coding E) → AreSpellings P c.width c.spelt c.spelling → (n first size : ℕ) (bytes : List ℕ)
+    → length bytes ≡ n * c.width → All (λ b. b < 256) bytes → first + size ≤ n
+    → take (size * c.width) (drop (first * c.width) bytes) ≡ flat_map c.spelling (take size (drop first (words c.spelt c.width n bytes)))
+stretch_bytes P c laws n first size bytes long fits room =
+    let w = c.width in
+    let rest = drop (first * w) bytes in
+    let part = take (size * w) rest in
+    let inside : (first + size) * w ≤ n * w = mul-le-mul_right w room in
+    let split : (first + size) * w ≡ first * w + size * w = omega arith in
+    let enough : size * w ≤ length rest = omega (arith, inside, split, long, length-drop (first * w) bytes) in
+    let part_long : length part ≡ size * w = length-take-le (size * w) rest enough in
     let e : n ≡ first + (n - first) = omega arith in
-    let same : take size (drop first (words spelt 2 n bytes)) ≡ words spelt 2 size part =
-    ap (take size) (drop_words spelt 2 n first (n - first) bytes e) ∙ take_words spelt 2 (n - first) size rest (omega arith)
-    ∙ ap (words spelt 2 size) (sym (take-append-drop (size * 2) rest)) ∙ words_front spelt 2 size part (drop (size * 2) rest) (omega (arith, part_long)) in
-    sym (spellings_of_words P 2 spelt spelling laws size part part_long (All-take (λ b. b < 256) (size * 2) rest (All-drop (λ b. b < 256) (first * 2) bytes fits))) ∙ ap (flat_map spelling) (sym same)
+    let same : take size (drop first (words c.spelt w n bytes)) ≡ words c.spelt w size part =
+    ap (take size) (drop_words c.spelt w n first (n - first) bytes e) ∙ take_words c.spelt w (n - first) size rest (omega arith)
+    ∙ ap (words c.spelt w size) (sym (take-append-drop (size * w) rest)) ∙ words_front c.spelt w size part (drop (size * w) rest) (omega (arith, part_long)) in
+    sym (spellings_of_words P w c.spelt c.spelling laws size part part_long (All-take (λ b. b < 256) (size * w) rest (All-drop (λ b. b < 256) (first * w) bytes fits)))
+    ∙ ap (flat_map c.spelling) (sym same)
 
-same_bytes : {E : Type 0} (P : E → Type 0) (spelt : List ℕ → E) (spelling : E → List ℕ) → AreSpellings P 2 spelt spelling → (layers : List LayerSize) (layer : ℕ) → layer < length layers → IsPlan (needs_of layers) 0 (plan_ends layers)
-    → (message other : List ℕ) → IsMessage 2 layers message → IsMessage 2 layers other
+same_bytes : {E : Type 0} (P : E → Type 0) (c : Coding E) → 2 ≤ c.width → AreSpellings P c.width c.spelt c.spelling
+    → (layers : List LayerSize) (layer : ℕ) → layer < length layers → IsPlan (needs_of layers) 0 (plan_ends layers)
+    → (message other : List ℕ) → IsMessage c.width layers message → IsMessage c.width layers other
     → ((j : ℕ) → j < length (plan_stripes layers) → Meets (words_before layers layer) (words_before layers (layer + 1)) (get_or (plan_stripes layers) j (0, 0))
-    → get_or (stripes_in spelt 2 layers message) j [] ≡ get_or (stripes_in spelt 2 layers other) j [])
-    → bytes_of_layer 2 layers message layer ≡ bytes_of_layer 2 layers other layer
-same_bytes P spelt spelling laws layers layer l plan message other is is_other same =
+    → get_or (stripes_in c layers message) j [] ≡ get_or (stripes_in c layers other) j [])
+    → bytes_of_layer c.width layers message layer ≡ bytes_of_layer c.width layers other layer
+same_bytes P c wide laws layers layer l plan message other is is_other same =
+    let w = c.width in
     let d : LayerSize = record { length = 0; need = 0 } in
     let n = length (needs_of layers) in
     let first = words_before layers layer in
     let size = words_of (get_or layers layer d) in
     let next = next_words layers layer d l in
     let top : words_before layers (layer + 1) ≤ n = words_within layers (layer + 1) in
-    let row = words spelt 2 n message in
-    let row' = words spelt 2 n other in
-    let long : length row ≡ length row' = length-words spelt 2 n message ∙ sym (length-words spelt 2 n other) in
+    let row = words c.spelt w n message in
+    let row' = words c.spelt w n other in
+    let long : length row ≡ length row' = length-words c.spelt w n message ∙ sym (length-words c.spelt w n other) in
     let words_same : take size (drop first row) ≡ take size (drop first row') =
-    same_stretch row row' first size long (omega (arith, next, top, length-words spelt 2 n message))
+    same_stretch row row' first size long (omega (arith, next, top, length-words c.spelt w n message))
     (λ word e from below. same_word layers row row' first (words_before layers (layer + 1)) word plan top same from (omega (arith, below, next)) e) in
-    let stretch : take (size * 2) (drop (first * 2) message) ≡ take (size * 2) (drop (first * 2) other) =
-    stretch_bytes P spelt spelling laws n first size message is.whole is.bytes (omega (arith, next, top)) ∙ ap (flat_map spelling) words_same
-    ∙ sym (stretch_bytes P spelt spelling laws n first size other is_other.whole is_other.bytes (omega (arith, next, top))) in
-    let short : length_of_layer layers layer ≤ size * 2 = let e = length_is layers layer d l in let t = even (get_or layers layer d) in omega (arith, e, t) in
-    sym (take-take (length_of_layer layers layer) (size * 2) (drop (first * 2) message) short) ∙ ap (take (length_of_layer layers layer)) stretch
-    ∙ take-take (length_of_layer layers layer) (size * 2) (drop (first * 2) other) short
+    let stretch : take (size * w) (drop (first * w) message) ≡ take (size * w) (drop (first * w) other) =
+    stretch_bytes P c laws n first size message is.whole is.bytes (omega (arith, next, top)) ∙ ap (flat_map c.spelling) words_same
+    ∙ sym (stretch_bytes P c laws n first size other is_other.whole is_other.bytes (omega (arith, next, top))) in
+    let short : length_of_layer layers layer ≤ size * w =
+    omega (arith, length_is layers layer d l, even (get_or layers layer d), mul-le-mul_left size wide) in
+    sym (take-take (length_of_layer layers layer) (size * w) (drop (first * w) message) short) ∙ ap (take (length_of_layer layers layer)) stretch
+    ∙ take-take (length_of_layer layers layer) (size * w) (drop (first * w) other) short
   where
-    even : (layer : LayerSize) → layer.length ≤ 2 * words_of layer
+    even : (layer : LayerSize) → layer.length ≤ words_of layer * 2
     even layer = omega arith
 
 -- ---- the stripes of a message that the payloads agree with
 
-module _ {E : Type 0} (P : E → Type 0) (o : Operations E) (field : IsField P o) (spelt : List ℕ → E) (spelling : E → List ℕ) (w : ℕ) (laws : AreSpellings P w spelt spelling) (point_of : ℕ → E)
-    (p : Packets) (message : List ℕ) (is : IsMessage w (layers_of p) message) where
-  stripe_is : (j : ℕ) → j < length (plan_stripes (layers_of p)) → All P (get_or (stripes_in spelt w (layers_of p) message) j [])
+module _ {E : Type 0} (P : E → Type 0) (count : ℕ) (c : Coding E) (laws : IsCoding P count c) (p : Packets) (message : List ℕ) (is : IsMessage c.width (layers_of p) message) where
+  stripe_is : (j : ℕ) → j < length (plan_stripes (layers_of p)) → All P (get_or (stripes_in c (layers_of p) message) j [])
   stripe_is j l =
       let layers = layers_of p in
-      let row = words spelt w (length (needs_of layers)) message in
+      let row = words c.spelt c.width (length (needs_of layers)) message in
       let s = get_or (plan_stripes layers) j (0, 0) in
-      subst (All P) (sym (cut_at layers row j l)) (All-take P s.1 (drop s.0 row) (All-drop P s.0 row (words_are P w spelt spelling laws (length (needs_of layers)) message is.whole is.bytes)))
+      subst (All P) (sym (cut_at layers row j l)) (All-take P s.1 (drop s.0 row) (All-drop P s.0 row (words_are P c.width c.spelt c.spelling laws.spellings (length (needs_of layers)) message is.whole is.bytes)))
 
   values_at : E → List E
-  values_at x = map (λ s. value o s x) (stripes_in spelt w (layers_of p) message)
+  values_at x = map (λ s. value c.ops s x) (stripes_in c (layers_of p) message)
 
-  flat_values : (x : E) (ss : List (List E)) → flat_map (λ s. spelling (value o s x)) ss ≡ flat_map spelling (map (λ s. value o s x) ss)
+  flat_values : (x : E) (ss : List (List E)) → flat_map (λ s. c.spelling (value c.ops s x)) ss ≡ flat_map c.spelling (map (λ s. value c.ops s x) ss)
   flat_values x [] = refl
-  flat_values x (s ∷ ss) = ap (λ t. spelling (value o s x) ++ t) (flat_values x ss)
+  flat_values x (s ∷ ss) = ap (λ t. c.spelling (value c.ops s x) ++ t) (flat_values x ss)
 
-  words_at : (x : E) → P x → words spelt w (length (plan_stripes (layers_of p))) (payload_at o spelt spelling w (layers_of p) message x) ≡ map (λ s. value o s x) (stripes_in spelt w (layers_of p) message)
+  words_at : (x : E) → P x → words c.spelt c.width (length (plan_stripes (layers_of p))) (payload_at c (layers_of p) message x) ≡ map (λ s. value c.ops s x) (stripes_in c (layers_of p) message)
   words_at x px =
       let layers = layers_of p in
-      let row = words spelt w (length (needs_of layers)) message in
-      let ss = stripes_in spelt w layers message in
-      let vs = map (λ s. value o s x) ss in
-      let many : length (plan_stripes layers) ≡ length vs = sym (length-cut layers row) ∙ sym (length-map ss (λ s. value o s x)) in
-      let elements : All P vs = All-map P (λ s. value o s x) ss (λ k d l. let i : k < length (plan_stripes layers) = omega (arith, l, length-cut layers row) in
-      subst (λ s. P (value o s x)) (get_or_default ss k [] d l) (value_is P o field (get_or ss k []) x (stripe_is k i) px)) in
-      ap (λ n. words spelt w n (payload_at o spelt spelling w layers message x)) many ∙ ap (words spelt w (length vs)) (flat_values x ss) ∙ words_of_spellings P w spelt spelling laws vs elements
+      let row = words c.spelt c.width (length (needs_of layers)) message in
+      let ss = stripes_in c layers message in
+      let vs = map (λ s. value c.ops s x) ss in
+      let many : length (plan_stripes layers) ≡ length vs = sym (length-cut layers row) ∙ sym (length-map ss (λ s. value c.ops s x)) in
+      let elements : All P vs = All-map P (λ s. value c.ops s x) ss (λ k d l. let i : k < length (plan_stripes layers) = omega (arith, l, length-cut layers row) in
+      subst (λ s. P (value c.ops s x)) (get_or_default ss k [] d l) (value_is P c.ops laws.field (get_or ss k []) x (stripe_is k i) px)) in
+      ap (λ n. words c.spelt c.width n (payload_at c layers message x)) many ∙ ap (words c.spelt c.width (length vs)) (flat_values x ss) ∙ words_of_spellings P c.width c.spelt c.spelling laws.spellings vs elements
 
   -- the message's stripe goes through the points of the kept packets
-  goes_through : (numbers : List ℕ) (j k : ℕ) → j < length (plan_stripes (layers_of p)) → ((i : ℕ) → Contains numbers i → IsSome (slot_at p i) × P (point_of i)) → Agrees o spelt spelling w point_of p message
-      → GoesThrough o (get_or (stripes_in spelt w (layers_of p) message) j []) (column o j (take k (points_of spelt w point_of p numbers)))
+  goes_through : (numbers : List ℕ) (j k : ℕ) → j < length (plan_stripes (layers_of p)) → ((i : ℕ) → Contains numbers i → IsSome (slot_at p i) × P (c.point_of i)) → Agrees c p message
+      → GoesThrough c.ops (get_or (stripes_in c (layers_of p) message) j []) (column c.ops j (take k (points_of c p numbers)))
   goes_through numbers j k l kept agrees =
       let layers = layers_of p in
       let n = length (plan_stripes layers) in
-      let row = words spelt w (length (needs_of layers)) message in
-      let ss = stripes_in spelt w layers message in
+      let row = words c.spelt c.width (length (needs_of layers)) message in
+      let ss = stripes_in c layers message in
       let cs = get_or ss j [] in
-      let point : ℕ → E × List E = λ i. (point_of i, words spelt w n (unwrap_or (slot_at p i) [])) in
-      let one : E × List E → E × E = λ q. (q.0, get_or q.1 j o.nought) in
-      let each : All (λ i. value o cs (point i).0 ≡ get_or (point i).1 j o.nought) numbers =
+      let point : ℕ → E × List E = λ i. (c.point_of i, words c.spelt c.width n (unwrap_or (slot_at p i) [])) in
+      let one : E × List E → E × E = λ q. (q.0, get_or q.1 j c.ops.nought) in
+      let each : All (λ i. value c.ops cs (point i).0 ≡ get_or (point i).1 j c.ops.nought) numbers =
       λ m d inside.
       let i = get_or numbers m d in
       let h = kept i (Contains-get_or numbers m d inside) in
       let got = some_is (slot_at p i) h.0 in
       let payload = agrees i got.0 got.1 in
-      let said : words spelt w n (unwrap_or (slot_at p i) []) ≡ map (λ s. value o s (point_of i)) ss =
-      ap (λ t. words spelt w n (unwrap_or t [])) got.1 ∙ ap (words spelt w n) payload ∙ words_at (point_of i) h.1 in
-      sym (ap (λ t. get_or t j o.nought) said ∙ get_or-map (λ s. value o s (point_of i)) ss j [] o.nought (omega (arith, l, length-cut layers row))) in
-      All-map (λ q. value o cs q.0 ≡ q.1) one (take k (map point numbers)) (All-take (λ q. value o cs q.0 ≡ get_or q.1 j o.nought) k (map point numbers) (All-map (λ q. value o cs q.0 ≡ get_or q.1 j o.nought) point numbers each))
+      let said : words c.spelt c.width n (unwrap_or (slot_at p i) []) ≡ map (λ s. value c.ops s (c.point_of i)) ss =
+      ap (λ t. words c.spelt c.width n (unwrap_or t [])) got.1 ∙ ap (words c.spelt c.width n) payload ∙ words_at (c.point_of i) h.1 in
+      sym (ap (λ t. get_or t j c.ops.nought) said ∙ get_or-map (λ s. value c.ops s (c.point_of i)) ss j [] c.ops.nought (omega (arith, l, length-cut layers row))) in
+      All-map (λ q. value c.ops cs q.0 ≡ q.1) one (take k (map point numbers)) (All-take (λ q. value c.ops cs q.0 ≡ get_or q.1 j c.ops.nought) k (map point numbers) (All-map (λ q. value c.ops cs q.0 ≡ get_or q.1 j c.ops.nought) point numbers each))
     where
       some_is : (s : Option (List ℕ)) → IsSome s → (x : List ℕ) × (s ≡ Some x)
       some_is None e = absurd (cc)
       some_is (Some x) e = (x, refl)
 
-  pub agreed_stripe : (numbers : List ℕ) (j : ℕ) (other : List ℕ) → j < length (plan_stripes (layers_of p)) → ((i : ℕ) → Contains numbers i → IsSome (slot_at p i) × P (point_of i)) → Agrees o spelt spelling w point_of p message
-      → IsOnlyThrough P o (column o j (take (get_or (plan_stripes (layers_of p)) j (0, 0)).1 (points_of spelt w point_of p numbers))) (get_or (stripes_in spelt w (layers_of p) other) j [])
-      → get_or (stripes_in spelt w (layers_of p) message) j [] ≡ get_or (stripes_in spelt w (layers_of p) other) j []
+  pub agreed_stripe : (numbers : List ℕ) (j : ℕ) (other : List ℕ) → j < length (plan_stripes (layers_of p)) → ((i : ℕ) → Contains numbers i → IsSome (slot_at p i) × P (c.point_of i)) → Agrees c p message
+      → IsOnlyThrough P c.ops (column c.ops j (take (get_or (plan_stripes (layers_of p)) j (0, 0)).1 (points_of c p numbers))) (get_or (stripes_in c (layers_of p) other) j [])
+      → get_or (stripes_in c (layers_of p) message) j [] ≡ get_or (stripes_in c (layers_of p) other) j []
   agreed_stripe numbers j other l kept agrees only =
       let layers = layers_of p in
-      let row = words spelt w (length (needs_of layers)) message in
-      let row' = words spelt w (length (needs_of layers)) other in
+      let row = words c.spelt c.width (length (needs_of layers)) message in
+      let row' = words c.spelt c.width (length (needs_of layers)) other in
       let s = get_or (plan_stripes layers) j (0, 0) in
-      let long : length row ≡ length row' = length-words spelt w (length (needs_of layers)) message ∙ sym (length-words spelt w (length (needs_of layers)) other) in
+      let long : length row ≡ length row' = length-words c.spelt c.width (length (needs_of layers)) message ∙ sym (length-words c.spelt c.width (length (needs_of layers)) other) in
       let rest : length (drop s.0 row) ≡ length (drop s.0 row') = length-drop s.0 row ∙ ap (λ n. n - s.0) long ∙ sym (length-drop s.0 row') in
-      let same : length (get_or (stripes_in spelt w layers message) j []) ≡ length (get_or (stripes_in spelt w layers other) j []) =
+      let same : length (get_or (stripes_in c layers message) j []) ≡ length (get_or (stripes_in c layers other) j []) =
       ap length (cut_at layers row j l) ∙ length-take s.1 (drop s.0 row) ∙ ap (min s.1) rest ∙ sym (length-take s.1 (drop s.0 row')) ∙ sym (ap length (cut_at layers row' j l)) in
-      only.only (get_or (stripes_in spelt w layers message) j []) (same ∙ only.long) (stripe_is j l) (goes_through numbers j s.1 l kept agrees)
+      only.only (get_or (stripes_in c layers message) j []) (same ∙ only.long) (stripe_is j l) (goes_through numbers j s.1 l kept agrees)
 
-pub agreed_bytes : {E : Type 0} (P : E → Type 0) (o : Operations E) (field : IsField P o) (spelt : List ℕ → E) (spelling : E → List ℕ) (w : ℕ) → w ≡ 2 → AreSpellings P w spelt spelling → (point_of : ℕ → E)
-    (p : Packets) (message : List ℕ) → IsMessage w (layers_of p) message → IsPlan (needs_of (layers_of p)) 0 (plan_ends (layers_of p)) → (numbers : List ℕ)
-    → ((i : ℕ) → Contains numbers i → IsSome (slot_at p i) × P (point_of i)) → Agrees o spelt spelling w point_of p message
-    → (layer : ℕ) (bytes : List ℕ) → layer < length (layers_of p) → IsShownBytes P o spelt w point_of p numbers layer bytes → bytes ≡ bytes_of_layer w (layers_of p) message layer
-agreed_bytes P o field spelt spelling w two laws point_of p message is plan numbers kept agrees layer bytes l shown =
-    let layers = layers_of p in
-    let laws2 = subst (λ n. AreSpellings P n spelt spelling) two laws in
-    let same : (j : ℕ) → j < length (plan_stripes layers) → Meets (words_before layers layer) (words_before layers (layer + 1)) (get_or (plan_stripes layers) j (0, 0))
-    → get_or (stripes_in spelt w layers shown.message) j [] ≡ get_or (stripes_in spelt w layers message) j [] =
-    λ j inside meets. sym (agreed_stripe P o field spelt spelling w laws point_of p message is numbers j shown.message inside kept agrees (shown.stripes j inside meets)) in
-    let same2 = subst (λ n. (j : ℕ) → j < length (plan_stripes layers) → Meets (words_before layers layer) (words_before layers (layer + 1)) (get_or (plan_stripes layers) j (0, 0))
-    → get_or (stripes_in spelt n layers shown.message) j [] ≡ get_or (stripes_in spelt n layers message) j []) two same in
-    let equal = same_bytes P spelt spelling laws2 layers layer l plan shown.message message (subst (λ n. IsMessage n layers shown.message) two shown.is_message) (subst (λ n. IsMessage n layers message) two is) same2 in
-    shown.bytes_are ∙ subst (λ n. bytes_of_layer n layers shown.message layer ≡ bytes_of_layer n layers message layer) (sym two) equal
+pub agreed_bytes : {E : Type 0} (P : E → Type 0) (count : ℕ) (c : Coding E) → IsCoding P count c → 2 ≤ c.width → (p : Packets) (message : List ℕ)
+    → IsMessage c.width (layers_of p) message → IsPlan (needs_of (layers_of p)) 0 (plan_ends (layers_of p)) → (numbers : List ℕ)
+    → ((i : ℕ) → Contains numbers i → IsSome (slot_at p i) × P (c.point_of i)) → Agrees c p message
+    → (layer : ℕ) (bytes : List ℕ) → layer < length (layers_of p) → IsShownBytes P c p numbers layer bytes → bytes ≡ bytes_of_layer c.width (layers_of p) message layer
+agreed_bytes P count c laws wide p message is plan numbers kept agrees layer bytes l shown =
+    shown.bytes_are
+    ∙ same_bytes P c wide laws.spellings (layers_of p) layer l plan shown.message message shown.is_message is
+    (λ j inside meets. sym (agreed_stripe P count c laws p message is numbers j shown.message inside kept agrees (shown.stripes j inside meets)))

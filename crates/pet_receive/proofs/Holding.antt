@@ -5,7 +5,7 @@ use Rattle.std.proofs.lemmas.Bool.{cases_eq, cases_lt}
 use Rattle.std.proofs.Math.ListN as M
 use Rattle.std.proofs.lemmas.List.{length-map, length_push, map_push, get_or-set_same, get_or-set_other, get_or_past, get_or_push, take-append-le, nil_from_length}
 use Rattle.std.proofs.lemmas.List.Elements.{All-nil, All-head, All-tail, All-map, Contains-get_or, Contains-push, Contains-push_cases, Contains-append_left}
-use Rattle.pet_field.specs.Field.{Operations, ArePoints}
+use Rattle.pet_field.specs.Field.{Coding, ArePoints}
 use Rattle.pet_poly.specs.Value.{AreDistinct}
 use Rattle.pet_interp.specs.Points.{IsOnlyThrough}
 use Rattle.pet_interp.specs.Progressive.{Held, StandsFor, stripe_of, lengths_of, column}
@@ -52,10 +52,10 @@ puts_new old number payload told new none t p = p ∙ ap (put_in old number payl
 
 -- ---- a group that has kept nothing
 
-pub holds_none : {E : Type 0} (P : E → Type 0) (o : Operations E) (spelt : List ℕ → E) (w : ℕ) (point_of : ℕ → E) (p : Packets) (held : Held E) (message : List ℕ) (n : ℕ)
-    → w ≡ 2 → p.slots ≡ replicate n None → lengths_of held ≡ stripe_lengths (layers_of p) → StandsFor P o held [] → length message ≡ length (needs_of (layers_of p)) * 2 → All (λ b. b < 256) message
-    → HoldsAfter P o spelt w point_of (record { packets = p; message = message; held = held }) []
-holds_none P o spelt w point_of p held message n two none lengths stands room bytes =
+pub holds_none : {E : Type 0} (P : E → Type 0) (c : Coding E) (p : Packets) (held : Held E) (message : List ℕ) (n : ℕ)
+    → p.slots ≡ replicate n None → lengths_of held ≡ stripe_lengths (layers_of p) → StandsFor P c.ops held [] → length message ≡ length (needs_of (layers_of p)) * c.width → All (λ b. b < 256) message
+    → HoldsAfter P c (record { packets = p; message = message; held = held }) []
+holds_none P c p held message n none lengths stands room bytes =
     let empty : (i : ℕ) → slot_at p i ≡ None = λ i. ap (λ s. get_or s i None) none ∙ none_in (List ℕ) n i in
     let sizes = sizes_are held (layers_of p) lengths in
     record {
@@ -64,34 +64,34 @@ holds_none P o spelt w point_of p held message n two none lengths stands room by
       many = sym (ap (count_by is_some) none ∙ count_none (List ℕ) n);
       lengths = lengths;
       stands = stands;
-      message = record { whole = room ∙ ap (λ k. length (needs_of (layers_of p)) * k) (sym two); bytes = bytes };
+      message = record { whole = room; bytes = bytes };
       known =
           λ j l m.
           let nothing : length (stripe_of held j) ≡ 0 = omega arith in
-          cut_at (layers_of p) (words spelt w (length (needs_of (layers_of p))) message) j (omega (arith, l, sizes.count))
-          ∙ ap (λ k. take k (drop (get_or (plan_stripes (layers_of p)) j (0, 0)).0 (words spelt w (length (needs_of (layers_of p))) message))) (sym (sizes.each j) ∙ nothing)
+          cut_at (layers_of p) (words c.spelt c.width (length (needs_of (layers_of p))) message) j (omega (arith, l, sizes.count))
+          ∙ ap (λ k. take k (drop (get_or (plan_stripes (layers_of p)) j (0, 0)).0 (words c.spelt c.width (length (needs_of (layers_of p))) message))) (sym (sizes.each j) ∙ nothing)
           ∙ sym (nil_from_length (stripe_of held j) nothing);
     }
 
 -- ---- what the steps of keeping a packet did
 
-pub record IsKeeping {E : Type 0} (P : E → Type 0) (o : Operations E) (spelt : List ℕ → E) (w : ℕ) (p : Packets) (held held' : Held E) (message message' : List ℕ) (number : ℕ) (payload : List ℕ) (x : E) : Type 0 where
+pub record IsKeeping {E : Type 0} (P : E → Type 0) (c : Coding E) (p : Packets) (held held' : Held E) (message message' : List ℕ) (number : ℕ) (payload : List ℕ) (x : E) : Type 0 where
   pub inside : number < length p.slots
   pub absent : slot_at p number ≡ None
-  pub stands : (points : List (E × List E)) → StandsFor P o held points → All (λ q. x ≢ q.0) points → StandsFor P o held' (points ++ ((x, words spelt w (length held.stripes) payload) ∷ []))
+  pub stands : (points : List (E × List E)) → StandsFor P c.ops held points → All (λ q. x ≢ q.0) points → StandsFor P c.ops held' (points ++ ((x, words c.spelt c.width (length held.stripes) payload) ∷ []))
   pub met : held'.met ≡ held.met + 1
   pub lengths : lengths_of held' ≡ lengths_of held
   pub bytes : All (λ b. b < 256) message'
   pub room : length message' ≡ length message
-  pub known : (j : ℕ) → j < length held'.stripes → length (stripe_of held' j) ≡ held'.met → get_or (stripes_in spelt 2 (layers_of p) message') j [] ≡ stripe_of held' j
-  pub others : (j : ℕ) → j < length held'.stripes → length (stripe_of held' j) ≢ held'.met → get_or (stripes_in spelt 2 (layers_of p) message') j [] ≡ get_or (stripes_in spelt 2 (layers_of p) message) j []
+  pub known : (j : ℕ) → j < length held'.stripes → length (stripe_of held' j) ≡ held'.met → get_or (stripes_in c (layers_of p) message') j [] ≡ stripe_of held' j
+  pub others : (j : ℕ) → j < length held'.stripes → length (stripe_of held' j) ≢ held'.met → get_or (stripes_in c (layers_of p) message') j [] ≡ get_or (stripes_in c (layers_of p) message) j []
 
-module _ {E : Type 0} (P : E → Type 0) (o : Operations E) (spelt : List ℕ → E) (w : ℕ) (point_of : ℕ → E) (two : w ≡ 2) (count : ℕ) (laws : ArePoints P count point_of)
-    (g : GroupState E) (numbers : List ℕ) (h : HoldsAfter P o spelt w point_of g numbers) (few : length g.packets.slots ≤ count) where
+module _ {E : Type 0} (P : E → Type 0) (count : ℕ) (c : Coding E) (laws : ArePoints P count c.point_of)
+    (g : GroupState E) (numbers : List ℕ) (h : HoldsAfter P c g numbers) (few : length g.packets.slots ≤ count) where
   -- a number that is not kept has another point than each that is
-  pub apart : (number : ℕ) → number < length g.packets.slots → slot_at g.packets number ≡ None → All (λ q. point_of number ≢ q.0) (points_of spelt w point_of g.packets numbers)
+  pub apart : (number : ℕ) → number < length g.packets.slots → slot_at g.packets number ≡ None → All (λ q. c.point_of number ≢ q.0) (points_of c g.packets numbers)
   apart number l none =
-      All-map (λ (q : E × List E). point_of number ≢ q.0) (λ i. (point_of i, words spelt w (length (plan_stripes (layers_of g.packets))) (unwrap_or (slot_at g.packets i) []))) numbers
+      All-map (λ (q : E × List E). c.point_of number ≢ q.0) (λ i. (c.point_of i, words c.spelt c.width (length (plan_stripes (layers_of g.packets))) (unwrap_or (slot_at g.packets i) []))) numbers
       (λ k d inside same.
       let i = get_or numbers k d in
       let kept : IsSome (slot_at g.packets i) = (h.kept i).1 (Contains-get_or numbers k d inside) in
@@ -100,9 +100,9 @@ module _ {E : Type 0} (P : E → Type 0) (o : Operations E) (spelt : List ℕ �
       let e : false ≡ true = sym (ap is_some (ap (slot_at g.packets) (sym is) ∙ none)) ∙ kept in absurd (cc))
 
   pub met_is : g.held.met ≡ length numbers
-  met_is = h.stands.met ∙ length-map numbers (λ i. (point_of i, words spelt w (length (plan_stripes (layers_of g.packets))) (unwrap_or (slot_at g.packets i) [])))
+  met_is = h.stands.met ∙ length-map numbers (λ i. (c.point_of i, words c.spelt c.width (length (plan_stripes (layers_of g.packets))) (unwrap_or (slot_at g.packets i) [])))
 
-  module _ (held' : Held E) (message' : List ℕ) (number : ℕ) (payload : List ℕ) (k : IsKeeping P o spelt w g.packets g.held held' g.message message' number payload (point_of number)) where
+  module _ (held' : Held E) (message' : List ℕ) (number : ℕ) (payload : List ℕ) (k : IsKeeping P c g.packets g.held held' g.message message' number payload (c.point_of number)) where
     abbrev pub new : GroupState E
     new = record { packets = with_packet g.packets number payload; message = message'; held = held' }
 
@@ -128,21 +128,21 @@ module _ {E : Type 0} (P : E → Type 0) (o : Operations E) (spelt : List ℕ �
           )
         ]
 
-    points_after : points_of spelt w point_of (with_packet g.packets number payload) (numbers ++ (number ∷ []))
-        ≡ points_of spelt w point_of g.packets numbers ++ ((point_of number, words spelt w (length g.held.stripes) payload) ∷ [])
+    points_after : points_of c (with_packet g.packets number payload) (numbers ++ (number ∷ []))
+        ≡ points_of c g.packets numbers ++ ((c.point_of number, words c.spelt c.width (length g.held.stripes) payload) ∷ [])
     points_after =
         let layers = layers_of g.packets in
         let stripes = length (plan_stripes layers) in
-        let f : ℕ → E × List E = λ i. (point_of i, words spelt w stripes (unwrap_or (slot_at g.packets i) [])) in
-        let f' : ℕ → E × List E = λ i. (point_of i, words spelt w stripes (unwrap_or (slot_at (with_packet g.packets number payload) i) [])) in
+        let f : ℕ → E × List E = λ i. (c.point_of i, words c.spelt c.width stripes (unwrap_or (slot_at g.packets i) [])) in
+        let f' : ℕ → E × List E = λ i. (c.point_of i, words c.spelt c.width stripes (unwrap_or (slot_at (with_packet g.packets number payload) i) [])) in
         let each : All (λ i. f' i ≡ f i) numbers =
-        λ n d l. ap (λ t. (point_of (get_or numbers n d), words spelt w stripes (unwrap_or t []))) (slot_other (get_or numbers n d) (not_there (get_or numbers n d) (Contains-get_or numbers n d l))) in
-        let last : f' number ≡ (point_of number, words spelt w (length g.held.stripes) payload) =
-        ap (λ t. (point_of number, words spelt w stripes (unwrap_or t []))) slot_here ∙ ap (λ t. (point_of number, words spelt w t payload)) (sym (sizes_are g.held layers h.lengths).count) in
+        λ n d l. ap (λ t. (c.point_of (get_or numbers n d), words c.spelt c.width stripes (unwrap_or t []))) (slot_other (get_or numbers n d) (not_there (get_or numbers n d) (Contains-get_or numbers n d l))) in
+        let last : f' number ≡ (c.point_of number, words c.spelt c.width (length g.held.stripes) payload) =
+        ap (λ t. (c.point_of number, words c.spelt c.width stripes (unwrap_or t []))) slot_here ∙ ap (λ t. (c.point_of number, words c.spelt c.width t payload)) (sym (sizes_are g.held layers h.lengths).count) in
         map_push f' numbers number ∙ ap₂ (λ s t. s ++ (t ∷ [])) (map_same f' f numbers each) last
 
-    stands_after : StandsFor P o held' (points_of spelt w point_of (with_packet g.packets number payload) (numbers ++ (number ∷ [])))
-    stands_after = subst (StandsFor P o held') (sym points_after) (k.stands (points_of spelt w point_of g.packets numbers) h.stands (apart number k.inside k.absent))
+    stands_after : StandsFor P c.ops held' (points_of c (with_packet g.packets number payload) (numbers ++ (number ∷ [])))
+    stands_after = subst (StandsFor P c.ops held') (sym points_after) (k.stands (points_of c g.packets numbers) h.stands (apart number k.inside k.absent))
 
     same_count : length held'.stripes ≡ length g.held.stripes
     same_count = sym (length-map held'.stripes length) ∙ ap length k.lengths ∙ length-map g.held.stripes length
@@ -153,23 +153,20 @@ module _ {E : Type 0} (P : E → Type 0) (o : Operations E) (spelt : List ℕ �
     -- a stripe that was known stays as it was
     same_stripe : (j : ℕ) → j < length g.held.stripes → length (stripe_of g.held j) ≤ length numbers → stripe_of g.held j ≡ stripe_of held' j
     same_stripe j l m =
-        let points = points_of spelt w point_of g.packets numbers in
-        let more = points ++ ((point_of number, words spelt w (length g.held.stripes) payload) ∷ []) in
+        let points = points_of c g.packets numbers in
+        let more = points ++ ((c.point_of number, words c.spelt c.width (length g.held.stripes) payload) ∷ []) in
         let stands = k.stands points h.stands (apart number k.inside k.absent) in
         let long : length points ≡ length numbers = sym h.stands.met ∙ met_is in
         let room : length (stripe_of g.held j) ≤ length points = omega arith in
         let old = h.stands.others j l room in
         let front : take (length (stripe_of held' j)) more ≡ take (length (stripe_of g.held j)) points =
-        ap (λ n. take n more) (same_length j) ∙ take-append-le (length (stripe_of g.held j)) points ((point_of number, words spelt w (length g.held.stripes) payload) ∷ []) room in
-        let now = stands.others j (omega (arith, same_count)) (omega (arith, same_length j, length_push points (point_of number, words spelt w (length g.held.stripes) payload))) in
-        let now' = subst (λ t. IsOnlyThrough P o (column o j t) (stripe_of held' j)) front now in
+        ap (λ n. take n more) (same_length j) ∙ take-append-le (length (stripe_of g.held j)) points ((c.point_of number, words c.spelt c.width (length g.held.stripes) payload) ∷ []) room in
+        let now = stands.others j (omega (arith, same_count)) (omega (arith, same_length j, length_push points (c.point_of number, words c.spelt c.width (length g.held.stripes) payload))) in
+        let now' = subst (λ t. IsOnlyThrough P c.ops (column c.ops j t) (stripe_of held' j)) front now in
         now'.only (stripe_of g.held j) old.long old.elements old.through
 
-    pub holds_more : HoldsAfter P o spelt w point_of new (numbers ++ (number ∷ []))
+    pub holds_more : HoldsAfter P c new (numbers ++ (number ∷ []))
     holds_more =
-        let layers = layers_of g.packets in
-        let known = subst (λ n. (j : ℕ) → j < length held'.stripes → length (stripe_of held' j) ≡ held'.met → get_or (stripes_in spelt n layers message') j [] ≡ stripe_of held' j) (sym two) k.known in
-        let others = subst (λ n. (j : ℕ) → j < length held'.stripes → length (stripe_of held' j) ≢ held'.met → get_or (stripes_in spelt n layers message') j [] ≡ get_or (stripes_in spelt n layers g.message) j []) (sym two) k.others in
         record {
           once = distinct_push numbers number h.once (λ n d l. not_there (get_or numbers n d) (Contains-get_or numbers n d l));
           kept = kept_after;
@@ -180,10 +177,10 @@ module _ {E : Type 0} (P : E → Type 0) (o : Operations E) (spelt : List ℕ �
           known =
               λ j l m.
               elim (cases_eq (length (stripe_of held' j)) held'.met) [
-                | inl e ↦ known j l e
+                | inl e ↦ k.known j l e
                 | inr ne ↦
                     let inside : j < length g.held.stripes = omega (arith, l, same_count) in
                     let low : length (stripe_of g.held j) ≤ length numbers = omega (arith, m, ne, k.met, met_is, same_length j, length_push numbers number) in
-                    others j l ne ∙ h.known j inside low ∙ same_stripe j inside low
+                    k.others j l ne ∙ h.known j inside low ∙ same_stripe j inside low
               ];
         }

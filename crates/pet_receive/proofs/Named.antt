@@ -1,9 +1,9 @@
 -- What is known of the length of a datagram that is a frame.
 use Rattle.std.proofs.Common.{◌≡◌, ℕ, ◌≤◌, List, length, None, arith}
-use Rattle.packet_frame.specs.Refusals.{fields_of, first_fault}
-use Rattle.packet_frame.proofs.Passed.{passes}
+use Rattle.packet_frame.specs.Refusals.{fields_of, first_fault, first_fault_in}
+use Rattle.packet_frame.specs.laws.Passed.{passes}
 
 -- the group is within its bytes
 pub has_group : (bytes : List ℕ) → first_fault bytes ≡ None → 20 ≤ length bytes
-unfolding first_fault
+unfolding first_fault_in
 has_group bytes fine = omega (arith, (passes bytes (fields_of bytes) fine).long)

@@ -1,5 +1,6 @@
 -- The words of the layers, and the bytes of one layer.
 use Rattle.std.proofs.Common.{◌≡◌, ℕ, ◌+◌, ◌*◌, ◌<◌, ◌≤◌, List, [], ◌∷◌, length, get_or, replicate, unwrap_or, option_map, sum_by, refl, ap, ◌∙◌, arith}
+use Rattle.std.proofs.Math.Nat.{mul-le-mul_left, mul-le-mul_right}
 use Rattle.std.proofs.lemmas.List.{length-append, length-replicate}
 use Rattle.std.proofs.lemmas.List.Sums.{sum_by_more, sum_by-take-le, sum_by-cons}
 use Rattle.std.proofs.lemmas.Option.{slice_get-get_or}
@@ -13,13 +14,17 @@ length-needs (layer ∷ layers) =
     length-append (replicate (words_of layer) layer.need) (needs_of layers)
     ∙ omega (arith, length-replicate (words_of layer) layer.need, length-needs layers, sum_by-cons words_of layer layers)
 
--- the bytes of a layer stand within those of all words
-pub layer_inside : (layers : List LayerSize) (layer : ℕ) (d : LayerSize) → layer < length layers
-    → 2 * words_before layers layer + (get_or layers layer d).length ≤ length (needs_of layers) * 2
-layer_inside layers layer d l =
+-- the bytes of a layer stand within those of all words, where a word has at least two
+pub layer_inside : (width : ℕ) (layers : List LayerSize) (layer : ℕ) (d : LayerSize) → 2 ≤ width → layer < length layers
+    → words_before layers layer * width + (get_or layers layer d).length ≤ length (needs_of layers) * width
+layer_inside width layers layer d wide l =
     let size = get_or layers layer d in
-    let even : size.length ≤ 2 * words_of size = omega arith in
-    omega (arith, even, length-needs layers, sum_by_more words_of layers layer d l, sum_by-take-le words_of layers (layer + 1))
+    let even : size.length ≤ words_of size * 2 = omega arith in
+    let words : words_before layers layer + words_of size ≤ length (needs_of layers) =
+    omega (arith, length-needs layers, sum_by_more words_of layers layer d l, sum_by-take-le words_of layers (layer + 1)) in
+    let inside : (words_before layers layer + words_of size) * width ≤ length (needs_of layers) * width = mul-le-mul_right width words in
+    let split : (words_before layers layer + words_of size) * width ≡ words_before layers layer * width + words_of size * width = omega arith in
+    omega (arith, even, inside, split, mul-le-mul_left (words_of size) wide)
 
 pub length_is : (layers : List LayerSize) (layer : ℕ) (d : LayerSize) → layer < length layers → length_of_layer layers layer ≡ (get_or layers layer d).length
 length_is layers layer d l = ap (λ o. unwrap_or (option_map (λ (size : LayerSize). size.length) o) 0) (slice_get-get_or layers layer d l)

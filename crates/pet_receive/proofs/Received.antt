@@ -11,7 +11,7 @@ use Rattle.std.proofs.lemmas.Bool.{cases_eq, eq-eqb, ne_eqb}
 use Rattle.std.proofs.lemmas.List.{map-append, append-nil}
 use Rattle.std.proofs.lemmas.List.Elements.{filter-append, All-head}
 use Rattle.std.proofs.lemmas.List.Folds.{list_any_none}
-use Rattle.pet_field.specs.Field.{Operations}
+use Rattle.pet_field.specs.Field.{Coding}
 use Rattle.stripe_plan.specs.Same.{same_table}
 use Rattle.packet_frame.specs.Frame.{Fields, IsFrame}
 use Rattle.packet_frame.specs.declared.frame.Header.{Header}
@@ -150,25 +150,25 @@ pub keepable_at : {E : Type 0} (r v : ReceiverState E) (f : Fields) → r ≡ v 
 keepable_at r v f is kept = keepable (kept_set r) f (subst (λ (t : ReceiverState _). is_kept (frame_verdict (kept_set t) f) ≡ true) (sym is) kept)
 
 -- what a receiver is that has kept a frame, and has these entries since
-pub record HasKeptOne {E : Type 0} (P : E → Type 0) (o : Operations E) (spelt : List ℕ → E) (w : ℕ) (point_of : ℕ → E) (count : ℕ) (r : ReceiverState E) (cost : ℕ) (f : Fields) (es : List (ℕ × GroupState E)) : Type 0 where
+pub record HasKeptOne {E : Type 0} (P : E → Type 0) (count : ℕ) (c : Coding E) (r : ReceiverState E) (cost : ℕ) (f : Fields) (es : List (ℕ × GroupState E)) : Type 0 where
   pub set : kept_set (record { session = r.session; limit = r.limit; groups = es }) ≡ keep (kept_set r) f
-  pub order : (order : Order) → HasKept P o spelt w point_of r order → HasKept P o spelt w point_of (record { session = r.session; limit = r.limit; groups = es }) (order ++ ((f.group, f.number) ∷ []))
-  pub again : IsReceiver P o spelt w point_of count (record { session = r.session; limit = r.limit; groups = es }) (Some f.groups) (cost + cond (is_none (state_of r f.group)) (cost_of f.packets f.layers) 0)
+  pub order : (order : Order) → HasKept P c r order → HasKept P c (record { session = r.session; limit = r.limit; groups = es }) (order ++ ((f.group, f.number) ∷ []))
+  pub again : IsReceiver P count c (record { session = r.session; limit = r.limit; groups = es }) (Some f.groups) (cost + cond (is_none (state_of r f.group)) (cost_of f.packets f.layers) 0)
 
-module _ {E : Type 0} (P : E → Type 0) (o : Operations E) (spelt : List ℕ → E) (w : ℕ) (point_of : ℕ → E) (count : ℕ) (r : ReceiverState E) (told : Option ℕ) (cost : ℕ)
-    (h : IsReceiver P o spelt w point_of count r told cost) (f : Fields) (frame : IsFrame f) (k : IsKeepable (kept_set r) f) where
+module _ {E : Type 0} (P : E → Type 0) (count : ℕ) (c : Coding E) (r : ReceiverState E) (told : Option ℕ) (cost : ℕ)
+    (h : IsReceiver P count c r told cost) (f : Fields) (frame : IsFrame f) (k : IsKeepable (kept_set r) f) where
   opened_is : (g : GroupState E) → state_of r f.group ≡ Some g → open_group (kept_set r) f.group ≡ Some g.packets
   opened_is g is = found_in r f.group ∙ ap (option_map (λ (t : GroupState E). t.packets)) is
 
-  pub is_ready : IsReadyFor P o spelt w point_of r.groups f
+  pub is_ready : IsReadyFor P c r.groups f
   is_ready = record {
     table = λ g is. k.table g.packets (opened_is g is);
     absent = λ g is. subst (λ t. option_and_then (λ (q : Packets). slot_at q f.number) t ≡ None) (opened_is g is) k.absent;
     slots = λ g is. (h.set.groups f.group g.packets (opened_is g is)).slots;
-    holds = λ g is. (numbers_of h.stands.0 f.group, subst (λ t. MatchOption t (numbers_of h.stands.0 f.group ≡ []) (λ s. HoldsAfter P o spelt w point_of s (numbers_of h.stands.0 f.group))) is (h.stands.1 f.group));
+    holds = λ g is. (numbers_of h.stands.0 f.group, subst (λ t. MatchOption t (numbers_of h.stands.0 f.group ≡ []) (λ s. HoldsAfter P c s (numbers_of h.stands.0 f.group))) is (h.stands.1 f.group));
   }
 
-  module _ (es : List (ℕ × GroupState E)) (gr : HasGrown P o spelt w point_of r.groups f es) where
+  module _ (es : List (ℕ × GroupState E)) (gr : HasGrown P c r.groups f es) where
     abbrev pub after_it : ReceiverState E
     after_it = record { session = r.session; limit = r.limit; groups = es }
 
@@ -182,19 +182,19 @@ module _ {E : Type 0} (P : E → Type 0) (o : Operations E) (spelt : List ℕ �
         ∙ ap (λ t. record { session = r.session; limit = r.limit; groups = t }) (insert_values (λ (g : GroupState E). g.packets) r.groups f.group gr.state
         ∙ ap (insert_entry nat_cmp (map (λ (e : ℕ × GroupState E). (e.0, e.1.packets)) r.groups) f.group) packets_are)
 
-    order_after : (order : Order) → HasKept P o spelt w point_of r order → HasKept P o spelt w point_of after_it (order ++ ((f.group, f.number) ∷ []))
+    order_after : (order : Order) → HasKept P c r order → HasKept P c after_it (order ++ ((f.group, f.number) ∷ []))
     order_after order kept group =
         elim (cases_eq f.group group) [
           | inl here ↦
               let found : state_of after_it f.group ≡ Some gr.state = ap (lookup (is_at (nat_cmp f.group))) gr.entries ∙ lookup_here r.groups f.group gr.state in
-              subst (λ at. MatchOption (state_of after_it at) (numbers_of (order ++ ((f.group, f.number) ∷ [])) at ≡ []) (λ s. HoldsAfter P o spelt w point_of s (numbers_of (order ++ ((f.group, f.number) ∷ [])) at))) here
-              (subst (λ t. MatchOption t (numbers_of (order ++ ((f.group, f.number) ∷ [])) f.group ≡ []) (λ s. HoldsAfter P o spelt w point_of s (numbers_of (order ++ ((f.group, f.number) ∷ [])) f.group))) (sym found)
-              (subst (HoldsAfter P o spelt w point_of gr.state) (sym (numbers_here order f.group f.number)) (gr.holds (numbers_of order f.group) (kept f.group))))
+              subst (λ at. MatchOption (state_of after_it at) (numbers_of (order ++ ((f.group, f.number) ∷ [])) at ≡ []) (λ s. HoldsAfter P c s (numbers_of (order ++ ((f.group, f.number) ∷ [])) at))) here
+              (subst (λ t. MatchOption t (numbers_of (order ++ ((f.group, f.number) ∷ [])) f.group ≡ []) (λ s. HoldsAfter P c s (numbers_of (order ++ ((f.group, f.number) ∷ [])) f.group))) (sym found)
+              (subst (HoldsAfter P c gr.state) (sym (numbers_here order f.group f.number)) (gr.holds (numbers_of order f.group) (kept f.group))))
           | inr ne ↦
               let other : group ≢ f.group = λ e. ne (sym e) in
               let found : state_of after_it group ≡ state_of r group = ap (lookup (is_at (nat_cmp group))) gr.entries ∙ lookup_other r.groups f.group gr.state group other in
-              subst (λ t. MatchOption t (numbers_of (order ++ ((f.group, f.number) ∷ [])) group ≡ []) (λ s. HoldsAfter P o spelt w point_of s (numbers_of (order ++ ((f.group, f.number) ∷ [])) group))) (sym found)
-              (subst (λ ns. MatchOption (state_of r group) (ns ≡ []) (λ s. HoldsAfter P o spelt w point_of s ns)) (sym (numbers_other order f.group f.number group ne)) (kept group))
+              subst (λ t. MatchOption t (numbers_of (order ++ ((f.group, f.number) ∷ [])) group ≡ []) (λ s. HoldsAfter P c s (numbers_of (order ++ ((f.group, f.number) ∷ [])) group))) (sym found)
+              (subst (λ ns. MatchOption (state_of r group) (ns ≡ []) (λ s. HoldsAfter P c s ns)) (sym (numbers_other order f.group f.number group ne)) (kept group))
         ]
 
     sound_after : IsKeptSet (kept_set after_it)
@@ -212,7 +212,7 @@ module _ {E : Type 0} (P : E → Type 0) (o : Operations E) (spelt : List ℕ �
     cost_after : cost + cond (is_none (state_of r f.group)) (cost_of f.packets f.layers) 0 ≡ cost_kept (kept_set after_it)
     cost_after = cost_by (state_of r f.group) refl
 
-    sound_again : IsReceiver P o spelt w point_of count after_it (Some f.groups) (cost + cond (is_none (state_of r f.group)) (cost_of f.packets f.layers) 0)
+    sound_again : IsReceiver P count c after_it (Some f.groups) (cost + cond (is_none (state_of r f.group)) (cost_of f.packets f.layers) 0)
     sound_again = record {
       two = h.two;
       points = h.points;
@@ -223,5 +223,5 @@ module _ {E : Type 0} (P : E → Type 0) (o : Operations E) (spelt : List ℕ �
       cost_is = cost_after;
     }
 
-    pub kept_one : HasKeptOne P o spelt w point_of count r cost f es
+    pub kept_one : HasKeptOne P count c r cost f es
     kept_one = record { set = set_after; order = order_after; again = sound_again }

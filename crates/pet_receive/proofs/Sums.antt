@@ -214,30 +214,30 @@ none_open (x ∷ es) e = absurd (cc)
 pub not_complete : (set : KeptSet) → told_by set ≡ None → IsTrue false ↔ IsComplete set
 not_complete set told = (λ no. absurd (cc), λ c. absurd (omega (arith, c.some, ap length (none_open set.groups told))))
 
-fit_by : (set : KeptSet) → IsKeptSet set → (f : Packets → ℕ) → ((n : ℕ) (e : ℕ × Packets) → IsLimited n e.0 e.1 → f e.1 ≤ 1024) → (o : Option ℕ) → told_by set ≡ o → sum_by (λ (e : ℕ × Packets). f e.1) set.groups < 2 ^ 32
+fit_by : (set : KeptSet) → IsKeptSet set → (f : Packets → ℕ) → ((n : ℕ) (e : ℕ × Packets) → IsLimited n e.0 e.1 → f e.1 ≤ MAX_PACKETS) → (o : Option ℕ) → told_by set ≡ o → sum_by (λ (e : ℕ × Packets). f e.1) set.groups < 2 ^ 32
 fit_by set sound f most None told = let e = ap (sum_by (λ (e : ℕ × Packets). f e.1)) (none_open set.groups told) in omega (arith, e)
 fit_by set sound f most (Some n) told =
     let few = few_open set sound n told in
     let some = some_open set sound n told in
     let first = (all_limited set sound n told 0 (0, record { header = record { session = []; groups = 0; group = 0; table = record { packets = 0; layers = [] } }; slots = [] }) some).few in
-    let sum = sum_few set sound n told f 1024 (most n) in
+    let sum = sum_few set sound n told f MAX_PACKETS (most n) in
     omega (arith, few, first, sum)
 
--- no sum of these over the open groups is above 65,535 times 1,024
-pub sums_fit : (set : KeptSet) → IsKeptSet set → (f : Packets → ℕ) → ((n : ℕ) (e : ℕ × Packets) → IsLimited n e.0 e.1 → f e.1 ≤ 1024) → sum_by (λ (e : ℕ × Packets). f e.1) set.groups < 2 ^ 32
+-- no sum of these over the open groups is above 65,535 times 4,096
+pub sums_fit : (set : KeptSet) → IsKeptSet set → (f : Packets → ℕ) → ((n : ℕ) (e : ℕ × Packets) → IsLimited n e.0 e.1 → f e.1 ≤ MAX_PACKETS) → sum_by (λ (e : ℕ × Packets). f e.1) set.groups < 2 ^ 32
 sums_fit set sound f most = fit_by set sound f most (told_by set) refl
 
 pub kept_fits : (set : KeptSet) → IsKeptSet set → sum_by (λ (e : ℕ × Packets). count_in e.1) set.groups < 2 ^ 32
 kept_fits set sound = sums_fit set sound count_in (λ n e l. omega (arith, l.packets))
 
-shown_few : (n group : ℕ) (p : Packets) → IsLimited n group p → shown_in p ≤ 1024
+shown_few : (n group : ℕ) (p : Packets) → IsLimited n group p → shown_in p ≤ MAX_PACKETS
 shown_few n group p l =
     omega (arith, count_by-le-length (λ layer. nat_le (count_of (layers_of p) layer) (count_in p)) (range_with_len 0 (length (layers_of p))), length-range_with_len 0 (length (layers_of p)), l.layers)
 
 pub shown_fits : (set : KeptSet) → IsKeptSet set → sum_by (λ (e : ℕ × Packets). shown_in e.1) set.groups < 2 ^ 32
 shown_fits set sound = sums_fit set sound shown_in (λ n e l. shown_few n e.0 e.1 l)
 
-whole_few : (p : Packets) → whole_in p ≤ 1024
+whole_few : (p : Packets) → whole_in p ≤ MAX_PACKETS
 unfolding whole_in
 whole_few p = omega (arith, one-le (is_whole p))
 

@@ -3,7 +3,7 @@ use Rattle.std.specs.Prelude.{◌≡◌, ◌↔◌, ℕ, ◌<◌, ◌≤◌, ◌
 use Rattle.std.specs.Ordering.{nat_cmp}
 use Rattle.std.specs.BTreeMap.{is_at}
 use Rattle.std.specs.Map.{lookup}
-use Rattle.pet_field.specs.Field.{Operations}
+use Rattle.pet_field.specs.Field.{Coding}
 use Rattle.pet_poly.specs.Value.{AreDistinct}
 use Rattle.pet_interp.specs.Progressive.{Held, StandsFor, stripe_of, lengths_of}
 use Rattle.pet_poly.specs.Rows.{words}
@@ -50,23 +50,25 @@ abbrev pub stripe_lengths : List LayerSize → List ℕ
 stripe_lengths layers = map (λ s. s.1) (plan_stripes layers)
 
 -- the points of the packets of these numbers, each with the words of its payload
-abbrev pub points_of : {E : Type 0} → (List ℕ → E) → ℕ → (ℕ → E) → Packets → List ℕ → List (E × List E)
-points_of spelt width point_of p numbers = map (λ i. (point_of i, words spelt width (length (plan_stripes (layers_of p))) (unwrap_or (slot_at p i) []))) numbers
+abbrev pub points_of : {E : Type 0} → Coding E → Packets → List ℕ → List (E × List E)
+points_of c p numbers =
+    map (λ i. (c.point_of i, words c.spelt c.width (length (plan_stripes (layers_of p))) (unwrap_or (slot_at p i) []))) numbers
 
-module _ {E : Type 0} (is_element : E → Type 0) (o : Operations E) (spelt : List ℕ → E) (width : ℕ) (point_of : ℕ → E) where
+module _ {E : Type 0} (is_element : E → Type 0) (c : Coding E) where
   -- what is held of a group stands for the packets of these numbers, in this order, and they are all that is kept of it
   pub record HoldsAfter (g : GroupState E) (numbers : List ℕ) : Type 0 where
     pub once : AreDistinct numbers
     pub kept : (number : ℕ) → IsSome (slot_at g.packets number) ↔ Contains numbers number
     pub many : length numbers ≡ count_in g.packets
     pub lengths : lengths_of g.held ≡ stripe_lengths (layers_of g.packets)
-    pub stands : StandsFor is_element o g.held (points_of spelt width point_of g.packets numbers)
+    pub stands : StandsFor is_element c.ops g.held (points_of c g.packets numbers)
     -- the words of a stripe stand in the message from the packet on that makes them known
-    pub message : IsMessage width (layers_of g.packets) g.message
+    pub message : IsMessage c.width (layers_of g.packets) g.message
     pub known : (j : ℕ) → j < length g.held.stripes → length (stripe_of g.held j) ≤ length numbers
-        → slice_index_or (stripes_in spelt width (layers_of g.packets) g.message) j [] ≡ stripe_of g.held j
+        → slice_index_or (stripes_in c (layers_of g.packets) g.message) j [] ≡ stripe_of g.held j
 
   -- A receiver stands for an order of arrival: what it holds of each open group stands for the group's numbers in this
   -- order, and of a group that is not open the order has none.
   abbrev pub HasKept : ReceiverState E → Order → Type 0
-  HasKept r order = (group : ℕ) → MatchOption (state_of r group) (numbers_of order group ≡ []) (λ g. HoldsAfter g (numbers_of order group))
+  HasKept r order =
+      (group : ℕ) → MatchOption (state_of r group) (numbers_of order group ≡ []) (λ g. HoldsAfter g (numbers_of order group))

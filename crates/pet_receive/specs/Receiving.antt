@@ -5,7 +5,7 @@ use Rattle.std.specs.BTreeMap.{is_at, insert_entry}
 use Rattle.std.specs.Map.{lookup}
 use Rattle.std.specs.Str.{bytes_eq}
 use Rattle.pet_base.specs.declared.limits.TheConstants.{MAX_PACKETS}
-use Rattle.pet_field.specs.Field.{Operations}
+use Rattle.pet_field.specs.Field.{Coding}
 use Rattle.stripe_plan.specs.Same.{same_table}
 use Rattle.packet_frame.specs.Frame.{Fields}
 use Rattle.packet_set.specs.Packets.{Packets, slot_at, with_packet}
@@ -46,29 +46,29 @@ is_whole p = shown_in p == length (layers_of p)
 unfoldable pub whole_in : Packets → ℕ
 whole_in p = if is_whole p then 1 else 0
 
-module _ {E : Type 0} (is_element : E → Type 0) (o : Operations E) (spelt : List ℕ → E) (width : ℕ) (point_of : ℕ → E) where
+module _ {E : Type 0} (is_element : E → Type 0) (c : Coding E) where
   -- a frame can be kept next: where its group is open, it has the group's table and its number is not kept
   pub record IsReadyFor (groups : List (ℕ × GroupState E)) (f : Fields) : Type 0 where
     pub table : (g : GroupState E) → lookup (is_at (nat_cmp f.group)) groups ≡ Some g → g.packets.header.table ≡ (header_of f).table
     pub absent : (g : GroupState E) → lookup (is_at (nat_cmp f.group)) groups ≡ Some g → slot_at g.packets f.number ≡ None
     pub slots : (g : GroupState E) → lookup (is_at (nat_cmp f.group)) groups ≡ Some g → length g.packets.slots ≡ g.packets.header.table.packets
-    pub holds : (g : GroupState E) → lookup (is_at (nat_cmp f.group)) groups ≡ Some g → (numbers : List ℕ) × HoldsAfter is_element o spelt width point_of g numbers
+    pub holds : (g : GroupState E) → lookup (is_at (nat_cmp f.group)) groups ≡ Some g → (numbers : List ℕ) × HoldsAfter is_element c g numbers
 
   -- the frame's group has the frame too, is opened where it was not open, and is held for one number more
   pub record HasGrown (groups : List (ℕ × GroupState E)) (f : Fields) (after : List (ℕ × GroupState E)) : Type 0 where
     pub state : GroupState E
     pub entries : after ≡ insert_entry nat_cmp groups f.group state
     pub packets : state.packets ≡ with_packet (unwrap_or (option_map (λ g. g.packets) (lookup (is_at (nat_cmp f.group)) groups)) (no_packets (header_of f))) f.number f.payload
-    pub holds : (numbers : List ℕ) → MatchOption (lookup (is_at (nat_cmp f.group)) groups) (numbers ≡ []) (λ g. HoldsAfter is_element o spelt width point_of g numbers)
-        → HoldsAfter is_element o spelt width point_of state (numbers ++ (f.number ∷ []))
+    pub holds : (numbers : List ℕ) → MatchOption (lookup (is_at (nat_cmp f.group)) groups) (numbers ≡ []) (λ g. HoldsAfter is_element c g numbers)
+        → HoldsAfter is_element c state (numbers ++ (f.number ∷ []))
 
-module _ {E : Type 0} (is_element : E → Type 0) (o : Operations E) (spelt : List ℕ → E) (width : ℕ) (point_of : ℕ → E) (count : ℕ) where
+module _ {E : Type 0} (is_element : E → Type 0) (count : ℕ) (c : Coding E) where
   -- what is kept is a kept set, the state stands for some order, and both numbers beside it are those of the set
   pub record IsReceiver (r : ReceiverState E) (told : Option ℕ) (cost : ℕ) : Type 0 where
-    pub two : width ≡ 2
+    pub two : c.width ≡ 2
     pub points : MAX_PACKETS ≤ count
     pub fits : r.limit < 2 ^ 64
     pub set : IsKeptSet (kept_set r)
-    pub stands : (order : Order) × HasKept is_element o spelt width point_of r order
+    pub stands : (order : Order) × HasKept is_element c r order
     pub told_is : told ≡ told_by (kept_set r)
     pub cost_is : cost ≡ cost_kept (kept_set r)

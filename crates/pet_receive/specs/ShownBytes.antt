@@ -1,7 +1,7 @@
 -- The bytes of a shown layer, by the frames that were kept. This project's own, on interpolation by polynomials.
 use Rattle.std.specs.Prelude.{◌≡◌, ℕ, ◌+◌, ◌<◌, ◌≤◌, nat_le, List, [], length, take, sum_by, count_by, slice_index_or, Some, option_map, unwrap_or, slice_get, MatchOption}
 use Rattle.std.specs.List.{range_with_len}
-use Rattle.pet_field.specs.Field.{Operations}
+use Rattle.pet_field.specs.Field.{Coding}
 use Rattle.pet_interp.specs.Progressive.{column}
 use Rattle.pet_interp.specs.Points.{IsOnlyThrough}
 use Rattle.stripe_plan.specs.Layers.{plan_stripes, words_before, count_of}
@@ -37,20 +37,20 @@ pub record IsComplete (set : KeptSet) : Type 0 where
   pub some : 0 < length set.groups
   pub shown : (group : ℕ) → group < groups_told set → MatchOption (open_group set group) ⊥ (λ p. (layer : ℕ) → layer < length (layers_of p) → IsShownIn p layer)
 
-module _ {E : Type 0} (is_element : E → Type 0) (o : Operations E) (spelt : List ℕ → E) (width : ℕ) (point_of : ℕ → E) where
+module _ {E : Type 0} (is_element : E → Type 0) (c : Coding E) where
   -- The bytes of a layer by the packets of these numbers, in their order. Of a stripe of k words that has a word of the
   -- layer, the words are the only k that have the first k packets' words for this stripe as their values.
   pub record IsShownBytes (p : Packets) (numbers : List ℕ) (layer : ℕ) (bytes : List ℕ) : Type 0 where
     pub message : List ℕ
-    pub is_message : IsMessage width (layers_of p) message
+    pub is_message : IsMessage c.width (layers_of p) message
     pub stripes : (j : ℕ) → j < length (plan_stripes (layers_of p))
         → Meets (words_before (layers_of p) layer) (words_before (layers_of p) (layer + 1)) (slice_index_or (plan_stripes (layers_of p)) j (0, 0))
-        → IsOnlyThrough is_element o
-        (column o j (take (slice_index_or (plan_stripes (layers_of p)) j (0, 0)).1 (points_of spelt width point_of p numbers)))
-        (slice_index_or (stripes_in spelt width (layers_of p) message) j [])
-    pub bytes_are : bytes ≡ bytes_of_layer width (layers_of p) message layer
+        → IsOnlyThrough is_element c.ops
+        (column c.ops j (take (slice_index_or (plan_stripes (layers_of p)) j (0, 0)).1 (points_of c p numbers)))
+        (slice_index_or (stripes_in c (layers_of p) message) j [])
+    pub bytes_are : bytes ≡ bytes_of_layer c.width (layers_of p) message layer
 
 -- each payload that is kept of the group is that of the message
-abbrev pub Agrees : {E : Type 0} → Operations E → (List ℕ → E) → (E → List ℕ) → ℕ → (ℕ → E) → Packets → List ℕ → Type 0
-Agrees o spelt spelling width point_of p message = (number : ℕ) (payload : List ℕ) → slot_at p number ≡ Some payload
-    → payload ≡ payload_at o spelt spelling width (layers_of p) message (point_of number)
+abbrev pub Agrees : {E : Type 0} → Coding E → Packets → List ℕ → Type 0
+Agrees c p message =
+    (number : ℕ) (payload : List ℕ) → slot_at p number ≡ Some payload → payload ≡ payload_at c (layers_of p) message (c.point_of number)

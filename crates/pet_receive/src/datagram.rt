@@ -3,6 +3,9 @@ ghost use Rattle.std.specs.Prelude.{◌≡◌, None};
 ghost use Rattle.packet_frame.specs.Refusals.{first_fault};
 ghost use Rattle.pet_receive.specs.Group.{group_in};
 
+/// Where the number of the group stands in a frame.
+const GROUP: usize = 16;
+
 /// The group of a datagram that is known to be a frame, as one is that was kept: read at its place, with nothing checked
 /// again.
 #[tactic(auto, unfolding(crate::specs::Group::group_in), using(crate::proofs::Named::has_group))]
@@ -10,5 +13,10 @@ pub fn group_of(datagram: &[u8]) -> u32
     requires { first_fault datagram.now ≡ None }
     ensures { result ≡ group_in datagram.now }
 {
-    u32::from_be_bytes([datagram[16], datagram[17], datagram[18], datagram[19]])
+    u32::from_be_bytes([
+        datagram[GROUP],
+        datagram[GROUP + 1],
+        datagram[GROUP + 2],
+        datagram[GROUP + 3],
+    ])
 }

@@ -1,7 +1,7 @@
 //! One open group of a receiver.
 ghost use Rattle.std.specs.Prelude.{◌≡◌, ◌↔◌, ℕ, ◌+◌, ◌*◌, ◌<◌, ◌≤◌, List, [], ◌∷◌, ◌++◌, length, map, None, IsSome, IfOk, IfSome, ◌^◌, sum_by, replicate};
 ghost use Rattle.pet_base.specs.declared.limits.TheConstants.{MAX_PACKETS};
-ghost use Rattle.stripe_plan.specs.Layers.{needs_of, words_before, words_of};
+ghost use Rattle.stripe_plan.specs.Layers.{needs_of, plan_stripes, words_of};
 ghost use Rattle.pet_encode.specs.Session.{IsMessage, bytes_of_layer};
 ghost use Rattle.stripe_plan.specs.Sizes.{IsTable};
 ghost use Rattle.packet_frame.specs.Frame.{payload_length_of};
@@ -20,7 +20,7 @@ use pet_interp::Progress;
 use std::alloc::Global;
 use std::marker::Model;
 use std::sync::ledger::Ledger;
-use stripe_plan::{LayerSize, Table, count, next_start};
+use stripe_plan::{LayerSize, Table, count, first_word, next_start};
 
 /// The packets that are kept of one group, what is known of its stripes, and the words of its message as far as they are
 /// known.
@@ -32,7 +32,7 @@ pub(crate) struct OpenGroup<'f, F: Field> {
     packets: PacketSet,
     /// What is known of each stripe of the plan.
     progress: Progress<'f, F>,
-    /// Two bytes a word. A stripe's words stand here from the packet on that makes them known.
+    /// The field's width in bytes a word. A stripe's words stand here from the packet on that makes them known.
     message: Vec<u8>,
 }
 
@@ -51,15 +51,13 @@ impl<'f, F: Field> OpenGroup<'f, F> {
         field: &'f F,
         header: &Header,
     ) -> Result<OpenGroup<'f, F>, NoMemory>
-        requires width { F.WIDTH ≡ 2 }
         ensures packets { IfOk result (λ g. g.packets ≡ no_packets header.now) }
-        ensures held { IfOk result (λ g. HoldsAfter F.is_element F.ops F.spelt F.WIDTH
-            F.point_of g []) }
+        ensures held { IfOk result (λ g. HoldsAfter F.is_element F.coding g []) }
     {
         let lengths = lengths_of_stripes(alloc, &header.table)?;
         let progress = Progress::new(alloc, field, &lengths)?;
         let packets = PacketSet::new(alloc, header)?;
-        let message = empty_message(alloc, &header.table)?;
+        let message = empty_message(alloc, &header.table, F::WIDTH)?;
         Ok(OpenGroup {
             field,
             packets,
@@ -70,19 +68,18 @@ impl<'f, F: Field> OpenGroup<'f, F> {
 
     /// Keeps a packet that is not kept yet. It takes no memory.
     pub(crate) fn keep<L: Ledger>(&mut self, number: u16, payload: &[u8], steps: &mut Steps<L>)
-        requires width { F.WIDTH ≡ 2 }
         requires points { MAX_PACKETS ≤ F.COUNT }
-        requires held { (numbers : List ℕ) × HoldsAfter F.is_element F.ops F.spelt F.WIDTH
-            F.point_of self.old numbers }
+        requires held { (numbers : List ℕ) × HoldsAfter F.is_element F.coding self.old numbers }
         requires table { IsTable self.old.packets.header.table.packets
             (layers_of self.old.packets) }
         requires slots { length self.old.packets.slots ≡ self.old.packets.header.table.packets }
         requires number { number < self.old.packets.header.table.packets }
         requires absent { slot_at self.old.packets number ≡ None }
         requires payload { length payload.now ≡ payload_length_of (layers_of self.old.packets) }
+        requires words { length payload.now ≡ length (plan_stripes (layers_of self.old.packets)) * F.coding.width }
         ensures packets { self.new.packets ≡ with_packet self.old.packets number payload.now }
-        ensures held { (numbers : List ℕ) → HoldsAfter F.is_element F.ops F.spelt F.WIDTH F.point_of
-            self.old numbers → HoldsAfter F.is_element F.ops F.spelt F.WIDTH F.point_of self.new
+        ensures held { (numbers : List ℕ) → HoldsAfter F.is_element F.coding
+            self.old numbers → HoldsAfter F.is_element F.coding self.new
             (numbers ++ (number ∷ [])) }
         ensures cost { steps.new ≤ steps.old + step_bound (count_in self.old.packets)
             (stripe_lengths (layers_of self.old.packets)) }
@@ -107,24 +104,21 @@ impl<'f, F: Field> OpenGroup<'f, F> {
 
     /// The bytes of a layer, where it is shown.
     pub(crate) fn layer(&self, layer: u8) -> Option<&[u8]>
-        requires width { F.WIDTH ≡ 2 }
+        requires width { 2 ≤ F.coding.width }
         requires points { MAX_PACKETS ≤ F.COUNT }
-        requires held { (numbers : List ℕ) × HoldsAfter F.is_element F.ops F.spelt F.WIDTH
-            F.point_of self.now numbers }
+        requires held { (numbers : List ℕ) × HoldsAfter F.is_element F.coding self.now numbers }
         ensures shown { IsSome result ↔ IsShownIn self.now.packets layer }
-        ensures bytes { (numbers : List ℕ) → HoldsAfter F.is_element F.ops F.spelt F.WIDTH
-            F.point_of self.now numbers → IfSome result
-            (λ bytes. IsShownBytes F.is_element F.ops F.spelt F.WIDTH F.point_of self.now.packets
+        ensures bytes { (numbers : List ℕ) → HoldsAfter F.is_element F.coding self.now numbers → IfSome result
+            (λ bytes. IsShownBytes F.is_element F.coding self.now.packets
             numbers layer bytes.now) }
-        ensures agreed { (message : List ℕ) → IsMessage F.WIDTH (layers_of self.now.packets) message → Agrees F.ops F.spelt F.spelling F.WIDTH F.point_of self.now.packets message
-            → IfSome result (λ bytes. bytes.now ≡ bytes_of_layer F.WIDTH (layers_of self.now.packets) message layer) }
+        ensures agreed { (message : List ℕ) → IsMessage F.coding.width (layers_of self.now.packets) message → Agrees F.coding self.now.packets message
+            → IfSome result (λ bytes. bytes.now ≡ bytes_of_layer F.coding.width (layers_of self.now.packets) message layer) }
     {
         let table = &self.packets.header().table;
         if usize::from(layer) >= table.layers().len() || self.packets.len() < count(table, layer) {
             return None;
         }
-        let words = table.words() as usize;
-        Some(layer_bytes(&self.message[..2 * words], table.layers(), layer))
+        Some(layer_bytes(&self.message, table.layers(), layer, F::WIDTH))
     }
 }
 
@@ -143,46 +137,26 @@ fn lengths_of_stripes(alloc: Global, table: &Table) -> Result<Vec<u16>, NoMemory
     Ok(lengths)
 }
 
-/// A message of whose words none is known.
-fn empty_message(alloc: Global, table: &Table) -> Result<Vec<u8>, NoMemory>
+/// A message of words of `width` bytes, none of which is known.
+fn empty_message(alloc: Global, table: &Table, width: usize) -> Result<Vec<u8>, NoMemory>
     ensures { IfOk result (λ message. message.items
-        ≡ replicate (length (needs_of table.now.layers) * 2) 0) }
+        ≡ replicate (length (needs_of table.now.layers) * width) 0) }
 {
-    let words = table.words() as usize;
-    Ok(vec![in alloc; 0u8; words * 2]?)
+    match (table.words() as usize).checked_mul(width) {
+        Some(size) => Ok(vec![in alloc; 0u8; size]?),
+        None => Err(NoMemory),
+    }
 }
 
-/// The bytes of a layer in a message.
-fn layer_bytes<'a>(message: &'a [u8], layers: &[LayerSize], layer: u8) -> &'a [u8]
-    requires room { length message.now ≡ length (needs_of layers.now) * 2 }
+/// The bytes of a layer in a message of words of `width` bytes.
+fn layer_bytes<'a>(message: &'a [u8], layers: &[LayerSize], layer: u8, width: usize) -> &'a [u8]
+    requires room { length message.now ≡ length (needs_of layers.now) * width }
+    requires few { sum_by words_of layers.now < 2 ^ 32 }
+    requires width { 2 ≤ width }
     requires layer { layer < length layers.now }
-    ensures { result.now ≡ bytes_of_layer 2 layers.now message.now layer }
+    ensures { result.now ≡ bytes_of_layer width layers.now message.now layer }
 {
-    let start = 2 * first_word(layers, layer);
+    let start = first_word(layers, usize::from(layer)) as usize * width;
     let size = layers[usize::from(layer)].length as usize;
     &message[start..start + size]
-}
-
-/// How many words stand before a layer.
-fn first_word(layers: &[LayerSize], layer: u8) -> usize
-    requires few { sum_by words_of layers.now < 2 ^ 64 }
-    requires known { layer ≤ length layers.now }
-    ensures { result ≡ words_before layers.now layer }
-{
-    total_words(&layers[..usize::from(layer)])
-}
-
-/// How many words the layers have.
-fn total_words(layers: &[LayerSize]) -> usize
-    requires { sum_by words_of layers.now < 2 ^ 64 }
-    ensures { result ≡ sum_by words_of layers.now }
-{
-    layers.iter().map(|size| words_in(size)).sum()
-}
-
-/// How many words a layer has.
-fn words_in(size: &LayerSize) -> usize
-    ensures { result ≡ words_of size.now }
-{
-    size.length.div_ceil(2) as usize
 }

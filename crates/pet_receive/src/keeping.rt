@@ -30,12 +30,12 @@ pub(crate) fn keep_frame<'f, F: Field, L: Ledger>(
     frame: &Frame<'_>,
     steps: &mut Steps<L>,
 ) -> Result<u64, NoMemory>
-    requires width { F.WIDTH ≡ 2 }
+    requires width { F.coding.width ≡ 2 }
     requires points { MAX_PACKETS ≤ F.COUNT }
     requires frame { IsFrame (view frame.now) }
-    requires ready { IsReadyFor F.is_element F.ops F.spelt F.WIDTH F.point_of groups.old.entries
+    requires ready { IsReadyFor F.is_element F.coding groups.old.entries
         (view frame.now) }
-    ensures grown { OnOk result (HasGrown F.is_element F.ops F.spelt F.WIDTH F.point_of
+    ensures grown { OnOk result (HasGrown F.is_element F.coding
         groups.old.entries (view frame.now) groups.new.entries) }
     ensures more { IfOk result (λ more. more ≡ cond
         (is_none (lookup (is_at (nat_cmp frame.now.header.group)) groups.old.entries))
@@ -63,11 +63,10 @@ fn open_group<'f, F: Field>(
     groups: &mut BTreeMap<u32, OpenGroup<'f, F>>,
     header: &Header,
 ) -> Result<(), NoMemory>
-    requires width { F.WIDTH ≡ 2 }
     ensures opened { OnOk result ((g : GroupState F.Elem)
         × (groups.new.entries ≡ insert_entry nat_cmp groups.old.entries header.now.group g)
         × (g.packets ≡ no_packets header.now)
-        × HoldsAfter F.is_element F.ops F.spelt F.WIDTH F.point_of g []) }
+        × HoldsAfter F.is_element F.coding g []) }
     ensures err { OnErr result (groups.new.entries ≡ groups.old.entries) }
 {
     let open = OpenGroup::open(alloc, field, header)?;
@@ -81,17 +80,17 @@ fn keep_in<'f, F: Field, L: Ledger>(
     frame: &Frame<'_>,
     steps: &mut Steps<L>,
 )
-    requires width { F.WIDTH ≡ 2 }
+    requires width { F.coding.width ≡ 2 }
     requires points { MAX_PACKETS ≤ F.COUNT }
     requires frame { IsFrame (view frame.now) }
-    requires ready { IsReadyFor F.is_element F.ops F.spelt F.WIDTH F.point_of groups.old.entries
+    requires ready { IsReadyFor F.is_element F.coding groups.old.entries
         (view frame.now) }
     requires open { (g : GroupState F.Elem) × (lookup (is_at (nat_cmp frame.now.header.group))
         groups.old.entries ≡ Some g) }
     ensures ordered { IsOrdered nat_cmp groups.old }
     ensures kept { (g : GroupState F.Elem) → lookup (is_at (nat_cmp frame.now.header.group)) groups.old.entries ≡ Some g
         → (h : GroupState F.Elem) × (groups.new.entries ≡ set_value (is_at (nat_cmp frame.now.header.group)) groups.old.entries h) × (h.packets ≡ with_packet g.packets frame.now.number frame.now.payload.now)
-        × ((numbers : List ℕ) → HoldsAfter F.is_element F.ops F.spelt F.WIDTH F.point_of g numbers → HoldsAfter F.is_element F.ops F.spelt F.WIDTH F.point_of h (numbers ++ (frame.now.number ∷ []))) }
+        × ((numbers : List ℕ) → HoldsAfter F.is_element F.coding g numbers → HoldsAfter F.is_element F.coding h (numbers ++ (frame.now.number ∷ []))) }
     ensures cost { (g : GroupState F.Elem) → lookup (is_at (nat_cmp frame.now.header.group)) groups.old.entries ≡ Some g
         → steps.new ≤ steps.old + step_bound (count_in g.packets) (stripe_lengths frame.now.header.table.layers) }
 {

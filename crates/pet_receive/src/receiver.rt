@@ -53,7 +53,7 @@ impl<'f, F: Field> Model for Receiver<'f, F> {
 
     ghost view = { λ r. record { session = r.session; limit = r.limit; groups = r.groups.entries } };
 
-    ghost invariant = { λ r. IsReceiver F.is_element F.ops F.spelt F.WIDTH F.point_of F.COUNT (record { session = r.session; limit = r.limit; groups = r.groups.entries }) r.told r.cost };
+    ghost invariant = { λ r. IsReceiver F.is_element F.COUNT F.coding (record { session = r.session; limit = r.limit; groups = r.groups.entries }) r.told r.cost };
 }
 
 impl<'f, F: Field> Receiver<'f, F> {
@@ -61,10 +61,10 @@ impl<'f, F: Field> Receiver<'f, F> {
     /// times datagram length, summed. The field writes an element in two bytes, and has a point for each packet number.
     /// It takes no memory.
     pub fn new(alloc: Global, f: &'f F, session: [u8; 8], limit: u64) -> Receiver<'f, F>
-        requires width { F.WIDTH ≡ 2 }
+        requires width { F.coding.width ≡ 2 }
         requires points { MAX_PACKETS ≤ F.COUNT }
         ensures empty { kept_set result ≡ empty_set session limit }
-        ensures order { HasKept F.is_element F.ops F.spelt F.WIDTH F.point_of result [] }
+        ensures order { HasKept F.is_element F.coding result [] }
         ensures sound { IsKeptSet (kept_set result) }
     {
         Receiver {
@@ -94,8 +94,8 @@ impl<'f, F: Field> Receiver<'f, F> {
         ensures memory { OnErr result ((self.new ≡ self.old) × (steps.new ≡ steps.old)
             × (is_kept (verdict_of (kept_set self.old) datagram.now) ≡ true)
             × (opens (kept_set self.old) (fields_of datagram.now) ≡ true)) }
-        ensures order { IfOk result (λ v. is_kept v ≡ true → (order : Order) → HasKept F.is_element F.ops F.spelt F.WIDTH F.point_of self.old order
-            → HasKept F.is_element F.ops F.spelt F.WIDTH F.point_of self.new (order ++ (((fields_of datagram.now).group, (fields_of datagram.now).number) ∷ []))) }
+        ensures order { IfOk result (λ v. is_kept v ≡ true → (order : Order) → HasKept F.is_element F.coding self.old order
+            → HasKept F.is_element F.coding self.new (order ++ (((fields_of datagram.now).group, (fields_of datagram.now).number) ∷ []))) }
         ensures cost { IfOk result (λ v. is_kept v ≡ true
             → steps.new ≤ steps.old + step_bound
             (count_kept (kept_set self.old) (fields_of datagram.now).group)
@@ -115,10 +115,10 @@ impl<'f, F: Field> Receiver<'f, F> {
     /// The bytes of a layer of a group, where it is shown. It takes no memory.
     pub fn layer(&self, group: u32, layer: u8) -> Option<&[u8]>
         ensures shown { IsSome result ↔ IsShown (kept_set self.now) group layer }
-        ensures bytes { (order : Order) (p : Packets) → HasKept F.is_element F.ops F.spelt F.WIDTH F.point_of self.now order → open_group (kept_set self.now) group ≡ Some p
-            → IfSome result (λ bytes. IsShownBytes F.is_element F.ops F.spelt F.WIDTH F.point_of p (numbers_of order group) layer bytes.now) }
-        ensures agreed { (p : Packets) (message : List ℕ) → open_group (kept_set self.now) group ≡ Some p → IsMessage F.WIDTH (layers_of p) message → Agrees F.ops F.spelt F.spelling F.WIDTH F.point_of p message
-            → IfSome result (λ bytes. bytes.now ≡ bytes_of_layer F.WIDTH (layers_of p) message layer) }
+        ensures bytes { (order : Order) (p : Packets) → HasKept F.is_element F.coding self.now order → open_group (kept_set self.now) group ≡ Some p
+            → IfSome result (λ bytes. IsShownBytes F.is_element F.coding p (numbers_of order group) layer bytes.now) }
+        ensures agreed { (p : Packets) (message : List ℕ) → open_group (kept_set self.now) group ≡ Some p → IsMessage F.coding.width (layers_of p) message → Agrees F.coding p message
+            → IfSome result (λ bytes. bytes.now ≡ bytes_of_layer F.coding.width (layers_of p) message layer) }
     {
         match self.groups.get(&group) {
             Some(open) => open.layer(layer),
@@ -197,8 +197,8 @@ impl<'f, F: Field> Receiver<'f, F> {
         ensures memory { OnErr result ((self.new ≡ self.old) × (steps.new ≡ steps.old)
             × (is_kept (frame_verdict (kept_set self.old) (view frame.now)) ≡ true)
             × (opens (kept_set self.old) (view frame.now) ≡ true)) }
-        ensures order { IfOk result (λ v. is_kept v ≡ true → (order : Order) → HasKept F.is_element F.ops F.spelt F.WIDTH F.point_of self.old order
-            → HasKept F.is_element F.ops F.spelt F.WIDTH F.point_of self.new (order ++ ((frame.now.header.group, frame.now.number) ∷ []))) }
+        ensures order { IfOk result (λ v. is_kept v ≡ true → (order : Order) → HasKept F.is_element F.coding self.old order
+            → HasKept F.is_element F.coding self.new (order ++ ((frame.now.header.group, frame.now.number) ∷ []))) }
         ensures cost { IfOk result (λ v. is_kept v ≡ true
             → steps.new ≤ steps.old + step_bound
             (count_kept (kept_set self.old) frame.now.header.group)
@@ -238,8 +238,8 @@ impl<'f, F: Field> Receiver<'f, F> {
         ensures kept { OnOk result (kept_set self.new ≡ keep (kept_set self.old) (view frame.now)) }
         ensures err { OnErr result ((self.new ≡ self.old) × (steps.new ≡ steps.old)
             × (opens (kept_set self.old) (view frame.now) ≡ true)) }
-        ensures order { OnOk result ((order : Order) → HasKept F.is_element F.ops F.spelt F.WIDTH F.point_of self.old order
-            → HasKept F.is_element F.ops F.spelt F.WIDTH F.point_of self.new (order ++ ((frame.now.header.group, frame.now.number) ∷ []))) }
+        ensures order { OnOk result ((order : Order) → HasKept F.is_element F.coding self.old order
+            → HasKept F.is_element F.coding self.new (order ++ ((frame.now.header.group, frame.now.number) ∷ []))) }
         ensures cost { OnOk result (steps.new
             ≤ steps.old + step_bound (count_kept (kept_set self.old) frame.now.header.group)
             (stripe_lengths frame.now.header.table.layers)) }

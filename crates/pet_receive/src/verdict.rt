@@ -16,13 +16,6 @@ impl LayerSet {
     {
         layer < 32 && (self.bits >> layer) & 1 == 1
     }
-
-    /// Whether the set has no layer.
-    pub fn is_empty(self) -> bool
-        ensures { result ≡ (self.bits == 0) }
-    {
-        self.bits == 0
-    }
 }
 
 /// The verdict of a datagram, the first that holds.

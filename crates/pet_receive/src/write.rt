@@ -18,18 +18,17 @@ pub(crate) fn write_known<F: Field>(
     progress: &Progress<'_, F>,
     message: &mut [u8],
 )
-    requires width { F.WIDTH ≡ 2 }
     requires lengths { lengths_of progress.now ≡ stripe_lengths table.now.layers }
     requires stands { (points : List (F.Elem × List F.Elem))
-        × StandsFor F.is_element F.ops progress.now points }
-    requires room { length message.old ≡ length (needs_of table.now.layers) * 2 }
+        × StandsFor F.is_element F.coding.ops progress.now points }
+    requires room { length message.old ≡ length (needs_of table.now.layers) * F.coding.width }
     requires bytes { All (λ b. b < 256) message.old }
     ensures room { length message.new ≡ length message.old }
     ensures bytes { All (λ b. b < 256) message.new }
     ensures known { (j : ℕ) → j < length progress.now.stripes → length (stripe_of progress.now j) ≡ progress.now.met
-        → slice_index_or (stripes_in F.spelt 2 table.now.layers message.new) j [] ≡ stripe_of progress.now j }
+        → slice_index_or (stripes_in F.coding table.now.layers message.new) j [] ≡ stripe_of progress.now j }
     ensures others { (j : ℕ) → j < length progress.now.stripes → length (stripe_of progress.now j) ≢ progress.now.met
-        → slice_index_or (stripes_in F.spelt 2 table.now.layers message.new) j [] ≡ slice_index_or (stripes_in F.spelt 2 table.now.layers message.old) j [] }
+        → slice_index_or (stripes_in F.coding table.now.layers message.new) j [] ≡ slice_index_or (stripes_in F.coding table.now.layers message.old) j [] }
 {
     let words = table.words();
     let mut at = 0;
@@ -52,32 +51,32 @@ fn write_if_known<F: Field>(
     end: u32,
     message: &mut [u8],
 )
-    requires width { F.WIDTH ≡ 2 }
     requires stripe { stripe < length progress.now.stripes }
     requires size { at + length (stripe_of progress.now stripe) ≡ end }
     requires stands { (points : List (F.Elem × List F.Elem))
-        × StandsFor F.is_element F.ops progress.now points }
-    requires room { 2 * end ≤ length message.old }
+        × StandsFor F.is_element F.coding.ops progress.now points }
+    requires room { end * F.coding.width ≤ length message.old }
     ensures written { length (stripe_of progress.now stripe) ≡ progress.now.met
-        → All F.is_element (stripe_of progress.now stripe) × (message.new ≡ take (2 * at) message.old ++ flat_map F.spelling (stripe_of progress.now stripe) ++ drop (2 * end) message.old) }
+        → All F.is_element (stripe_of progress.now stripe) × (message.new ≡ take (at * F.coding.width) message.old
+        ++ flat_map F.coding.spelling (stripe_of progress.now stripe) ++ drop (end * F.coding.width) message.old) }
     ensures same { length (stripe_of progress.now stripe) ≢ progress.now.met
         → message.new ≡ message.old }
 {
     if end - at == progress.met() {
-        write_stripe(field, progress.coefficients(stripe), at as usize, message);
+        write_stripe(field, progress.coefficients(stripe), at, message);
     }
 }
 
 /// Writes a stripe's words, from the message's word `at` on.
-fn write_stripe<F: Field>(field: &F, stripe: &[F::Elem], at: usize, message: &mut [u8])
-    requires width { F.WIDTH ≡ 2 }
+fn write_stripe<F: Field>(field: &F, stripe: &[F::Elem], at: u32, message: &mut [u8])
     requires elements { All F.is_element stripe.now }
-    requires room { 2 * (at + length stripe.now) ≤ length message.old }
-    ensures { message.new ≡ take (2 * at) message.old ++ flat_map F.spelling stripe.now
-        ++ drop (2 * (at + length stripe.now)) message.old }
+    requires room { (at + length stripe.now) * F.coding.width ≤ length message.old }
+    ensures { message.new ≡ take (at * F.coding.width) message.old
+        ++ flat_map F.coding.spelling stripe.now
+        ++ drop ((at + length stripe.now) * F.coding.width) message.old }
 {
     for i in 0..stripe.len() {
-        let place = 2 * (at + i);
-        field.write(stripe[i], &mut message[place..place + 2]);
+        let place = (at as usize + i) * F::WIDTH;
+        field.write(stripe[i], &mut message[place..place + F::WIDTH]);
     }
 }

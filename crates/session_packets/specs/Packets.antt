@@ -1,9 +1,9 @@
 -- The packets of a group and of a session as the entries of a datagram file, over the field of 65,536 elements. This
 -- project's own.
 use Rattle.std.specs.Prelude.{◌≡◌, ℕ, List, ◌++◌, length, take, None, slice_get, Some}
-use Rattle.std.specs.Int.{w16, from_be_bytes, to_be_bytes}
+use Rattle.std.specs.Int.{w16, to_be_bytes}
 use Rattle.std.specs.List.{flat_map, range_with_len}
-use Rattle.pet_field.specs.Gf16.{gf16}
+use Rattle.pet_field.specs.Gf16.{gf16_coding}
 use Rattle.packet_frame.specs.Frame.{Fields, text}
 use Rattle.pet_encode.specs.Encoding.{Encoding, IsGroupOf, frame_of}
 use Rattle.packet_frame.specs.Refusals.{fields_of, first_fault}
@@ -19,7 +19,7 @@ entries_text packets = flat_map (λ f. entry_text (text f)) packets
 
 -- packet `number` of the encoder's group
 abbrev pub packet_in : Encoding → ℕ → Fields
-packet_in e number = frame_of gf16 (from_be_bytes w16) (to_be_bytes w16) 2 (λ i. i) e number
+packet_in e number = frame_of gf16_coding e number
 
 -- its entry
 abbrev pub packet_entry : Encoding → ℕ → List ℕ
@@ -35,7 +35,7 @@ group_entries e = first_entries e e.header.table.packets
 
 -- all packets of a session, by group, then number
 abbrev pub session_packets : Session → List Fields
-session_packets s = packets_of gf16 (from_be_bytes w16) (to_be_bytes w16) 2 (λ i. i) s
+session_packets s = packets_of gf16_coding s
 
 -- the datagram file of a session: the entries of its packets
 abbrev pub datagrams_text : Session → List ℕ
@@ -43,7 +43,7 @@ datagrams_text s = entries_text (session_packets s)
 
 -- its front: the entries of the first groups
 abbrev pub first_groups_text : Session → ℕ → List ℕ
-first_groups_text s many = entries_text (packets_from gf16 (from_be_bytes w16) (to_be_bytes w16) 2 (λ i. i) s 0 (take many s.groups))
+first_groups_text s many = entries_text (packets_from gf16_coding s 0 (take many s.groups))
 
 -- encoders of all groups of a session, in order
 pub record AreEncoders (s : Session) (encoders : List Encoding) : Type 0 where
@@ -56,7 +56,7 @@ GroupsMakeDatagrams = (s : Session) (encoders : List Encoding) → AreEncoders s
 
 -- the frame is one of the session's packets
 abbrev pub IsItsPacket : Session → Fields → Type 0
-IsItsPacket s f = IsPacketOf gf16 (from_be_bytes w16) (to_be_bytes w16) 2 (λ i. i) s f
+IsItsPacket s f = IsPacketOf gf16_coding s f
 
 -- a datagram is accepted, and is a packet of the session, with its number
 pub record IsItsDatagram (s : Session) (bytes : List ℕ) : Type 0 where

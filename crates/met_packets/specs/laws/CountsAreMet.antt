@@ -33,10 +33,10 @@ none_shown layers n none =
     count_nothing (λ layer. leb (count_of layers layer) n) (range_with_len 0 (length layers))
     (λ layer. lt-leb (count_of layers layer) n (omega (arith, some_count (Rattle.stripe_plan.specs.Layers.words_before layers layer) (Rattle.stripe_plan.specs.Layers.words_before layers (layer + 1)) (plan_stripes layers))))
 
-group_at : (gs : List SessionGroup) (i : ℕ) (g : SessionGroup) → slice_get gs i ≡ Some g → All (IsSessionGroup 2) gs → IsSessionGroup 2 g
+group_at : {width : ℕ} (gs : List SessionGroup) (i : ℕ) (g : SessionGroup) → slice_get gs i ≡ Some g → All (IsSessionGroup width) gs → IsSessionGroup width g
 group_at [] i g e all = absurd cc
-group_at (x ∷ gs) zero g e all = subst (IsSessionGroup 2) (same_Some x g e) (All-head (IsSessionGroup 2) x gs all)
-group_at (x ∷ gs) (suc i) g e all = group_at gs i g e (All-tail (IsSessionGroup 2) x gs all)
+group_at {width} (x ∷ gs) zero g e all = subst (IsSessionGroup width) (same_Some x g e) (All-head (IsSessionGroup width) x gs all)
+group_at {width} (x ∷ gs) (suc i) g e all = group_at gs i g e (All-tail (IsSessionGroup width) x gs all)
 
 get_below : (gs : List SessionGroup) (i : ℕ) → i < length gs → (g : SessionGroup) × (slice_get gs i ≡ Some g)
 get_below [] i lt = absurd (omega arith)
@@ -74,7 +74,7 @@ groups_all p [] k each = refl
 groups_all p (x ∷ gs) k each =
     and_from (p (k, x)) (list_all p (enumerate_from (k + 1) gs)) (each 0 k x (omega arith) refl) (groups_all p gs (k + 1) (λ i n g at e. each (suc i) n g (omega arith) e))
 
-module _ (made : SessionGroup → ℕ → List ℕ) (s : Session) (limit : ℕ) (pairs : List Pair) (kept : KeptSet) (is_session : IsSession 2 s) (follows : Follows made s limit pairs kept) where
+module _ {width : ℕ} (made : SessionGroup → ℕ → List ℕ) (s : Session) (limit : ℕ) (pairs : List Pair) (kept : KeptSet) (is_session : IsSession width s) (follows : Follows made s limit pairs kept) where
   pub kept_is : kept_in_all kept ≡ count_met s pairs
   kept_is =
       sym (values_sum count_in kept.groups) ∙ follows.spread count_in

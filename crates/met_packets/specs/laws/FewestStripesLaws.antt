@@ -6,7 +6,7 @@ use Rattle.std.specs.List.{flat_map}
 use Rattle.std.proofs.lemmas.List.{length-append}
 use Rattle.std.proofs.lemmas.List.Elements.{All-nil, All-cons, All-head, All-tail}
 use Rattle.std.proofs.lemmas.Option.{same_Some}
-use Rattle.pet_field.specs.Gf16.{gf16}
+use Rattle.pet_field.specs.Gf16.{gf16, gf16_coding}
 use Rattle.pet_poly.specs.Value.{value}
 use Rattle.pet_poly.specs.Rows.{words}
 use Rattle.stripe_plan.specs.declared.layer.LayerSize.{LayerSize}
@@ -46,7 +46,7 @@ carries_fewest g is = record {
   words =
       λ number.
       let row = words (from_be_bytes w16) 2 (length (needs_of g.layers)) g.message in
-      two_each number (stripes_in (from_be_bytes w16) 2 g.layers g.message)
+      two_each number (stripes_in gf16_coding g.layers g.message)
       ∙ ap (λ (n : ℕ). 2 * n) (length_map (λ s. Rattle.std.specs.Prelude.take s.1 (Rattle.std.specs.Prelude.drop s.0 row)) (plan_stripes g.layers));
   fewest = λ ends part. omega (arith, length-plan_stripes g.layers, plan_ends_fewest g.layers ends is.table.needed part);
   bounded = omega (arith, length-plan_stripes g.layers, plan_ends_bound g.layers is.table.needed);

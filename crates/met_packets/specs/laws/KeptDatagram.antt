@@ -1,10 +1,10 @@
 -- What a datagram that is kept now shows.
-use Rattle.std.proofs.Common.{◌≡◌, ℕ, zero, suc, ◌+◌, ◌<◌, ◌≤◌, Bool, true, false, cond, List, [], ◌∷◌, ◌++◌, length, Option, None, Some, refl, sym, ap, subst, ◌∙◌, arith, eqb, ltb, leb}
+use Rattle.std.proofs.Common.{◌≡◌, ℕ, zero, suc, ◌+◌, ◌-◌, ◌<◌, ◌≤◌, Bool, true, false, cond, List, [], ◌∷◌, ◌++◌, length, Option, None, Some, refl, sym, ap, subst, ◌∙◌, arith, eqb, ltb, leb}
 use Rattle.std.specs.Prelude.{filter, ◌&&◌}
 use Rattle.std.specs.Int.{bit_at}
 use Rattle.std.specs.List.{range_with_len}
 use Rattle.std.proofs.lemmas.List.{append-nil}
-use Rattle.pet_base.specs.declared.limits.TheConstants.{MAX_GROUP_BYTES}
+use Rattle.pet_base.specs.declared.limits.TheConstants.{MAX_GROUP_BYTES, MAX_LAYERS}
 use Rattle.stripe_plan.specs.declared.layer.LayerSize.{LayerSize}
 use Rattle.stripe_plan.specs.Layers.{count_of}
 use Rattle.stripe_plan.specs.Sizes.{bytes_of}
@@ -12,13 +12,12 @@ use Rattle.packet_frame.specs.Frame.{IsFrame}
 use Rattle.packet_frame.specs.Refusals.{fields_of, first_fault}
 use Rattle.packet_frame.specs.declared.fault.FrameFault.{FrameFault}
 use Rattle.packet_frame.specs.declared.frame.Header.{Header}
-use Rattle.packet_frame.proofs.Laws.{reads_frames}
+use Rattle.packet_frame.specs.laws.Laws.{reads_frames}
 use Rattle.packet_set.specs.Packets.{Packets}
 use Rattle.pet_receive.specs.declared.verdict.Verdict.TheVariants.{Kept}
 use Rattle.pet_receive.specs.declared.verdict.LayerSet.{LayerSet}
-use Rattle.std.specs.Prelude.{Result, Ok, Err, OnOk, OnErr, MatchResult, IsErrAnd}
-use Rattle.pet_receive.specs.Arrivals.{Order, ReceiverState, kept_set, numbers_of, layers_of}
-use Rattle.met_packets.specs.Gf16.{HasKeptIn}
+use Rattle.pet_receive.specs.Arrivals.{Order, ReceiverState, HasKept, kept_set, numbers_of, layers_of}
+use Rattle.pet_field.specs.Field.{Coding}
 use Rattle.met_packets.specs.LayersText.{AreRecords, IsArrivalText}
 use Rattle.met_packets.specs.Records.{IsTextAt}
 use Rattle.pet_receive.specs.KeptSet.{KeptSet, IsKeptSet, open_group, group_with, count_kept, count_in}
@@ -60,15 +59,15 @@ one_is true = refl
 one_is false = refl
 
 -- the layers of the set of newly shown layers are these
-set_layers : (layers : List LayerSize) (before now : ℕ) → length layers ≤ 16
+set_layers : (layers : List LayerSize) (before now : ℕ) → length layers ≤ MAX_LAYERS
     → layers_in (layer_set (Rattle.pet_receive.specs.Verdicts.shown_between layers before now)) ≡ Rattle.pet_receive.specs.Verdicts.shown_between layers before now
 set_layers layers before now few =
     let q : ℕ → Bool = λ j. ltb before (count_of layers j) && leb (count_of layers j) now in
     let n = length layers in
     let p : ℕ → Bool = λ j. eqb (bit_at (layer_set (Rattle.pet_receive.specs.Verdicts.shown_between layers before now)).bits j) 1 in
-    let whole : n + (Rattle.std.specs.Prelude.◌-◌ 16 n) ≡ 16 = omega arith in
+    let whole : n + (MAX_LAYERS - n) ≡ MAX_LAYERS = omega arith in
     ap (λ (k : ℕ). filter p (range_with_len 0 k)) (sym whole)
-    ∙ filter_cut p q n (Rattle.std.specs.Prelude.◌-◌ 16 n) (λ j lt. ap (λ (b : ℕ). eqb b 1) (bit_inside q n j lt) ∙ one_is (q j)) (λ j past. ap (λ (b : ℕ). eqb b 1) (bit_outside q n j past))
+    ∙ filter_cut p q n (MAX_LAYERS - n) (λ j lt. ap (λ (b : ℕ). eqb b 1) (bit_inside q n j lt) ∙ one_is (q j)) (λ j past. ap (λ (b : ℕ). eqb b 1) (bit_outside q n j past))
 
 -- what the verdict Kept shows
 pub record KeptShows (set : KeptSet) (d : List ℕ) (shown : LayerSet) : Type 0 where
@@ -109,23 +108,24 @@ kept_shows set d shown sound is =
       layers = ap layers_in set_is ∙ set_layers f.layers (count_kept set f.group) (count_kept set f.group + 1) frame.table.few_layers;
     }
 
--- the text of the records that were put is that of the datagram's arrival
-pub text_at : (r now : ReceiverState ℕ) (arrival group : ℕ) (d text : List ℕ) (shown : LayerSet) → KeptShows (kept_set r) d shown → group ≡ group_in d → kept_set now ≡ after (kept_set r) d
-    → ((order : Order) → HasKeptIn r order → HasKeptIn now (order ++ ((fields_of d).group, (fields_of d).number) ∷ [])) → AreShownText now arrival group (layers_in shown) text → IsTextAt r arrival d text
-unfolding group_in IsArrivalText
-text_at r now arrival group d text shown k group_is set_is more are order held =
-    let S = kept_set r in
-    let f = fields_of d in
-    let next = order ++ (f.group, f.number) ∷ [] in
-    let opened : open_group (kept_set now) group ≡ Some (group_with S f) = ap (λ (x : KeptSet). open_group x group) set_is ∙ ap (open_group (after S d)) group_is ∙ k.opened in
-    let records : AreRecords arrival group (group_with S f) (numbers_of next group) (layers_in shown) text = are next (group_with S f) (more order held) opened in
-    let here : AreRecords arrival f.group (group_with S f) (numbers_of next f.group) (layers_in shown) text = subst (λ (n : ℕ). AreRecords arrival n (group_with S f) (numbers_of next n) (layers_in shown) text) group_is records in
-    subst (λ (b : Bool). AreRecords arrival f.group (group_with S f) (numbers_of (cond b next order) f.group) (cond b (newly_shown S f) []) text) (sym k.kept)
-    (subst (λ (l : List ℕ). AreRecords arrival f.group (group_with S f) (numbers_of next f.group) l text) k.layers here)
+module _ {E : Type 0} (P : E → Type 0) (c : Coding E) where
+  -- the text of the records that were put is that of the datagram's arrival
+  pub text_at : (r now : ReceiverState E) (arrival group : ℕ) (d text : List ℕ) (shown : LayerSet) → KeptShows (kept_set r) d shown → group ≡ group_in d → kept_set now ≡ after (kept_set r) d
+      → ((order : Order) → HasKept P c r order → HasKept P c now (order ++ ((fields_of d).group, (fields_of d).number) ∷ [])) → AreShownText P c now arrival group (layers_in shown) text → IsTextAt P c r arrival d text
+  unfolding group_in IsArrivalText
+  text_at r now arrival group d text shown k group_is set_is more are order held =
+      let S = kept_set r in
+      let f = fields_of d in
+      let next = order ++ (f.group, f.number) ∷ [] in
+      let opened : open_group (kept_set now) group ≡ Some (group_with S f) = ap (λ (x : KeptSet). open_group x group) set_is ∙ ap (open_group (after S d)) group_is ∙ k.opened in
+      let records : AreRecords P c arrival group (group_with S f) (numbers_of next group) (layers_in shown) text = are next (group_with S f) (more order held) opened in
+      let here : AreRecords P c arrival f.group (group_with S f) (numbers_of next f.group) (layers_in shown) text = subst (λ (n : ℕ). AreRecords P c arrival n (group_with S f) (numbers_of next n) (layers_in shown) text) group_is records in
+      subst (λ (b : Bool). AreRecords P c arrival f.group (group_with S f) (numbers_of (cond b next order) f.group) (cond b (newly_shown S f) []) text) (sym k.kept)
+      (subst (λ (l : List ℕ). AreRecords P c arrival f.group (group_with S f) (numbers_of next f.group) l text) k.layers here)
 
-pub nothing_at : (r : ReceiverState ℕ) (arrival : ℕ) (d : List ℕ) → is_kept (verdict_of (kept_set r) d) ≡ false → IsTextAt r arrival d []
-unfolding IsArrivalText
-nothing_at r arrival d out order held =
-    let S = kept_set r in
-    let f = fields_of d in
-    subst (λ (b : Bool). AreRecords arrival f.group (group_with S f) (numbers_of (cond b (order ++ (f.group, f.number) ∷ []) order) f.group) (cond b (newly_shown S f) []) []) (sym out) refl
+  pub nothing_at : (r : ReceiverState E) (arrival : ℕ) (d : List ℕ) → is_kept (verdict_of (kept_set r) d) ≡ false → IsTextAt P c r arrival d []
+  unfolding IsArrivalText
+  nothing_at r arrival d out order held =
+      let S = kept_set r in
+      let f = fields_of d in
+      subst (λ (b : Bool). AreRecords P c arrival f.group (group_with S f) (numbers_of (cond b (order ++ (f.group, f.number) ∷ []) order) f.group) (cond b (newly_shown S f) []) []) (sym out) refl

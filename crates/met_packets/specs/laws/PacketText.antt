@@ -6,6 +6,7 @@ use Rattle.std.proofs.lemmas.Bool.{cases_lt, lt-ltb, le-ltb, le-leb, lt-leb}
 use Rattle.std.proofs.lemmas.Option.{same_Some}
 use Rattle.stripe_plan.specs.Layers.{count_of}
 use Rattle.stripe_plan.specs.declared.layer.LayerSize.{LayerSize}
+use Rattle.pet_field.specs.Field.{Coding}
 use Rattle.packet_frame.specs.Frame.{Fields}
 use Rattle.packet_frame.specs.declared.frame.Header.{Header}
 use Rattle.packet_set.specs.Packets.{Packets, slot_at}
@@ -15,7 +16,7 @@ use Rattle.pet_receive.specs.KeptSet.{KeptSet, open_group, group_with, count_in,
 use Rattle.pet_receive.specs.Verdicts.{newly_shown, shown_between}
 use Rattle.pet_receive.specs.laws.EntryLaws.{weight}
 use Rattle.pet_receive.specs.laws.KeptSetLaws.{count_set}
-use Rattle.met_packets.specs.Gf16.{AgreesWith}
+use Rattle.pet_receive.specs.ShownBytes.{Agrees}
 use Rattle.met_packets.specs.LayersText.{record_text, AreRecords}
 use Rattle.met_packets.specs.Met.{Pair, has_pair, distinct_met, shows, newly_shown_by, group_text}
 use Rattle.met_packets.specs.laws.SumLaws.{count_nothing, count_same, filter_same}
@@ -54,17 +55,17 @@ shows_nothing before now group g same =
     (λ layer. ap (λ (n : ℕ). leb (count_of g.layers layer) n && not (shows before group g layer)) counts ∙ nothing_new (shows before group g layer))
 
 -- the records of layers whose packets agree with the group's message
-pub records_are : (arrival group : ℕ) (g : SessionGroup) (p : Packets) (numbers layers text : List ℕ) → layers_of p ≡ g.layers → IsMessage 2 g.layers g.message → AgreesWith p g.message
-    → AreRecords arrival group p numbers layers text → text ≡ group_text arrival group g layers
-records_are arrival group g p numbers [] text is message agrees records = records
-records_are arrival group g p numbers (layer ∷ layers) text is message agrees records =
+pub records_are : {E : Type 0} (P : E → Type 0) (c : Coding E) (arrival group : ℕ) (g : SessionGroup) (p : Packets) (numbers layers text : List ℕ) → layers_of p ≡ g.layers → IsMessage c.width g.layers g.message
+    → Agrees c p g.message → AreRecords P c arrival group p numbers layers text → text ≡ group_text c.width arrival group g layers
+records_are P c arrival group g p numbers [] text is message agrees records = records
+records_are P c arrival group g p numbers (layer ∷ layers) text is message agrees records =
     let bytes = records.0 in
     let rest = records.1 in
-    let in_p : IsMessage 2 (layers_of p) g.message = subst (λ (l : List LayerSize). IsMessage 2 l g.message) (sym is) message in
-    let bytes_are : bytes ≡ bytes_of_layer 2 g.layers g.message layer = records.3.agreed g.message in_p agrees ∙ ap (λ (l : List LayerSize). bytes_of_layer 2 l g.message layer) is in
+    let in_p : IsMessage c.width (layers_of p) g.message = subst (λ (l : List LayerSize). IsMessage c.width l g.message) (sym is) message in
+    let bytes_are : bytes ≡ bytes_of_layer c.width g.layers g.message layer = records.3.agreed g.message in_p agrees ∙ ap (λ (l : List LayerSize). bytes_of_layer c.width l g.message layer) is in
     records.2
     ∙ ap (λ (b : List ℕ). record_text arrival group layer b ++ rest) bytes_are
-    ∙ ap (λ (t : List ℕ). record_text arrival group layer (bytes_of_layer 2 g.layers g.message layer) ++ t) (records_are arrival group g p numbers layers rest is message agrees records.4)
+    ∙ ap (λ (t : List ℕ). record_text arrival group layer (bytes_of_layer c.width g.layers g.message layer) ++ t) (records_are P c arrival group g p numbers layers rest is message agrees records.4)
 
 module _ (made : SessionGroup → ℕ → List ℕ) (s : Session) (limit : ℕ) (pairs : List Pair) (kept : KeptSet) where
   -- how many packets are kept of any group of the session

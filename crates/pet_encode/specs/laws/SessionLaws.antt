@@ -1,12 +1,13 @@
 -- What callers may conclude about the packets of a session.
-use Rattle.std.proofs.Common.{◌≡◌, ◌↔◌, ℕ, zero, suc, ◌+◌, ◌<◌, ◌≤◌, List, [], ◌∷◌, All, length, refl, sym, ap, subst, ◌∙◌, true≢false, arith, inl, inr}
+use Rattle.std.proofs.Common.{◌≡◌, ◌↔◌, ℕ, zero, suc, ◌+◌, ◌*◌, ◌<◌, ◌≤◌, List, [], ◌∷◌, All, length, refl, sym, ap, subst, ◌∙◌, true≢false, arith, inl, inr}
 use Rattle.std.specs.Prelude.{Contains, slice_get, Some, is_some, unwrap_or}
 use Rattle.std.proofs.lemmas.List.Elements.{Contains-append_cases, Contains-append_left, Contains-append_right}
 use Rattle.std.proofs.lemmas.List.FromFn.{length-map-range_with_len, get_or-map-range_with_len}
 use Rattle.pet_base.specs.declared.limits.TheConstants.{MAX_PACKETS}
-use Rattle.pet_field.specs.Field.{Operations, IsField, ArePoints, AreSpellings}
+use Rattle.pet_field.specs.Field.{Coding, IsCoding}
 use Rattle.packet_frame.specs.Frame.{Fields, IsFrame}
 use Rattle.pet_encode.specs.Encoding.{Encoding, IsGroupOf, frame_of}
+use Rattle.stripe_plan.specs.Layers.{plan_ends}
 use Rattle.pet_encode.specs.laws.PayloadLaws.{length-payload}
 use Rattle.pet_encode.specs.Session.{SessionGroup, Session, IsSession, IsSessionGroup, IsPacketOf, packet_of, packets_of_group, packets_from, packets_of}
 
@@ -18,15 +19,15 @@ at_place P (y ∷ ys) (suc i) x e h =
     (omega (arith, rest.0), rest.1)
 at_place P [] i x e h = absurd (true≢false (sym (ap is_some e)))
 
-module _ {E : Type 0} (o : Operations E) (spelt : List ℕ → E) (spelling : E → List ℕ) (width : ℕ) (point_of : ℕ → E) (s : Session) where
+module _ {E : Type 0} (c : Coding E) (s : Session) where
   abbrev packet : ℕ → SessionGroup → ℕ → Fields
-  packet = packet_of o spelt spelling width point_of s
+  packet = packet_of c s
 
   abbrev of_group : ℕ → SessionGroup → List Fields
-  of_group = packets_of_group o spelt spelling width point_of s
+  of_group = packets_of_group c s
 
   abbrev from_group : ℕ → List SessionGroup → List Fields
-  from_group = packets_from o spelt spelling width point_of s
+  from_group = packets_from c s
 
   -- it is a packet of the group `first + place`
   record IsFrom (first : ℕ) (groups : List SessionGroup) (f : Fields) : Type 0 where
@@ -38,18 +39,18 @@ module _ {E : Type 0} (o : Operations E) (spelt : List ℕ → E) (spelling : E 
     made : f ≡ packet (first + place) source number
 
   in_group : (group : ℕ) (g : SessionGroup) (f : Fields) → Contains (of_group group g) f → (number : ℕ) × (number < g.packets) × (f ≡ packet group g number)
-  in_group group g f c =
-      let below : c.0 < g.packets = omega (arith, c.1, length-map-range_with_len (packet group g) 0 g.packets) in
-      (c.0, below, sym c.2 ∙ get_or-map-range_with_len (packet group g) 0 g.packets c.0 c.0 f below (omega arith))
+  in_group group g f h =
+      let below : h.0 < g.packets = omega (arith, h.1, length-map-range_with_len (packet group g) 0 g.packets) in
+      (h.0, below, sym h.2 ∙ get_or-map-range_with_len (packet group g) 0 g.packets h.0 h.0 f below (omega arith))
 
   has_number : (group : ℕ) (g : SessionGroup) (number : ℕ) → number < g.packets → Contains (of_group group g) (packet group g number)
   has_number group g number below =
       (number, omega (arith, length-map-range_with_len (packet group g) 0 g.packets), get_or-map-range_with_len (packet group g) 0 g.packets number number (packet group g number) below (omega arith))
 
   in_groups : (first : ℕ) (groups : List SessionGroup) (f : Fields) → Contains (from_group first groups) f → IsFrom first groups f
-  in_groups first [] f c = absurd (omega (arith, c.1))
-  in_groups first (g ∷ groups) f c =
-      elim (Contains-append_cases (of_group first g) (from_group (first + 1) groups) f c) [
+  in_groups first [] f h = absurd (omega (arith, h.1))
+  in_groups first (g ∷ groups) f h =
+      elim (Contains-append_cases (of_group first g) (from_group (first + 1) groups) f h) [
         | inl here ↦ (
             let w = in_group first g f here in
             let at : first ≡ first + 0 = omega arith in
@@ -63,20 +64,20 @@ module _ {E : Type 0} (o : Operations E) (spelt : List ℕ → E) (spelling : E 
       ]
 
   has_packet : (first : ℕ) (groups : List SessionGroup) (place : ℕ) (g : SessionGroup) (f : Fields) → slice_get groups place ≡ Some g → Contains (of_group (first + place) g) f → Contains (from_group first groups) f
-  has_packet first [] place g f there c = absurd (true≢false (sym (ap is_some there)))
-  has_packet first (h ∷ groups) zero g f there c =
+  has_packet first [] place g f there k = absurd (true≢false (sym (ap is_some there)))
+  has_packet first (h ∷ groups) zero g f there p =
       let at : first + 0 ≡ first = omega arith in
       let same : h ≡ g = ap (λ o. unwrap_or o h) there in
-      Contains-append_left (of_group first h) (from_group (first + 1) groups) f (subst (λ k. Contains (of_group k h) f) at (subst (λ x. Contains (of_group (first + 0) x) f) (sym same) c))
-  has_packet first (h ∷ groups) (suc place) g f there c =
+      Contains-append_left (of_group first h) (from_group (first + 1) groups) f (subst (λ k. Contains (of_group k h) f) at (subst (λ x. Contains (of_group (first + 0) x) f) (sym same) p))
+  has_packet first (h ∷ groups) (suc place) g f there p =
       let at : first + suc place ≡ first + 1 + place = omega arith in
-      Contains-append_right (of_group first h) (from_group (first + 1) groups) f (has_packet (first + 1) groups place g f there (subst (λ k. Contains (of_group k g) f) at c))
+      Contains-append_right (of_group first h) (from_group (first + 1) groups) f (has_packet (first + 1) groups place g f there (subst (λ k. Contains (of_group k g) f) at p))
 
   -- the list has exactly the packets of the session
-  pub packets_are : (f : Fields) → Contains (packets_of o spelt spelling width point_of s) f ↔ IsPacketOf o spelt spelling width point_of s f
+  pub packets_are : (f : Fields) → Contains (packets_of c s) f ↔ IsPacketOf c s f
   packets_are f = (
-    λ c.
-        let w = in_groups 0 s.groups f c in
+    λ h.
+        let w = in_groups 0 s.groups f h in
         let at : 0 + w.place ≡ w.place = omega arith in
         let made : f ≡ packet w.place w.source w.number = w.made ∙ ap (λ k. packet k w.source w.number) at in
         let group : w.place ≡ f.group = sym (ap (λ (h : Fields). h.group) made) in
@@ -96,7 +97,7 @@ module _ {E : Type 0} (o : Operations E) (spelt : List ℕ → E) (spelling : E 
 
   -- what an encoder of one of the groups makes is a packet of the session
   pub frames_are_packets : (e : Encoding) (number : ℕ) → IsGroupOf s e → number < e.header.table.packets
-      → IsPacketOf o spelt spelling width point_of s (frame_of o spelt spelling width point_of e number)
+      → IsPacketOf c s (frame_of c e number)
   frames_are_packets e number g below = record {
     source = record { packets = e.header.table.packets; layers = e.header.table.layers; message = e.message };
     group = g.source;
@@ -105,13 +106,12 @@ module _ {E : Type 0} (o : Operations E) (spelt : List ℕ → E) (spelling : E 
   }
 
 -- the packets of a session are frames
-pub packets_are_frames : {E : Type 0} (P : E → Type 0) (o : Operations E) (spelt : List ℕ → E) (spelling : E → List ℕ) (count : ℕ) (point_of : ℕ → E)
-    → IsField P o → AreSpellings P 2 spelt spelling → ArePoints P count point_of → MAX_PACKETS ≤ count
-    → (s : Session) (f : Fields) → IsSession 2 s → IsPacketOf o spelt spelling 2 point_of s f → IsFrame f
-packets_are_frames P o spelt spelling count point_of field spellings points enough s f session p =
-    let at = at_place (IsSessionGroup 2) s.groups f.group p.source p.group session.groups in
+pub packets_are_frames : {E : Type 0} (P : E → Type 0) (count : ℕ) (c : Coding E) → IsCoding P count c → c.width ≡ 2 → MAX_PACKETS ≤ count
+    → (s : Session) (f : Fields) → IsSession c.width s → IsPacketOf c s f → IsFrame f
+packets_are_frames P count c laws two enough s f session p =
+    let at = at_place (IsSessionGroup c.width) s.groups f.group p.source p.group session.groups in
     let table = at.1.table in
-    let x = points.point_is f.number (omega (arith, p.number, table.few_packets)) in
+    let x = laws.points.point_is f.number (omega (arith, p.number, table.few_packets)) in
     subst IsFrame (sym p.made) (record {
       session = session.number;
       some_groups = session.some;
@@ -119,5 +119,5 @@ packets_are_frames P o spelt spelling count point_of field spellings points enou
       group = at.0;
       number = p.number;
       table = table;
-      payload = length-payload P o field 2 spelt spelling spellings p.source.layers p.source.message (point_of f.number) at.1.message.whole at.1.message.bytes x;
+      payload = length-payload P count c laws p.source.layers p.source.message (c.point_of f.number) at.1.message.whole at.1.message.bytes x ∙ ap (λ k. k * length (plan_ends p.source.layers)) two;
     })

@@ -1,16 +1,17 @@
--- The field of 65,536 elements is lawful: its modulus is irreducible, since none of the 510 polynomials of degree 1 to 8
--- divides it.
+-- The field of 65,536 elements codes lawfully: it is a commutative field, since its modulus is irreducible (none of the 510
+-- polynomials of degree 1 to 8 divides it), different numbers have different points, and reading and writing two bytes
+-- invert each other.
 use Rattle.std.proofs.Common.{◌≡◌, ℕ, zero, suc, ◌<◌, inl, inr, true, List, length, get_or, All, eqb, refl, arith}
 use Rattle.std.proofs.lemmas.Bool.{cases_lt, eqb-true, eq-eqb}
 use Rattle.std.proofs.lemmas.Nat.{be_bytes_2, from_be_bytes-to_be_bytes_2}
 use Rattle.std.proofs.lemmas.List.{get_or_past}
 use Rattle.std.specs.Int.{w16, to_be_bytes, from_be_bytes}
-use Rattle.pet_field.specs.Field.{IsField, TellsApart, ArePoints, AreSpellings}
+use Rattle.pet_field.specs.Field.{IsField, TellsApart, ArePoints, AreSpellings, IsCoding}
 use Rattle.pet_field.specs.Carryless.{remainder_of_bits, IsIrreducible}
 use Rattle.pet_field.specs.BinaryField.{IsModulus, IsBinaryField}
 use Rattle.pet_field.specs.laws.Irreducible.{no_factor, no_factor_to, irreducible}
 use Rattle.pet_field.specs.laws.BinaryFieldLaws.{is_field, is_binary}
-use Rattle.pet_field.specs.Gf16.{gf16}
+use Rattle.pet_field.specs.Gf16.{gf16, gf16_coding}
 
 pub gf16_modulus : IsModulus 16 0x1100B
 gf16_modulus = record { some = omega arith; few = omega arith; degree = (omega arith, omega arith) }
@@ -22,8 +23,8 @@ checked = refl
 pub gf16_irreducible : IsIrreducible 16 0x1100B
 gf16_irreducible = irreducible 16 0x1100B gf16_modulus.degree 8 (omega arith) checked
 
-pub gf16_lawful : IsField (λ a. a < 65536) gf16
-gf16_lawful = is_field 16 0x1100B gf16_modulus.some gf16_modulus.degree gf16_irreducible
+pub gf16_field : IsField (λ a. a < 65536) gf16
+gf16_field = is_field 16 0x1100B gf16_modulus.some gf16_modulus.degree gf16_irreducible
 
 pub gf16_is_binary : IsBinaryField 16 0x1100B (λ a. a < 65536) gf16 (λ i. i)
 gf16_is_binary = is_binary 16 0x1100B gf16_modulus.some gf16_modulus.degree
@@ -60,3 +61,8 @@ gf16_spellings =
       spelling_bytes = λ a h. spelling_below a;
       read_back = from_be_bytes-to_be_bytes_2;
     }
+
+-- ---- the coding
+
+pub gf16_lawful : IsCoding (λ a. a < 65536) 65536 gf16_coding
+gf16_lawful = record { field = gf16_field; points = gf16_points; spellings = gf16_spellings }

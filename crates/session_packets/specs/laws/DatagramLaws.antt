@@ -1,17 +1,17 @@
 -- Laws of the entries of packets, packet by packet and group by group, for the proofs of callers.
 use Rattle.std.proofs.Common.{◌≡◌, ℕ, zero, suc, ◌+◌, ◌<◌, ◌≤◌, take, drop, List, [], ◌∷◌, ◌++◌, length, append_assoc, refl, sym, ap, subst, ◌∙◌, arith, true≢false}
 use Rattle.std.specs.Prelude.{slice_get, Some, is_some, unwrap_or, Result, Ok, Err, OnOk}
-use Rattle.std.specs.Int.{w16, from_be_bytes, to_be_bytes}
+use Rattle.std.specs.Int.{w16, to_be_bytes}
 use Rattle.std.specs.List.{flat_map, range_with_len}
 use Rattle.std.proofs.lemmas.List.{append-nil, take-append-drop, take_all, map-id}
 use Rattle.std.proofs.lemmas.List.Folds.{flat_map-map}
 use Rattle.std.proofs.lemmas.List.FromFn.{map-range_with_len_more, take-map-range_with_len}
 use Rattle.std.proofs.lemmas.Grind.{flat_map-append}
 use Rattle.pet_base.specs.Seen.{Seen}
-use Rattle.pet_field.specs.Gf16.{gf16}
+use Rattle.pet_field.specs.Gf16.{gf16_coding}
 use Rattle.stripe_plan.specs.Sizes.{datagram_length_of}
 use Rattle.packet_frame.specs.Frame.{Fields, IsFrame, text}
-use Rattle.packet_frame.proofs.Laws.{texts_have_length}
+use Rattle.packet_frame.specs.laws.Laws.{texts_have_length}
 use Rattle.pet_encode.specs.Encoding.{Encoding, IsGroupOf}
 use Rattle.pet_encode.specs.Session.{Session, SessionGroup, packet_of, packets_of_group, packets_from}
 use Rattle.session_packets.specs.Packets.{entry_text, entries_text, packet_in, packet_entry, first_entries, group_entries, datagrams_text, first_groups_text, AreEncoders, GroupsMakeDatagrams}
@@ -60,13 +60,13 @@ part_packet e n m first before after lt same p part =
     (subst (λ (t : List ℕ). PutsPart t first after) (sym (entries_more e n)) (part_after (first_entries e n) (packet_entry e n) first before after same p part))
 
 abbrev packet : Session → ℕ → SessionGroup → ℕ → Fields
-packet = packet_of gf16 (from_be_bytes w16) (to_be_bytes w16) 2 (λ i. i)
+packet = packet_of gf16_coding
 
 abbrev of_group : Session → ℕ → SessionGroup → List Fields
-of_group = packets_of_group gf16 (from_be_bytes w16) (to_be_bytes w16) 2 (λ i. i)
+of_group = packets_of_group gf16_coding
 
 abbrev from_group : Session → ℕ → List SessionGroup → List Fields
-from_group = packets_from gf16 (from_be_bytes w16) (to_be_bytes w16) 2 (λ i. i)
+from_group = packets_from gf16_coding
 
 abbrev source_of : Encoding → SessionGroup
 source_of e = record { packets = e.header.table.packets; layers = e.header.table.layers; message = e.message }

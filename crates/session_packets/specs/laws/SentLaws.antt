@@ -10,10 +10,10 @@ use Rattle.std.proofs.lemmas.List.Elements.{All-map, All-contains_itself}
 use Rattle.std.proofs.lemmas.Nat.{from_be_bytes-to_be_bytes_2}
 use Rattle.pet_base.specs.Entries.{whole_or_damaged, first_entry, datagrams}
 use Rattle.pet_base.specs.laws.EntriesLaws.{datagrams_first, datagrams_none}
-use Rattle.pet_field.specs.Gf16.{gf16}
-use Rattle.pet_field.specs.laws.Gf16Laws.{gf16_lawful, gf16_points, gf16_spellings}
+use Rattle.pet_field.specs.Gf16.{gf16_coding}
+use Rattle.pet_field.specs.laws.Gf16Laws.{gf16_lawful}
 use Rattle.packet_frame.specs.Frame.{Fields, IsFrame, text}
-use Rattle.packet_frame.proofs.Laws.{texts_are_read, texts_have_length}
+use Rattle.packet_frame.specs.laws.Laws.{texts_are_read, texts_have_length}
 use Rattle.pet_encode.specs.Session.{Session, IsSession}
 use Rattle.pet_encode.specs.laws.SessionLaws.{packets_are, packets_are_frames}
 use Rattle.session_packets.specs.Packets.{entry_text, entries_text, session_packets, datagrams_text, IsItsPacket, IsItsDatagram}
@@ -51,11 +51,11 @@ texts_read (f ∷ packets) are =
 
 -- each packet of a session's list is one of its packets, and a frame
 each_packet : (s : Session) (f : Fields) → Contains (session_packets s) f → IsItsPacket s f
-each_packet s f c = (packets_are gf16 (from_be_bytes w16) (to_be_bytes w16) 2 (λ i. i) s f).0 c
+each_packet s f c = (packets_are gf16_coding s f).0 c
 
 each_frame : (s : Session) → IsSession 2 s → (f : Fields) → IsItsPacket s f → IsFrame f
 each_frame s session f p =
-    packets_are_frames (λ a. a < 65536) gf16 (from_be_bytes w16) (to_be_bytes w16) 65536 (λ i. i) gf16_lawful gf16_spellings gf16_points (omega arith) s f session p
+    packets_are_frames (λ a. a < 65536) 65536 gf16_coding gf16_lawful refl (omega arith) s f session p
 
 each_of : {X : Type 0} (P Q : X → Type 0) (xs : List X) → ((x : X) → P x → Q x) → All P xs → All Q xs
 each_of P Q xs h all k d lt = h _ (all k d lt)

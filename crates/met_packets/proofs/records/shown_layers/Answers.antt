@@ -8,7 +8,7 @@ use Rattle.met_packets.proofs.RecordByRecord.{layers_more, layers_same}
 use Rattle.met_packets.proofs.records.shown_layers.Goals as goal
 
 pub loop-layer-preserved-then-not-has : goal.loop-layer-preserved-then-not-has
-loop-layer-preserved-then-not-has c =
+loop-layer-preserved-then-not-has g c =
     let has : c.has.result ≡ false = search rules in
     record {
       layers = layers_same c.args.shown.bits c.loop-layer.layer c.loop-layer.layers.items c.loop-layer.invariant.layers (sym c.has.ensures ∙ has);
@@ -17,7 +17,7 @@ loop-layer-preserved-then-not-has c =
     }
 
 pub loop-layer-preserved : goal.loop-layer-preserved
-loop-layer-preserved c =
+loop-layer-preserved g c =
     let has : c.has.result ≡ true = search rules in
     let shown = c.loop-layer.layers.items in
     let one : ShownLayer = record { layer = c.loop-layer.layer; bytes = c.shown_layer-bytes.result } in
@@ -26,7 +26,7 @@ loop-layer-preserved c =
       layers = ap (map (λ (x : ShownLayer). x.layer)) items ∙ layers_more c.args.shown.bits c.loop-layer.layer shown one c.loop-layer.invariant.layers (sym c.has.ensures ∙ has) refl;
       bytes =
           λ order p held opened.
-          subst (λ (l : List ShownLayer). All (λ e. IsLayer p (numbers_of order c.args.group) e.layer e.bytes.now) l) (sym items)
-          (All-push (λ (e : ShownLayer). IsLayer p (numbers_of order c.args.group) e.layer e.bytes.now) shown one (c.loop-layer.invariant.bytes order p held opened) (c.shown_layer-bytes.ensures order p held opened));
+          subst (λ (l : List ShownLayer). All (λ e. IsLayer g.F.Field.is_element g.F.Field.coding p (numbers_of order c.args.group) e.layer e.bytes.now) l) (sym items)
+          (All-push (λ (e : ShownLayer). IsLayer g.F.Field.is_element g.F.Field.coding p (numbers_of order c.args.group) e.layer e.bytes.now) shown one (c.loop-layer.invariant.bytes order p held opened) (c.shown_layer-bytes.ensures order p held opened));
       few = omega (arith, c.loop-layer.invariant.few, ap (λ (l : List ShownLayer). length l) items, length_push shown one);
     }

@@ -20,14 +20,14 @@ returns-then-contains_key-clause-grown g c =
     let f = view c.args.frame.now in
     let open_one = is_some_of (lookup (is_at (nat_cmp f.group)) es) (sym c.contains_key.ensures ∙ c.if-contains_key.true) in
     let kept = c.keep_in.ensures.kept open_one.0 open_one.1 in
-    grown_open F.is_element F.ops F.spelt F.WIDTH F.point_of es f open_one.0 c.keep_in.new.groups.entries open_one.1
+    grown_open F.is_element F.coding es f open_one.0 c.keep_in.new.groups.entries open_one.1
     (record { state = kept.0; rising = c.keep_in.ensures.ordered; entries = kept.1; packets = kept.2; holds = kept.3 })
 
 pub keep_in-requires-2-clause-ready : goal.keep_in-requires-2-clause-ready
 keep_in-requires-2-clause-ready g c =
     let F = g.F.Field in
     let made = c.in_ok-open_group.ensures.opened in
-    ready_new F.is_element F.ops F.spelt F.WIDTH F.point_of c.args.groups.now.entries (view c.args.frame.now) made.0 c.open_group.new.groups.entries made.1 made.2 made.3
+    ready_new F.is_element F.coding c.args.groups.now.entries (view c.args.frame.now) made.0 c.open_group.new.groups.entries made.1 made.2 made.3
 
 pub keep_in-requires-2-clause-open : goal.keep_in-requires-2-clause-open
 keep_in-requires-2-clause-open g c =
@@ -43,7 +43,7 @@ returns-clause-grown g c =
     let none = none_from (lookup (is_at (nat_cmp f.group)) es) (sym c.contains_key.ensures ∙ c.if-contains_key.false) in
     let found = ap (lookup (is_at (nat_cmp f.group))) made.1 ∙ lookup_here es f.group made.0 in
     let kept = c.keep_in-2.ensures.kept made.0 found in
-    grown_new F.is_element F.ops F.spelt F.WIDTH F.point_of es f made.0 c.open_group.new.groups.entries c.keep_in-2.new.groups.entries none made.1 made.2 made.3
+    grown_new F.is_element F.coding es f made.0 c.open_group.new.groups.entries c.keep_in-2.new.groups.entries none made.1 made.2 made.3
     (record { state = kept.0; rising = c.keep_in-2.ensures.ordered; entries = kept.1; packets = kept.2; holds = kept.3 })
 
 pub returns-clause-cost : goal.returns-clause-cost

@@ -1,7 +1,6 @@
 use Rattle.std.proofs.Common.{◌≡◌, ℕ, ◌-◌, ◌<◌, [], length, drop, sym, ap, ◌∙◌, arith, subst}
 use Rattle.std.proofs.lemmas.List.{length-drop}
 use Rattle.std.proofs.lemmas.List.Elements.{All-from_get_or}
-use Rattle.pet_field.specs.Field.{AreSpellings}
 use Rattle.stripe_plan.specs.Layers.{plan_stripes, stripes_from}
 use Rattle.pet_receive.proofs.Cuts.{next_from, sizes_are, length-plan}
 use Rattle.pet_receive.proofs.Known.{IsStep, step_known, step_others}
@@ -33,8 +32,8 @@ loop-at-preserved g c =
     let F = g.F.Field in
     let layers = c.args.table.now.layers in
     let next = next_from (plan_stripes layers) c.loop-at.stripe (0, 0) (c.loop-at.at, c.next_start-end.result - c.loop-at.at) (stripes_from layers c.next_start-end.result) (sym c.loop-at.invariant.rest ∙ c.next_start-end.ensures.next) in
-    let laws = subst (λ w. AreSpellings F.is_element w F.spelt F.spelling) c.requires.width g.met.F.Field.spellings in
-    let step : IsStep F.is_element F.spelling layers c.args.progress.now c.loop-at.message c.write_if_known.new.message c.loop-at.stripe c.loop-at.at c.next_start-end.result = record {
+    let laws = g.met.F.Field.lawful.spellings in
+    let step : IsStep F.is_element F.coding layers c.args.progress.now c.loop-at.message c.write_if_known.new.message c.loop-at.stripe c.loop-at.at c.next_start-end.result = record {
       lengths = c.requires.lengths;
       inside = next.inside;
       here = next.here;
@@ -49,8 +48,8 @@ loop-at-preserved g c =
       rest = sym next.rest;
       room = omega arith;
       bytes = All-from_get_or (λ b. b < 256) c.write_if_known.new.message 0 (λ k l. omega (arith, c.type_inv.message k));
-      known = step_known F.is_element F.spelt F.spelling laws layers c.args.progress.now c.loop-at.message c.write_if_known.new.message c.loop-at.stripe c.loop-at.at c.next_start-end.result step c.loop-at.invariant.known;
-      others = step_others F.is_element F.spelt F.spelling laws layers c.args.progress.now c.loop-at.message c.write_if_known.new.message c.loop-at.stripe c.loop-at.at c.next_start-end.result step c.args.message.now c.loop-at.invariant.others;
+      known = step_known F.is_element F.coding laws layers c.args.progress.now c.loop-at.message c.write_if_known.new.message c.loop-at.stripe c.loop-at.at c.next_start-end.result step c.loop-at.invariant.known;
+      others = step_others F.is_element F.coding laws layers c.args.progress.now c.loop-at.message c.write_if_known.new.message c.loop-at.stripe c.loop-at.at c.next_start-end.result step c.args.message.now c.loop-at.invariant.others;
     }
 
 pub returns-clause-known : goal.returns-clause-known

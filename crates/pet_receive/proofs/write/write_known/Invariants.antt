@@ -11,9 +11,9 @@ invariant-loop-at g l = record {
   room : length l.message ≡ length l.initial.message;
   bytes : All (λ b. b < 256) l.message;
   known : (j : ℕ) → j < l.stripe → length (stripe_of l.progress j) ≡ l.progress.met
-      → slice_index_or (stripes_in g.F.Field.spelt 2 l.table.layers l.message) j [] ≡ stripe_of l.progress j;
+      → slice_index_or (stripes_in g.F.Field.coding l.table.layers l.message) j [] ≡ stripe_of l.progress j;
   others : (j : ℕ) → j < length l.progress.stripes → length (stripe_of l.progress j) ≢ l.progress.met
-      → slice_index_or (stripes_in g.F.Field.spelt 2 l.table.layers l.message) j [] ≡ slice_index_or (stripes_in g.F.Field.spelt 2 l.table.layers l.initial.message) j [];
+      → slice_index_or (stripes_in g.F.Field.coding l.table.layers l.message) j [] ≡ slice_index_or (stripes_in g.F.Field.coding l.table.layers l.initial.message) j [];
 }
 
 abbrev pub decreases-loop-at : goal.decreases-loop-at

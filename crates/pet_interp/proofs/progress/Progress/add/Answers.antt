@@ -19,14 +19,14 @@ advance-requires-clause-width g c =
     let is : length (pieces 0 c.self.inside.ends.items c.self.inside.places.items) ≡ length c.args.self.now.stripes = ap (λ (v : Held g.row.F-Elem.Denot). length v.stripes) c.self.view_is in
     let n : length c.args.self.now.stripes ≡ length c.deref.result.now =
     sym is ∙ length-pieces 0 c.self.inside.ends.items c.self.inside.places.items ∙ sym (ap length c.deref.ensures.value) in
-    c.requires.width ∙ ap (λ k. k * g.F.Field.WIDTH) n
+    c.requires.width ∙ ap (λ k. k * g.F.Field.coding.width) n
 
 pub advance-requires-clause-weight : goal.advance-requires-clause-weight
 advance-requires-clause-weight g c =
     let F = g.F.Field in
     let s = c.requires.stands in
-    let st = subst (λ h. StandsFor F.is_element F.ops h s.0) (sym c.self.view_is) s.1.0 in
-    rw c.deref_mut-2.ensures.value (weight_of F.is_element F.ops g.met.F.Field.lawful _ s.0 st c.args.x c.requires.point s.1.1 _ c.self.invariant.longest)
+    let st = subst (λ h. StandsFor F.is_element F.coding.ops h s.0) (sym c.self.view_is) s.1.0 in
+    rw c.deref_mut-2.ensures.value (weight_of F.is_element F.coding.ops g.met.F.Field.lawful.field _ s.0 st c.args.x c.requires.point s.1.1 _ c.self.invariant.longest)
 
 pub invariant_of-self : goal.invariant_of-self
 invariant_of-self g c =
@@ -71,15 +71,15 @@ returns-clause-stands g c points st ne =
     let n = length c.args.self.now.stripes in
     let is : length (pieces 0 ends places) ≡ n = ap (λ (v : Held g.row.F-Elem.Denot). length v.stripes) c.self.view_is in
     let count : n ≡ length ends = sym is ∙ length-pieces 0 ends places in
-    let ys = words F.spelt F.WIDTH n c.args.values.now in
+    let ys = words F.coding.spelt F.coding.width n c.args.values.now in
     let bytes = All-from_get_or (λ b. b < 256) c.args.values.now 0 (λ k l. omega (arith, c.type_inv.values k)) in
-    let moved : met < length product → final_product ≡ linear_product F.ops c.args.x (take met product) ++ drop (met + 1) product =
-    moved_along F.ops met c.args.x c.deref_mut-2.result.now product c.advance.new.product final_product c.deref_mut-2.ensures.value kept2 c.advance.ensures.product in
-    stands_added F.is_element F.ops g.met.F.Field.lawful held points (subst (λ h. StandsFor F.is_element F.ops h points) (sym c.self.view_is) st) c.args.x c.requires.point ne ys
-    (length-words F.spelt F.WIDTH n c.args.values.now ∙ sym is)
-    (words_are F.is_element F.WIDTH F.spelt F.spelling g.met.F.Field.spellings n c.args.values.now c.requires.width bytes) after (length product) c.self.invariant.longest refl
-    (lifted_along F.is_element F.ops met F.WIDTH n F.spelt c.args.values.now c.args.x c.deref.result.now ends c.deref_mut.result.now places c.deref_mut-2.result.now product
+    let moved : met < length product → final_product ≡ linear_product F.coding.ops c.args.x (take met product) ++ drop (met + 1) product =
+    moved_along F.coding.ops met c.args.x c.deref_mut-2.result.now product c.advance.new.product final_product c.deref_mut-2.ensures.value kept2 c.advance.ensures.product in
+    stands_added F.is_element F.coding.ops g.met.F.Field.lawful.field held points (subst (λ h. StandsFor F.is_element F.coding.ops h points) (sym c.self.view_is) st) c.args.x c.requires.point ne ys
+    (length-words F.coding.spelt F.coding.width n c.args.values.now ∙ sym is)
+    (words_are F.is_element F.coding.width F.coding.spelt F.coding.spelling g.met.F.Field.lawful.spellings n c.args.values.now c.requires.width bytes) after (length product) c.self.invariant.longest refl
+    (lifted_along F.is_element F.coding.ops met F.coding.width n F.coding.spelt c.args.values.now c.args.x c.deref.result.now ends c.deref_mut.result.now places c.deref_mut-2.result.now product
     c.advance.new.places final_places c.deref.ensures.value c.deref_mut.ensures.value c.deref_mut-2.ensures.value kept1 count c.advance.ensures.lifted)
-    (λ l. linear_front F.ops c.args.x product final_product met l (moved l))
+    (λ l. linear_front F.coding.ops c.args.x product final_product met l (moved l))
     (same_along met ends c.deref_mut.result.now places c.deref_mut-2.result.now product c.advance.new.places final_places
     c.deref_mut.ensures.value c.deref_mut-2.ensures.value kept1 (λ l. (c.advance.ensures.same l).0))

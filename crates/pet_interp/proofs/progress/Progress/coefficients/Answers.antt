@@ -70,11 +70,11 @@ pub returns-clause-only : goal.returns-clause-only
 returns-clause-only g c points st =
     let F = g.F.Field in
     let e = returns-clause-value g c in
-    subst (λ t. IsOnlyThrough F.is_element F.ops (column F.ops c.args.stripe (take (length t) points)) t) (sym e)
+    subst (λ t. IsOnlyThrough F.is_element F.coding.ops (column F.coding.ops c.args.stripe (take (length t) points)) t) (sym e)
     (st.others c.args.stripe c.requires.stripe (omega (arith, c.requires.enough, st.met)))
 
 pub returns-clause-common : goal.returns-clause-common
 returns-clause-common g c points common st k h lie =
     let F = g.F.Field in
     let e = returns-clause-value g c in
-    e ∙ stripe_is_common F.is_element F.ops c.args.self.now points c.args.stripe common st c.requires.stripe c.requires.enough (k ∙ ap length e) h lie
+    e ∙ stripe_is_common F.is_element F.coding.ops c.args.self.now points c.args.stripe common st c.requires.stripe c.requires.enough (k ∙ ap length e) h lie

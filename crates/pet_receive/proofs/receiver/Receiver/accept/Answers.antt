@@ -46,8 +46,8 @@ returns-in-Ok-clause-memory g c =
 pub returns-in-Ok-clause-order : goal.returns-in-Ok-clause-order
 returns-in-Ok-clause-order g c =
     let F = g.F.Field in
-    subst (λ (f : Fields). IfOk c.take.result (λ v. is_kept v ≡ true → (order : Order) → HasKept F.is_element F.ops F.spelt F.WIDTH F.point_of c.args.self.now order
-    → HasKept F.is_element F.ops F.spelt F.WIDTH F.point_of c.take.new.self (order ++ ((f.group, f.number) ∷ [])))) c.in-Ok.ensures.fields c.take.ensures.order
+    subst (λ (f : Fields). IfOk c.take.result (λ v. is_kept v ≡ true → (order : Order) → HasKept F.is_element F.coding c.args.self.now order
+    → HasKept F.is_element F.coding c.take.new.self (order ++ ((f.group, f.number) ∷ [])))) c.in-Ok.ensures.fields c.take.ensures.order
 
 pub returns-in-Ok-clause-cost : goal.returns-in-Ok-clause-cost
 returns-in-Ok-clause-cost g c =

@@ -21,7 +21,7 @@ keep_frame-requires-clause-ready g c =
     let r : ReceiverState g.row.F-Elem.Denot = record { session = c.self.inside.session; limit = c.self.inside.limit; groups = c.self.inside.groups.entries } in
     let f = view c.args.frame.now in
     let k = keepable_at r c.args.self.now f c.self.view_is c.requires.kept in
-    is_ready F.is_element F.ops F.spelt F.WIDTH F.point_of F.COUNT r c.self.inside.told c.self.inside.cost c.self.invariant f c.requires.frame k
+    is_ready F.is_element F.COUNT F.coding r c.self.inside.told c.self.inside.cost c.self.invariant f c.requires.frame k
 
 pub returns-in_err-more-clause-err : goal.returns-in_err-more-clause-err
 returns-in_err-more-clause-err g c =
@@ -44,12 +44,12 @@ abbrev before : (g : Over) → In_ok-more g → ReceiverState g.row.F-Elem.Denot
 before g c = record { session = c.self.inside.session; limit = c.self.inside.limit; groups = c.self.inside.groups.entries }
 
 after : (g : Over) (c : In_ok-more g)
-    → HasKeptOne g.F.Field.is_element g.F.Field.ops g.F.Field.spelt g.F.Field.WIDTH g.F.Field.point_of g.F.Field.COUNT (before g c) c.self.inside.cost (view c.args.frame.now) c.keep_frame.new.groups.entries
+    → HasKeptOne g.F.Field.is_element g.F.Field.COUNT g.F.Field.coding (before g c) c.self.inside.cost (view c.args.frame.now) c.keep_frame.new.groups.entries
 after g c =
     let F = g.F.Field in
     let f = view c.args.frame.now in
     let k = keepable_at (before g c) c.args.self.now f c.self.view_is c.requires.kept in
-    kept_one F.is_element F.ops F.spelt F.WIDTH F.point_of F.COUNT (before g c) c.self.inside.told c.self.inside.cost c.self.invariant f c.requires.frame k c.keep_frame.new.groups.entries c.in_ok-more.ensures.grown
+    kept_one F.is_element F.COUNT F.coding (before g c) c.self.inside.told c.self.inside.cost c.self.invariant f c.requires.frame k c.keep_frame.new.groups.entries c.in_ok-more.ensures.grown
 
 pub overflow_add-self : goal.overflow_add-self
 overflow_add-self g c = let again = (after g c).again in omega (arith, again.cost_is, again.set.within, c.in_ok-more.ensures.more, c.self.invariant.fits)
@@ -57,7 +57,7 @@ overflow_add-self g c = let again = (after g c).again in omega (arith, again.cos
 pub invariant_of-self-2 : goal.invariant_of-self-2
 invariant_of-self-2 g c =
     let F = g.F.Field in
-    subst (λ n. IsReceiver F.is_element F.ops F.spelt F.WIDTH F.point_of F.COUNT (record { session = c.self.inside.session; limit = c.self.inside.limit; groups = c.keep_frame.new.groups.entries }) (Some c.args.frame.now.header.groups) (c.self.inside.cost + n))
+    subst (λ n. IsReceiver F.is_element F.COUNT F.coding (record { session = c.self.inside.session; limit = c.self.inside.limit; groups = c.keep_frame.new.groups.entries }) (Some c.args.frame.now.header.groups) (c.self.inside.cost + n))
     (sym c.in_ok-more.ensures.more) (after g (goal.at.invariant_of-self-2 g c).In_ok-more).again
 
 pub returns-clause-kept : goal.returns-clause-kept
@@ -68,7 +68,7 @@ pub returns-clause-order : goal.returns-clause-order
 returns-clause-order g c order kept =
     let F = g.F.Field in
     (after g (goal.at.returns-clause-order g c).In_ok-more).order order
-    (subst (λ (v : ReceiverState g.row.F-Elem.Denot). HasKept F.is_element F.ops F.spelt F.WIDTH F.point_of v order) (sym c.self.view_is) kept)
+    (subst (λ (v : ReceiverState g.row.F-Elem.Denot). HasKept F.is_element F.coding v order) (sym c.self.view_is) kept)
 
 pub returns-clause-cost : goal.returns-clause-cost
 returns-clause-cost g c =

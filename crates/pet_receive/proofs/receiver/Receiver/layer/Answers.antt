@@ -24,9 +24,9 @@ returns-in-Some-clause-bytes g c order p kept is =
     let found : Some c.in-Some.open.now ≡ state_of r c.args.group = c.in-Some.ensures.value in
     let opened : open_group (kept_set r) c.args.group ≡ Some c.in-Some.open.now.packets = found_in r c.args.group ∙ ap (option_map (λ (s : GroupState g.row.F-Elem.Denot). s.packets)) (sym found) in
     let here : Some c.in-Some.open.now.packets ≡ Some p = sym opened ∙ ap (λ (v : ReceiverState g.row.F-Elem.Denot). open_group (kept_set v) c.args.group) c.self.view_is ∙ is in
-    let holds = subst (λ (v : ReceiverState g.row.F-Elem.Denot). HasKept F.is_element F.ops F.spelt F.WIDTH F.point_of v order) (sym c.self.view_is) kept c.args.group in
-    let held = subst (λ t. MatchOption t (numbers_of order c.args.group ≡ []) (λ (s : GroupState g.row.F-Elem.Denot). HoldsAfter F.is_element F.ops F.spelt F.WIDTH F.point_of s (numbers_of order c.args.group))) (sym found) holds in
-    subst (λ (q : Packets). IfSome c.layer.result (λ bytes. IsShownBytes F.is_element F.ops F.spelt F.WIDTH F.point_of q (numbers_of order c.args.group) c.args.layer bytes.now))
+    let holds = subst (λ (v : ReceiverState g.row.F-Elem.Denot). HasKept F.is_element F.coding v order) (sym c.self.view_is) kept c.args.group in
+    let held = subst (λ t. MatchOption t (numbers_of order c.args.group ≡ []) (λ (s : GroupState g.row.F-Elem.Denot). HoldsAfter F.is_element F.coding s (numbers_of order c.args.group))) (sym found) holds in
+    subst (λ (q : Packets). IfSome c.layer.result (λ bytes. IsShownBytes F.is_element F.coding q (numbers_of order c.args.group) c.args.layer bytes.now))
     (same_Some c.in-Some.open.now.packets p here) (c.layer.ensures.bytes (numbers_of order c.args.group) held)
 
 pub returns-in-Some-clause-agreed : goal.returns-in-Some-clause-agreed
@@ -37,9 +37,9 @@ returns-in-Some-clause-agreed g c p message is message_is agrees =
     let opened : open_group (kept_set r) c.args.group ≡ Some c.in-Some.open.now.packets = found_in r c.args.group ∙ ap (option_map (λ (s : GroupState g.row.F-Elem.Denot). s.packets)) (sym found) in
     let here : Some c.in-Some.open.now.packets ≡ Some p = sym opened ∙ ap (λ (v : ReceiverState g.row.F-Elem.Denot). open_group (kept_set v) c.args.group) c.self.view_is ∙ is in
     let same : c.in-Some.open.now.packets ≡ p = same_Some c.in-Some.open.now.packets p here in
-    subst (λ (q : Packets). IfSome c.layer.result (λ bytes. bytes.now ≡ bytes_of_layer F.WIDTH (layers_of q) message c.args.layer)) same
-    (c.layer.ensures.agreed message (subst (λ (q : Packets). IsMessage F.WIDTH (layers_of q) message) (sym same) message_is)
-    (subst (λ (q : Packets). Agrees F.ops F.spelt F.spelling F.WIDTH F.point_of q message) (sym same) agrees))
+    subst (λ (q : Packets). IfSome c.layer.result (λ bytes. bytes.now ≡ bytes_of_layer F.coding.width (layers_of q) message c.args.layer)) same
+    (c.layer.ensures.agreed message (subst (λ (q : Packets). IsMessage F.coding.width (layers_of q) message) (sym same) message_is)
+    (subst (λ (q : Packets). Agrees F.coding q message) (sym same) agrees))
 
 pub returns-in-None-clause-shown : goal.returns-in-None-clause-shown
 returns-in-None-clause-shown g c =

@@ -11,28 +11,29 @@ use std::alloc::Global;
 use std::sync::ledger::Ledger;
 use stripe_plan::{Table, next_start, stripes};
 
-/// The elements that the message spells, two bytes each.
-pub(crate) fn elements<F: Field>(
+/// The elements that the message spells, `WIDTH` bytes each.
+pub fn elements<F: Field>(
     alloc: Global,
     f: &F,
     message: &[u8],
     count: u32,
 ) -> Result<Vec<F::Elem>, NoMemory>
-    requires width { F.WIDTH ≡ 2 }
-    requires whole { length message.now ≡ count * 2 }
-    ensures { IfOk result (λ row. row.items ≡ words F.spelt 2 count message.now) }
+    requires whole { length message.now ≡ count * F.coding.width }
+    ensures { IfOk result (λ row. row.items
+        ≡ words F.coding.spelt F.coding.width count message.now) }
 {
-    let count = count as usize;
-    let mut row = Vec::with_capacity(alloc, count)?;
-    for i in 0..count {
-        let at = 2 * i;
-        row.push(f.read(&message[at..at + 2]))?;
+    let mut row = Vec::with_capacity(alloc, count as usize)?;
+    let mut rest = message;
+    for _ in 0..count {
+        let (word, after) = rest.split_at(F::WIDTH);
+        row.push(f.read(word))?;
+        rest = after;
     }
     Ok(row)
 }
 
 /// The values at `x` of the stripes of the table's plan, written on end. It counts at most one step for each word.
-pub(crate) fn payload<F: Field, L: Ledger>(
+pub fn payload<F: Field, L: Ledger>(
     alloc: Global,
     f: &F,
     table: &Table,
@@ -40,15 +41,14 @@ pub(crate) fn payload<F: Field, L: Ledger>(
     x: F::Elem,
     steps: &mut Steps<L>,
 ) -> Result<Vec<u8>, NoMemory>
-    requires width { F.WIDTH ≡ 2 }
     requires elements { All F.is_element row.now }
     requires whole { length row.now ≡ length (needs_of table.now.layers) }
     requires point { F.is_element x }
     ensures values { IfOk result (λ payload. payload.items
-        ≡ values_of F.ops F.spelling row.now x (plan_stripes table.now.layers)) }
+        ≡ values_of F.coding row.now x (plan_stripes table.now.layers)) }
     ensures cost { steps.new ≤ steps.old + length row.now }
 {
-    let mut payload = Vec::with_capacity(alloc, 2 * stripes(table) as usize)?;
+    let mut payload = Vec::with_capacity(alloc, F::WIDTH.saturating_mul(stripes(table) as usize))?;
     let count = table.words();
     let mut at = 0;
     while at < count {
@@ -60,14 +60,15 @@ pub(crate) fn payload<F: Field, L: Ledger>(
     Ok(payload)
 }
 
-/// Appends the two bytes that an element is written as.
+/// Appends the bytes that an element is written as.
 fn append_element<F: Field>(f: &F, element: F::Elem, into: &mut Vec<u8>) -> Result<(), NoMemory>
-    requires width { F.WIDTH ≡ 2 }
     requires element { F.is_element element }
-    ensures { IfOk result (λ _. into.new.items ≡ into.old.items ++ F.spelling element) }
+    ensures { IfOk result (λ _. into.new.items ≡ into.old.items ++ F.coding.spelling element) }
 {
-    let mut bytes = [0u8; 2];
-    f.write(element, &mut bytes);
-    into.extend_from_slice(&bytes)?;
+    let start = into.len();
+    for _ in 0..F::WIDTH {
+        into.push(0)?;
+    }
+    f.write(element, &mut into[start..]);
     Ok(())
 }
