@@ -11,9 +11,23 @@ const TWO_GROUPS: [u8; 22] = [
     0, 0, 1, 0xB8, 1, 0, 0, 1, 0, 0, 8, 0, 0, 1, 0xB8, 2, 0, 0, 1, 0, 0, 8,
 ];
 
+/// A group of heads, an I, a P and two B pictures.
+const EXAMPLE: [u8; 44] = [
+    0, 0, 1, 0xB3, 0x11, 0x22, 0, 0, 1, 0xB8, 0x33, 0, 0, 1, 0, 0, 0x08, 0x44, 0, 0, 1, 0, 0, 0x10,
+    0x55, 0, 0, 1, 0, 0, 0x18, 0x66, 0, 0, 1, 0, 0, 0x18, 0x77, 0x77, 0, 0, 1, 0xB7,
+];
+
+/// Heads, I and D pictures in layer 0, P pictures and the first B picture of a group in layer 1, the others in layer 2.
+const PLACES: &str =
+    "packets = 6\n[[layer]]\nname = \"base\"\nkinds = [\"head\", \"I\"]\nneed = 2\n[[layer]]\nname = \"P\"\nkinds = [\"P\", \"B1\"]\nneed = 3\n[[layer]]\nname = \"B\"\nkinds = [\"B\"]\nneed = 5\n";
+
 /// Heads, I and D pictures in layer 0, P pictures in layer 1, B pictures in layer 2.
 const PRIORITIES: &str =
     "packets = 6\n[[layer]]\nname = \"base\"\nkinds = [\"head\", \"I\"]\nneed = 2\n[[layer]]\nname = \"P\"\nkinds = [\"P\"]\nneed = 3\n[[layer]]\nname = \"B\"\nkinds = [\"B\"]\nneed = 5\n";
+
+fn run(layer: u8, at: u64, len: u32) -> Run {
+    Run { layer, at, len }
+}
 
 /// Takes the groups that have ended.
 fn take_ended(cutter: &mut GroupCutter, groups: &mut Vec<Group>) -> Result<(), NoMemory> {
@@ -68,11 +82,7 @@ fn gives_two_groups_of_a_stream_cut_anywhere(rt: HostRuntime) -> Result<(), Fail
             assert_eq!(rt; groups.len(), 2);
             assert_eq!(rt; groups[0].bytes.as_slice(), &TWO_GROUPS[..11]);
             assert_eq!(rt; groups[1].bytes.as_slice(), &TWO_GROUPS[11..]);
-            let runs = [Run {
-                layer: 0,
-                at: 0,
-                len: 11,
-            }];
+            let runs = [run(0, 0, 11)];
             assert_eq!(rt; groups[0].cut.runs.as_slice(), runs.as_slice());
             assert_eq!(rt; groups[1].cut.runs.as_slice(), runs.as_slice());
         }
@@ -105,5 +115,17 @@ fn gives_what_ended_before_a_refusal(rt: HostRuntime) -> Result<(), Fail> {
             assert_eq!(rt; len, last);
         }
     }
+    Ok(())
+}
+
+#[test]
+fn cuts_the_example_stream_by_places(rt: HostRuntime) -> Result<(), Fail> {
+    let priority = read_priority(rt.alloc(), PLACES.as_bytes()).expect(&rt, "a priority");
+    let (groups, whole) = cut_in(rt.alloc(), &priority, &EXAMPLE, 20, 20).expect(&rt, "memory");
+    assert!(rt; whole);
+    assert_eq!(rt; groups.len(), 1);
+    let runs = [run(0, 0, 18), run(1, 18, 14), run(2, 32, 8), run(0, 40, 4)];
+    assert_eq!(rt; groups[0].cut.runs.as_slice(), runs.as_slice());
+    assert_eq!(rt; groups[0].cut.lengths.as_slice(), [46, 14, 8].as_slice());
     Ok(())
 }

@@ -40,18 +40,18 @@ from_full p i (suc k) (y ∷ xs) ys none e =
     cond-false (p y) (Some i) (position_from p (i + 1) (take k (xs ++ ys))) (none 0 y (omega arith)) ∙ from_full p (i + 1) k xs ys (λ j d l. none (suc j) d (omega arith)) (omega arith)
 
 -- the faults of groups
-long_fault : (lo : Kind → ℕ) (n : ℕ) (gone : List (List Piece)) (group : List Piece) (later : List (List Piece)) → All (λ g. is_too_long lo n g ≡ false) gone → is_too_long lo n group ≡ true → length gone < MAX_GROUPS → fault_of lo n (gone ++ group ∷ later) ≡ Some (GroupTooLong (length gone))
+long_fault : (lo : Kind → ℕ → ℕ) (n : ℕ) (gone : List (List Piece)) (group : List Piece) (later : List (List Piece)) → All (λ g. is_too_long lo n g ≡ false) gone → is_too_long lo n group ≡ true → length gone < MAX_GROUPS → fault_of lo n (gone ++ group ∷ later) ≡ Some (GroupTooLong (length gone))
 long_fault lo n gone group later fit long few =
     ap (λ o. fault_by o (length (gone ++ group ∷ later))) (position_from-zero (is_too_long lo n) (take MAX_GROUPS (gone ++ group ∷ later)) ∙ from_some (is_too_long lo n) 0 MAX_GROUPS gone group later fit long few)
     ∙ ap (λ k. Some (GroupTooLong k)) (let e : 0 + length gone ≡ length gone = omega arith in e)
 
-many_fault : (lo : Kind → ℕ) (n : ℕ) (gone : List (List Piece)) (next : List Piece) (later : List (List Piece)) → All (λ g. is_too_long lo n g ≡ false) gone → length gone ≡ MAX_GROUPS → fault_of lo n (gone ++ next ∷ later) ≡ Some TooManyGroups
+many_fault : (lo : Kind → ℕ → ℕ) (n : ℕ) (gone : List (List Piece)) (next : List Piece) (later : List (List Piece)) → All (λ g. is_too_long lo n g ≡ false) gone → length gone ≡ MAX_GROUPS → fault_of lo n (gone ++ next ∷ later) ≡ Some TooManyGroups
 many_fault lo n gone next later fit e =
     ap (λ o. fault_by o (length (gone ++ next ∷ later))) (position_from-zero (is_too_long lo n) (take MAX_GROUPS (gone ++ next ∷ later)) ∙ from_full (is_too_long lo n) 0 MAX_GROUPS gone (next ∷ later) fit e)
     ∙ cond-true (nat_lt MAX_GROUPS (length (gone ++ next ∷ later))) (Some TooManyGroups) None
     (lt-ltb MAX_GROUPS (length (gone ++ next ∷ later)) (let l : length (gone ++ next ∷ later) ≡ length gone + suc (length later) = length-append gone (next ∷ later) in omega arith))
 
-end_fault : (lo : Kind → ℕ) (n : ℕ) (groups : List (List Piece)) → All (λ g. is_too_long lo n g ≡ false) groups → length groups ≤ MAX_GROUPS → fault_of lo n groups ≡ None
+end_fault : (lo : Kind → ℕ → ℕ) (n : ℕ) (groups : List (List Piece)) → All (λ g. is_too_long lo n g ≡ false) groups → length groups ≤ MAX_GROUPS → fault_of lo n groups ≡ None
 end_fault lo n groups fit few =
     ap (λ o. fault_by o (length groups)) (position_from-zero (is_too_long lo n) (take MAX_GROUPS groups) ∙ from_none (is_too_long lo n) 0 MAX_GROUPS groups fit)
     ∙ cond-false (nat_lt MAX_GROUPS (length groups)) (Some TooManyGroups) None (le-ltb MAX_GROUPS (length groups) few)
@@ -116,7 +116,7 @@ added_stays old new priority pieces cuts p h begins layers group refused seen he
 pub added_begins : (old new : Splitter) (priority : Priorities) (pieces : List Piece) (cuts : List Cut) (p : Piece) (cut : Cut) (h : HasAdded old priority pieces cuts) → (is_group_head p && old.has_picture) ≡ true → cut ≡ cut_of (layer_of priority) (length priority.layers) h.current → is_too_long (layer_of priority) (length priority.layers) h.current ≡ false → old.group + 1 < MAX_GROUPS → new.layers ≡ old.layers → new.group ≡ old.group + 1 → new.refused ≡ old.refused → new.has_picture ≡ false → Holds new (layer_of priority) (p ∷ []) → HasAdded new priority (pieces ++ p ∷ []) (cuts ++ cut ∷ [])
 added_begins old new priority pieces cuts p cut h begins is short room layers group refused seen held =
     let b = begins_now old priority pieces cuts p true h begins in
-    let lo : Kind → ℕ = layer_of priority in
+    let lo : Kind → ℕ → ℕ = layer_of priority in
     let n : ℕ = length priority.layers in
     let count : length (h.gone ++ h.current ∷ []) ≡ length h.gone + 1 = length-append h.gone (h.current ∷ []) in
     let number = h.number in
@@ -148,7 +148,7 @@ refuses_long old priority pieces cuts p h begins long later =
 
 pub refuses_many : (old : Splitter) (priority : Priorities) (pieces : List Piece) (cuts : List Cut) (p : Piece) (h : HasAdded old priority pieces cuts) → (is_group_head p && old.has_picture) ≡ true → is_too_long (layer_of priority) (length priority.layers) h.current ≡ false → MAX_GROUPS ≤ old.group + 1 → (later : List Piece) → fault_of (layer_of priority) (length priority.layers) (groups_of (pieces ++ p ∷ later)) ≡ Some TooManyGroups
 refuses_many old priority pieces cuts p h begins short full later =
-    let lo : Kind → ℕ = layer_of priority in
+    let lo : Kind → ℕ → ℕ = layer_of priority in
     let n : ℕ = length priority.layers in
     let next = some_group (p ∷ []) later in
     let count : length (h.gone ++ h.current ∷ []) ≡ length h.gone + 1 = length-append h.gone (h.current ∷ []) in
@@ -186,7 +186,7 @@ ends_none splitter priority pieces cuts h none =
 
 pub ends_cut : (splitter : Splitter) (priority : Priorities) (pieces : List Piece) (cuts : List Cut) (cut : Cut) (h : HasAdded splitter priority pieces cuts) → (h.current ≡ [] → ⊥) → cut ≡ cut_of (layer_of priority) (length priority.layers) h.current → is_too_long (layer_of priority) (length priority.layers) h.current ≡ false → (cuts ++ cut ∷ [] ≡ cuts_of priority (groups_of pieces)) × (fault_of (layer_of priority) (length priority.layers) (groups_of pieces) ≡ None)
 ends_cut splitter priority pieces cuts cut h some is short =
-    let lo : Kind → ℕ = layer_of priority in
+    let lo : Kind → ℕ → ℕ = layer_of priority in
     let n : ℕ = length priority.layers in
     let groups = ends splitter priority pieces cuts h some in
     let count : length (h.gone ++ h.current ∷ []) ≡ length h.gone + 1 = length-append h.gone (h.current ∷ []) in

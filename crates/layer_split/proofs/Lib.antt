@@ -1,3 +1,5 @@
+pub mod Placing
+pub mod Tabling
 pub mod Running
 pub mod Totals
 pub mod Holding

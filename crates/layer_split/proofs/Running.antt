@@ -8,8 +8,10 @@ use Rattle.std.proofs.lemmas.List.Sums.{sum_by-append, sum_by-cons}
 use Rattle.pet_base.specs.declared.kind.Kind.{Kind}
 use Rattle.mpeg_scan.specs.declared.piece.Piece.{Piece}
 use Rattle.layer_split.specs.declared.cut.Run.{Run}
+use Rattle.layer_split.specs.Places.{place_behind, placed_at, placed_behind, placed}
 use Rattle.layer_split.specs.Runs.{run_of, runs_of, both, joined, joined_from}
 use Rattle.layer_split.specs.Splitting.{begins_run, with_run, group_size}
+use Rattle.layer_split.proofs.Placing.{placed_push}
 
 abbrev len_of : Run → ℕ
 len_of run = run.len
@@ -43,8 +45,10 @@ joined-push : (rows : List Run) (r : Run) → with_run (joined rows) r ≡ joine
 joined-push [] r = refl
 joined-push (run ∷ rows) r = joined_from-push run rows r
 
-pub runs_push : (lo : Kind → ℕ) (group : List Piece) (p : Piece) → with_run (runs_of lo group) (run_of lo p) ≡ runs_of lo (group ++ p ∷ [])
-runs_push lo group p = joined-push (map (run_of lo) group) (run_of lo p) ∙ ap joined (sym (map-append (run_of lo) group (p ∷ [])))
+pub runs_push : (lo : Kind → ℕ → ℕ) (group : List Piece) (p : Piece) → with_run (runs_of lo group) (run_of lo (placed_at group p)) ≡ runs_of lo (group ++ p ∷ [])
+runs_push lo group p =
+    joined-push (map (run_of lo) (placed group)) (run_of lo (placed_at group p))
+    ∙ ap joined (sym (ap (map (run_of lo)) (placed_push group p) ∙ map-append (run_of lo) (placed group) (placed_at group p ∷ [])))
 
 -- the bytes of a run's entry, if there is one
 abbrev pub entry_if : Bool → ℕ
@@ -68,24 +72,24 @@ joined_from-sum run (next ∷ rows) = elim (cases_Bool (next.layer == run.layer)
   | inr e ↦ ap (sum_by len_of) (cond-false (next.layer == run.layer) (joined_from (both run next) rows) (run ∷ joined_from next rows) e) ∙ (sum_by-cons len_of run (joined_from next rows) ∙ ap (λ n. run.len + n) (joined_from-sum next rows ∙ sym (sum_by-cons len_of next rows)))
 ]
 
-rows_sum : (lo : Kind → ℕ) (group : List Piece) → sum_by len_of (map (run_of lo) group) ≡ sum_by (λ (p : Piece). p.len) group
-rows_sum lo [] = refl
-rows_sum lo (p ∷ group) =
-    sum_by-cons len_of (run_of lo p) (map (run_of lo) group)
-    ∙ (ap (λ n. p.len + n) (rows_sum lo group) ∙ sym (sum_by-cons (λ (q : Piece). q.len) p group))
+rows_sum : (lo : Kind → ℕ → ℕ) (before group : List Piece) → sum_by len_of (map (run_of lo) (placed_behind before group)) ≡ sum_by (λ (p : Piece). p.len) group
+rows_sum lo before [] = refl
+rows_sum lo before (p ∷ group) =
+    sum_by-cons len_of (run_of lo (placed_at before p)) (map (run_of lo) (placed_behind (before ++ p ∷ []) group))
+    ∙ (ap (λ n. p.len + n) (rows_sum lo (before ++ p ∷ []) group) ∙ sym (sum_by-cons (λ (q : Piece). q.len) p group))
 
 joined-sum : (rows : List Run) → sum_by len_of (joined rows) ≡ sum_by len_of rows
 joined-sum [] = refl
 joined-sum (run ∷ rows) = joined_from-sum run rows ∙ sym (sum_by-cons len_of run rows)
 
-pub runs_sum : (lo : Kind → ℕ) (group : List Piece) → sum_by (λ (r : Run). r.len) (runs_of lo group) ≡ sum_by (λ (p : Piece). p.len) group
-runs_sum lo group = joined-sum (map (run_of lo) group) ∙ rows_sum lo group
+pub runs_sum : (lo : Kind → ℕ → ℕ) (group : List Piece) → sum_by (λ (r : Run). r.len) (runs_of lo group) ≡ sum_by (λ (p : Piece). p.len) group
+runs_sum lo group = joined-sum (map (run_of lo) (placed group)) ∙ rows_sum lo [] group
 
-pub size_push : (lo : Kind → ℕ) (group : List Piece) (p : Piece) → group_size lo (group ++ p ∷ []) ≡ group_size lo group + p.len + entry_if (begins_run (runs_of lo group) (lo p.kind))
+pub size_push : (lo : Kind → ℕ → ℕ) (group : List Piece) (p : Piece) → group_size lo (group ++ p ∷ []) ≡ group_size lo group + p.len + entry_if (begins_run (runs_of lo group) (lo p.kind (place_behind group p)))
 size_push lo group p =
     let runs : List Run = runs_of lo group in
-    let begins : Bool = begins_run runs (lo p.kind) in
-    let count : length (runs_of lo (group ++ p ∷ [])) ≡ length runs + cond begins 1 0 = ap length (sym (runs_push lo group p)) ∙ length_with runs (run_of lo p) in
+    let begins : Bool = begins_run runs (lo p.kind (place_behind group p)) in
+    let count : length (runs_of lo (group ++ p ∷ [])) ≡ length runs + cond begins 1 0 = ap length (sym (runs_push lo group p)) ∙ length_with runs (run_of lo (placed_at group p)) in
     let sum : sum_by (λ (q : Piece). q.len) (group ++ p ∷ []) ≡ sum_by (λ (q : Piece). q.len) group + p.len = sum_by-append (λ (q : Piece). q.len) group (p ∷ []) ∙ omega arith in
     let five : 5 * cond begins 1 0 ≡ entry_if begins = elim (cases_Bool begins) [
       | inl e ↦ ap (λ b. 5 * cond b 1 0) e ∙ sym (ap entry_if e)

@@ -1,18 +1,18 @@
 -- The lengths of all layers sum to the bytes of the run table and the pieces.
-use Rattle.std.proofs.Common.{◌≡◌, ◌≢◌, ℕ, zero, suc, ◌+◌, ◌<◌, ◌≤◌, Bool, true, false, List, [], ◌∷◌, ◌++◌, length, map, take, get_or, refl, sym, ◌∙◌, ap, arith, inl, inr, cond, subst}
+use Rattle.std.proofs.Common.{◌≡◌, ◌≢◌, ℕ, zero, suc, ◌+◌, ◌<◌, ◌≤◌, Bool, true, false, List, [], ◌∷◌, ◌++◌, length, map, take, get_or, refl, sym, ◌∙◌, ap, arith, inl, inr, cond}
 use Rattle.std.specs.Prelude.{◌==◌, All, sum}
 use Rattle.std.specs.List.{sum_by, range_with_len}
 use Rattle.std.proofs.lemmas.Bool.{cond-true, cond-false, cases_Bool, cases_eq, eq-eqb, ne_eqb}
 use Rattle.std.proofs.lemmas.List.Sums.{sum_by-cons, sum_by-append, sum_by_more_le, sum_by-le-sum_by}
 use Rattle.std.proofs.lemmas.List.{take_more, map-append}
-use Rattle.std.proofs.lemmas.List.Elements.{All-cons, All-nil}
 use Rattle.pet_base.specs.declared.kind.Kind.{Kind}
 use Rattle.mpeg_scan.specs.declared.piece.Piece.{Piece}
 use Rattle.layer_split.specs.declared.cut.Run.{Run}
-use Rattle.layer_split.specs.Runs.{run_of, runs_of, both, joined, joined_from}
+use Rattle.layer_split.specs.Runs.{runs_of}
 use Rattle.layer_split.specs.Layers.{layer_length, lengths_of, runs_in, run_table_size}
 use Rattle.layer_split.specs.Faults.{group_bytes}
 use Rattle.layer_split.specs.Splitting.{group_size}
+use Rattle.layer_split.specs.laws.RunLaws.{first_of, rest_of, runs_layers}
 use Rattle.layer_split.proofs.Running.{runs_sum}
 
 abbrev len_of : Run → ℕ
@@ -81,12 +81,6 @@ in_layer r rs j = elim (cases_Bool (r.layer == j)) [
 sum_nothing : (xs : List ℕ) → sum_by (λ _. 0) xs ≡ 0
 sum_nothing [] = refl
 sum_nothing (x ∷ xs) = let e : sum_by (λ _. 0) (x ∷ xs) ≡ 0 + sum_by (λ _. 0) xs = sum_by-cons (λ _. 0) x xs in let later = sum_nothing xs in omega arith
-
-first_of : (n : ℕ) (r : Run) (rs : List Run) → All (λ r. r.layer < n) (r ∷ rs) → r.layer < n
-first_of n r rs h = h 0 r (omega arith)
-
-rest_of : (n : ℕ) (r : Run) (rs : List Run) → All (λ r. r.layer < n) (r ∷ rs) → All (λ r. r.layer < n) rs
-rest_of n r rs h k d lt = h (suc k) d (omega arith)
 
 sum_runs : (n : ℕ) (rs : List Run) → All (λ r. r.layer < n) rs → sum_by (λ j. sum_by len_of (runs_in j rs)) (range_with_len 0 n) ≡ sum_by len_of rs
 sum_runs n [] h = sum_nothing (range_with_len 0 n)
@@ -158,25 +152,6 @@ range_push a (suc n) =
 pub lengths_push : (rs : List Run) (n : ℕ) → lengths_of rs (n + 1) ≡ lengths_of rs n ++ layer_length rs n ∷ []
 lengths_push rs n = ap (map (layer_length rs)) (range_push 0 n) ∙ (map-append (layer_length rs) (range_with_len 0 n) ((0 + n) ∷ []) ∙ ap (λ k. lengths_of rs n ++ layer_length rs k ∷ []) (let e : 0 + n ≡ n = omega arith in e))
 
--- the layers of a group's runs are those of its kinds
-joined_from-layers : (n : ℕ) (run : Run) (rows : List Run) → run.layer < n → All (λ r. r.layer < n) rows → All (λ r. r.layer < n) (joined_from run rows)
-joined_from-layers n run [] lt h = All-cons (λ r. r.layer < n) run [] lt h
-joined_from-layers n run (next ∷ rows) lt h = elim (cases_Bool (next.layer == run.layer)) [
-  | inl e ↦ subst (All (λ r. r.layer < n)) (sym (cond-true (next.layer == run.layer) (joined_from (both run next) rows) (run ∷ joined_from next rows) e)) (joined_from-layers n (both run next) rows lt (rest_of n next rows h))
-  | inr e ↦ subst (All (λ r. r.layer < n)) (sym (cond-false (next.layer == run.layer) (joined_from (both run next) rows) (run ∷ joined_from next rows) e)) (All-cons (λ r. r.layer < n) run (joined_from next rows) lt (joined_from-layers n next rows (first_of n next rows h) (rest_of n next rows h)))
-]
-
-rows-layers : (lo : Kind → ℕ) (n : ℕ) → ((k : Kind) → lo k < n) → (group : List Piece) → All (λ r. r.layer < n) (map (run_of lo) group)
-rows-layers lo n within [] = All-nil (λ r. r.layer < n)
-rows-layers lo n within (p ∷ group) = All-cons (λ r. r.layer < n) (run_of lo p) (map (run_of lo) group) (within p.kind) (rows-layers lo n within group)
-
-joined-layers : (n : ℕ) (rows : List Run) → All (λ r. r.layer < n) rows → All (λ r. r.layer < n) (joined rows)
-joined-layers n [] h = All-nil (λ r. r.layer < n)
-joined-layers n (run ∷ rows) h = joined_from-layers n run rows (first_of n run rows h) (rest_of n run rows h)
-
-pub runs-layers : (lo : Kind → ℕ) (n : ℕ) → ((k : Kind) → lo k < n) → (group : List Piece) → All (λ r. r.layer < n) (runs_of lo group)
-runs-layers lo n within group = joined-layers n (map (run_of lo) group) (rows-layers lo n within group)
-
-pub bytes_are_size : (lo : Kind → ℕ) (n : ℕ) → 0 < n → ((k : Kind) → lo k < n) → (group : List Piece) → group_bytes lo n group ≡ group_size lo group
+pub bytes_are_size : (lo : Kind → ℕ → ℕ) (n : ℕ) → 0 < n → ((kind : Kind) (place : ℕ) → lo kind place < n) → (group : List Piece) → group_bytes lo n group ≡ group_size lo group
 bytes_are_size lo n lt within group =
-    sum_lengths n (runs_of lo group) lt (runs-layers lo n within group) ∙ ap (λ m. run_table_size (length (runs_of lo group)) + m) (runs_sum lo group)
+    sum_lengths n (runs_of lo group) lt (runs_layers lo n within group) ∙ ap (λ m. run_table_size (length (runs_of lo group)) + m) (runs_sum lo group)

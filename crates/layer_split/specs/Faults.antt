@@ -8,10 +8,10 @@ use Rattle.layer_split.specs.declared.fault.SplitFault.TheVariants.{TooManyGroup
 use Rattle.layer_split.specs.Layers.{cut_of}
 
 -- the bytes of a group's layers, run table included
-abbrev pub group_bytes : (Kind → ℕ) → ℕ → List Piece → ℕ
+abbrev pub group_bytes : (Kind → ℕ → ℕ) → ℕ → List Piece → ℕ
 group_bytes layer_of layers group = sum (cut_of layer_of layers group).lengths
 
-abbrev pub is_too_long : (Kind → ℕ) → ℕ → List Piece → Bool
+abbrev pub is_too_long : (Kind → ℕ → ℕ) → ℕ → List Piece → Bool
 is_too_long layer_of layers group = nat_lt MAX_GROUP_BYTES (group_bytes layer_of layers group)
 
 -- the first group that is too long among those that may be, and else too many of them
@@ -19,6 +19,6 @@ abbrev pub fault_by : Option ℕ → ℕ → Option SplitFault
 fault_by (Some group) groups = Some (GroupTooLong group)
 fault_by None groups = if nat_lt MAX_GROUPS groups then Some TooManyGroups else None
 
-abbrev pub fault_of : (Kind → ℕ) → ℕ → List (List Piece) → Option SplitFault
+abbrev pub fault_of : (Kind → ℕ → ℕ) → ℕ → List (List Piece) → Option SplitFault
 fault_of layer_of layers groups =
     fault_by (position (is_too_long layer_of layers) (take MAX_GROUPS groups)) (length groups)

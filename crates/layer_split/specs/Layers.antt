@@ -50,5 +50,5 @@ pub record Cut : Type 0 where
   pub runs : List Run
   pub lengths : List ℕ
 
-abbrev pub cut_of : (Kind → ℕ) → ℕ → List Piece → Cut
+abbrev pub cut_of : (Kind → ℕ → ℕ) → ℕ → List Piece → Cut
 cut_of layer_of layers group = let runs = runs_of layer_of group in record { runs = runs; lengths = lengths_of runs layers }

@@ -1,4 +1,5 @@
 pub mod Groups
+pub mod Places
 pub mod Runs
 pub mod Layers
 pub mod Faults

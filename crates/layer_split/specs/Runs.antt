@@ -3,10 +3,11 @@ use Rattle.std.specs.Prelude.{ℕ, ◌+◌, List, [], ◌∷◌, map, ◌==◌, 
 use Rattle.pet_base.specs.declared.kind.Kind.{Kind}
 use Rattle.mpeg_scan.specs.declared.piece.Piece.{Piece}
 use Rattle.layer_split.specs.declared.cut.Run.{Run}
+use Rattle.layer_split.specs.Places.{Placed, placed}
 
--- a piece as a row of its own; `layer_of` gives the layer of a kind
-abbrev pub run_of : (Kind → ℕ) → Piece → Run
-run_of layer_of piece = record { layer = layer_of piece.kind; at = piece.at; len = piece.len }
+-- a piece as a row of its own; `layer_of` gives the layer of a kind at a place
+abbrev pub run_of : (Kind → ℕ → ℕ) → Placed → Run
+run_of layer_of next = record { layer = layer_of next.piece.kind next.place; at = next.piece.at; len = next.piece.len }
 
 -- two adjacent rows of one layer as one
 abbrev pub both : Run → Run → Run
@@ -21,5 +22,5 @@ abbrev pub joined : List Run → List Run
 joined [] = []
 joined (run ∷ later) = joined_from run later
 
-abbrev pub runs_of : (Kind → ℕ) → List Piece → List Run
-runs_of layer_of group = joined (map (run_of layer_of) group)
+abbrev pub runs_of : (Kind → ℕ → ℕ) → List Piece → List Run
+runs_of layer_of group = joined (map (run_of layer_of) (placed group))

@@ -1,16 +1,19 @@
 -- Where a splitter stands to which pieces were added (this project's own).
-use Rattle.std.specs.Prelude.{◌≡◌, ℕ, ◌+◌, ◌-◌, ◌<◌, ◌≤◌, ◌⊎◌, Bool, List, [], ◌∷◌, ◌++◌, length, map, Option, Some, None, All, ◌==◌, not, true, false, if◌then◌else◌}
+use Rattle.std.specs.Prelude.{◌≡◌, ℕ, ◌+◌, ◌-◌, ◌^◌, ◌<◌, ◌≤◌, ◌⊎◌, min, Bool, List, [], ◌∷◌, ◌++◌, length, map, slice_index, Option, Some, None, All, ◌==◌, not, true, false, if◌then◌else◌}
 use Rattle.std.specs.List.{list_any, sum_by}
 use Rattle.pet_base.specs.declared.kind.Kind.{Kind}
 use Rattle.pet_base.specs.declared.kind.Kind.TheVariants.{Head, I, P, B, D}
-use Rattle.pet_base.specs.declared.limits.TheConstants.{MAX_GROUPS, MAX_GROUP_BYTES}
+use Rattle.pet_base.specs.declared.limits.TheConstants.{MAX_GROUPS, MAX_GROUP_BYTES, MAX_LAYERS}
 use Rattle.mpeg_scan.specs.declared.piece.Piece.{Piece}
 use Rattle.priority_file.specs.Priority.{Priorities, layer_of}
 use Rattle.layer_split.specs.declared.cut.Run.{Run}
 use Rattle.layer_split.specs.declared.fault.SplitFault.{SplitFault}
 use Rattle.layer_split.specs.declared.kind_layers.KindLayers.{KindLayers}
+use Rattle.layer_split.specs.declared.kind_layers.TheConstants.{PLACES}
+use Rattle.layer_split.specs.declared.places.Places.{Places}
 use Rattle.layer_split.specs.declared.splitter.Splitter.{Splitter}
 use Rattle.layer_split.specs.Groups.{groups_of, groups_from, last_group, is_picture, begins_group}
+use Rattle.layer_split.specs.Places.{number_of}
 use Rattle.layer_split.specs.Runs.{runs_of, both}
 use Rattle.layer_split.specs.Layers.{Cut, cut_of, run_table_size}
 use Rattle.layer_split.specs.Faults.{is_too_long}
@@ -19,19 +22,33 @@ use Rattle.layer_split.specs.Faults.{is_too_long}
 abbrev pub cuts_of : Priorities → List (List Piece) → List Cut
 cuts_of priority groups = map (cut_of (layer_of priority) (length priority.layers)) groups
 
+-- the layer of a place in a table of the places from 1 on, the last of which stands for all further ones
+abbrev pub layer_at : List ℕ → ℕ → ℕ
+layer_at table place = slice_index table (min place PLACES - 1)
+
 -- the layers that were taken from a priority
-abbrev pub layer_in : KindLayers → Kind → ℕ
-layer_in layers Head = layers.head
-layer_in layers I = layers.i
-layer_in layers P = layers.p
-layer_in layers B = layers.b
-layer_in layers D = layers.d
+abbrev pub layer_in : KindLayers → Kind → ℕ → ℕ
+layer_in layers Head place = layers.head
+layer_in layers I place = layers.i
+layer_in layers P place = layer_at layers.p place
+layer_in layers B place = layer_at layers.b place
+layer_in layers D place = layers.d
 
 pub record AreOf (layers : KindLayers) (priority : Priorities) : Type 0 where
-  pub layer : (kind : Kind) → layer_in layers kind ≡ layer_of priority kind
+  pub layer : (kind : Kind) (place : ℕ) → 0 < place → layer_in layers kind place ≡ layer_of priority kind place
   pub count : layers.count ≡ length priority.layers
-  pub few : layers.count ≤ 16
-  pub within : (kind : Kind) → layer_of priority kind < length priority.layers
+  pub few : layers.count ≤ MAX_LAYERS
+  pub within : (kind : Kind) (place : ℕ) → layer_of priority kind place < length priority.layers
+
+-- the place as it is counted: as far as 32 bits can, and 1 where it is not looked at
+abbrev pub place_in : Kind → ℕ → ℕ
+place_in P place = min place (2 ^ 32 - 1)
+place_in B place = min place (2 ^ 32 - 1)
+place_in _ place = 1
+
+-- the P and the B pictures of a group, counted as far as 32 bits can
+abbrev pub HaveCounted : Places → List Piece → Type 0
+HaveCounted places group = (places.p ≡ min (number_of P group) (2 ^ 32 - 1)) × (places.b ≡ min (number_of B group) (2 ^ 32 - 1))
 
 -- whether a row behind these runs begins another run
 abbrev pub begins_run : List Run → ℕ → Bool
@@ -46,13 +63,20 @@ with_run (last ∷ []) run = if run.layer == last.layer then both last run ∷ [
 with_run (first ∷ next ∷ later) run = first ∷ with_run (next ∷ later) run
 
 -- the bytes of a group's run table and pieces
-abbrev pub group_size : (Kind → ℕ) → List Piece → ℕ
+abbrev pub group_size : (Kind → ℕ → ℕ) → List Piece → ℕ
 group_size layer_of group = run_table_size (length (runs_of layer_of group)) + sum_by (λ piece. piece.len) group
 
--- what a splitter holds of a group: its runs, or no more than that it is too long
-abbrev pub Holds : Splitter → (Kind → ℕ) → List Piece → Type 0
+-- these are the runs of a group that is not too long, its bytes, and the pictures that were counted in it
+pub record IsGroup (layer_of : Kind → ℕ → ℕ) (group : List Piece) (runs : List Run) (size : ℕ) (places : Places) : Type 0 where
+  pub runs_are : runs ≡ runs_of layer_of group
+  pub size_is : size ≡ group_size layer_of group
+  pub short : size ≤ MAX_GROUP_BYTES
+  pub counted : HaveCounted places group
+
+-- what a splitter holds of a group: these, or no more than that it is too long
+abbrev pub Holds : Splitter → (Kind → ℕ → ℕ) → List Piece → Type 0
 Holds splitter layer_of group =
-    ((splitter.runs.items ≡ runs_of layer_of group) × (splitter.size ≡ group_size layer_of group) × (splitter.size ≤ MAX_GROUP_BYTES))
+    IsGroup layer_of group splitter.runs.items splitter.size splitter.places
     ⊎ ((MAX_GROUP_BYTES < splitter.size) × (MAX_GROUP_BYTES < group_size layer_of group))
 
 -- what the runs and the size leave alone

@@ -1,2 +1,3 @@
+pub mod RunLaws
 pub mod CutLaws
 pub mod EndedLaws

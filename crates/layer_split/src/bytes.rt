@@ -1,5 +1,6 @@
 //! The bytes of a group's layers, and its message.
 ghost use Rattle.std.specs.Prelude.{◌≡◌, ◌≤◌, ◌<◌, ◌+◌, ◌^◌, ◌++◌, ◌==◌, [], All, length, OnOk, OnErr, if◌then◌else◌};
+ghost use Rattle.pet_base.specs.declared.limits.TheConstants.{MAX_LAYERS};
 ghost use Rattle.layer_split.specs.Layers as layers;
 ghost use Rattle.layer_split.specs.Bytes.{Begins, table_of, run_part};
 
@@ -58,7 +59,7 @@ fn append_layers(
 ) -> Result<(), NoMemory>
     requires inside { All (λ run. run.at + run.len ≤ length stream.now) runs.now }
     requires lengths { lengths.now ≡ layers.lengths_of runs.now (length lengths.now) }
-    requires few { length lengths.now ≤ 16 }
+    requires few { length lengths.now ≤ MAX_LAYERS }
     ensures ok { OnOk result (into.new.items ≡ into.old.items
         ++ layers.message stream.now runs.now (length lengths.now)) }
     ensures begins { Begins into.old.items into.new.items }

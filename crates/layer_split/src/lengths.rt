@@ -1,6 +1,6 @@
 //! The lengths of a group's layers.
 ghost use Rattle.std.specs.Prelude.{◌≡◌, ◌≤◌, ◌+◌, ◌==◌, length, sum_by, if◌then◌else◌};
-ghost use Rattle.pet_base.specs.declared.limits.TheConstants.{MAX_GROUP_BYTES};
+ghost use Rattle.pet_base.specs.declared.limits.TheConstants.{MAX_GROUP_BYTES, MAX_LAYERS};
 ghost use Rattle.layer_split.specs.Layers as layers;
 
 use crate::cut::Run;
@@ -13,9 +13,9 @@ pub const EMPTY_RUN_TABLE: u64 = 4;
 /// The bytes of a run in the run table.
 pub const RUN_ENTRY: u64 = 5;
 
-/// The lengths of so many layers, of which there are at most 16, where the group is not too long.
+/// The lengths of so many layers, of which there are at most `MAX_LAYERS`, where the group is not too long.
 pub fn lengths_of(runs: &[Run], count: usize) -> ArrayVec<u32, MAX_LAYERS>
-    ensures { count ≤ 16 → layers.run_table_size (length runs.now) + sum_by (λ run. run.len) runs.now ≤ MAX_GROUP_BYTES
+    ensures { count ≤ MAX_LAYERS → layers.run_table_size (length runs.now) + sum_by (λ run. run.len) runs.now ≤ MAX_GROUP_BYTES
         → result.items ≡ layers.lengths_of runs.now count }
 {
     let mut lengths = ArrayVec::new();

@@ -14,6 +14,7 @@ use crate::cut::{GroupCut, Run};
 use crate::fault::SplitFault;
 use crate::kind_layers::KindLayers;
 use crate::lengths::{EMPTY_RUN_TABLE, RUN_ENTRY, lengths_of};
+use crate::places::Places;
 use crate::runs::add_run;
 use mpeg_scan::Piece;
 use pet_base::{MAX_GROUP_BYTES, MAX_GROUPS, NoMemory};
@@ -30,6 +31,8 @@ pub struct Splitter {
     runs: Vec<Run>,
     /// The bytes of its run table and pieces, which stay where they are once it is too long.
     size: u64,
+    /// Its P and B pictures so far.
+    places: Places,
     has_picture: bool,
     /// The number of the current group.
     group: u32,
@@ -46,6 +49,7 @@ impl Splitter {
             layers: KindLayers::new(priority),
             runs: Vec::new(alloc),
             size: EMPTY_RUN_TABLE,
+            places: Places::new(),
             has_picture: false,
             group: 0,
             refused: None,
@@ -117,7 +121,7 @@ impl Splitter {
 
     /// Whether the current group has no piece.
     fn is_empty(&self) -> bool
-        ensures { (lo : Kind → ℕ) (group : List Piece) → Holds self.now lo group
+        ensures { (lo : Kind → ℕ → ℕ) (group : List Piece) → Holds self.now lo group
             → (IsTrue result ↔ (group ≡ [])) }
     {
         self.size <= MAX_GROUP_BYTES as u64 && self.runs.is_empty()
@@ -154,7 +158,7 @@ impl Splitter {
     fn end_group(&mut self) -> Result<GroupCut, SplitFault>
         ensures cut { IfOk result (λ cut. (priority : Priorities) (group : List Piece) → AreOf self.old.layers priority → Holds self.old (layer_of priority) group
             → (cut ≡ cut_of (layer_of priority) (length priority.layers) group) × (is_too_long (layer_of priority) (length priority.layers) group ≡ false)) }
-        ensures held { IfOk result (λ _. (lo : Kind → ℕ) → Holds self.new lo []) }
+        ensures held { IfOk result (λ _. (lo : Kind → ℕ → ℕ) → Holds self.new lo []) }
         ensures long { IfErr result (λ fault. (fault ≡ SplitFault.GroupTooLong self.old.group) × ((priority : Priorities) (group : List Piece) → AreOf self.old.layers priority
             → Holds self.old (layer_of priority) group → is_too_long (layer_of priority) (length priority.layers) group ≡ true)) }
         ensures rest { KeepsRest self.old self.new }
@@ -165,6 +169,7 @@ impl Splitter {
         let lengths = lengths_of(self.runs.as_slice(), self.layers.count);
         let runs = mem::replace(&mut self.runs, Vec::new(self.alloc));
         self.size = EMPTY_RUN_TABLE;
+        self.places = Places::new();
         Ok(GroupCut { runs, lengths })
     }
 
@@ -182,8 +187,9 @@ impl Splitter {
             self.size = MAX_GROUP_BYTES as u64 + 1;
             return Ok(());
         }
+        let place = self.places.take(piece);
         let run = Run {
-            layer: self.layers.layer_of(piece.kind),
+            layer: self.layers.layer_of(piece.kind, place),
             at: piece.at,
             len: piece.len as u32,
         };

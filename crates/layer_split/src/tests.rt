@@ -32,7 +32,7 @@ fn pieces_of_example() -> [Piece; 7] {
     ]
 }
 
-fn rule(bits: u8, need: u16) -> LayerRule {
+fn rule(bits: u32, need: u16) -> LayerRule {
     LayerRule {
         name: ArrayString::new(),
         kinds: KindSet { bits },
@@ -40,13 +40,29 @@ fn rule(bits: u8, need: u16) -> LayerRule {
     }
 }
 
-/// Heads, I and D pictures in layer 0, P pictures in layer 1, B pictures in layer 2.
-fn example_priority() -> Option<Priority> {
+const P: u32 = 4;
+
+const B: u32 = 8;
+
+const HEAD_I_D: u32 = 1 + 2 + 16;
+
+/// The bit of a place of the P pictures, and of one of the B pictures.
+const P9: u32 = 1 << 13;
+
+const B1: u32 = 1 << 14;
+
+/// Heads, I and D pictures in layer 0, these kinds and places in layers 1 and 2.
+fn priority_of(second: u32, third: u32) -> Option<Priority> {
     let mut layers: ArrayVec<LayerRule, MAX_LAYERS> = ArrayVec::new();
-    layers.push(rule(19, 2));
-    layers.push(rule(4, 3));
-    layers.push(rule(8, 5));
+    layers.push(rule(HEAD_I_D, 2));
+    layers.push(rule(second, 3));
+    layers.push(rule(third, 5));
     Priority::new(6, layers)
+}
+
+/// P pictures in layer 1, B pictures in layer 2.
+fn example_priority() -> Option<Priority> {
+    priority_of(P, B)
 }
 
 fn run(layer: u8, at: u64, len: u32) -> Run {
@@ -59,12 +75,53 @@ fn named_run(layer: u8, len: u32) -> NamedRun {
 
 #[test]
 fn splits_the_example_stream(rt: HostRuntime) -> Result<(), Fail> {
-    let priority = example_priority().expect(&rt, "a priority");
-    let cuts = split(rt.alloc(), &pieces_of_example(), &priority).expect(&rt, "cuts");
+    let by_kind = [run(0, 0, 18), run(1, 18, 7), run(2, 25, 15), run(0, 40, 4)];
+    let by_place = [run(0, 0, 18), run(1, 18, 14), run(2, 32, 8), run(0, 40, 4)];
+    let rows = [(P, by_kind, [46, 7, 15]), (P + B1, by_place, [46, 14, 8])];
+    for (second, runs, lengths) in rows {
+        let priority = priority_of(second, B).expect(&rt, "a priority");
+        let cuts = split(rt.alloc(), &pieces_of_example(), &priority).expect(&rt, "cuts");
+        assert_eq!(rt; cuts.len(), 1);
+        assert_eq!(rt; cuts[0].runs.as_slice(), runs.as_slice());
+        assert_eq!(rt; cuts[0].lengths.as_slice(), lengths.as_slice());
+    }
+    Ok(())
+}
+
+#[test]
+fn numbers_p_and_b_pictures_from_1_in_each_group(rt: HostRuntime) -> Result<(), Fail> {
+    let priority = priority_of(P + B1, B).expect(&rt, "a priority");
+    let pieces = [
+        piece(Kind::Head, 0xB8, 0, 5),
+        piece(Kind::P, 0, 5, 6),
+        piece(Kind::B, 0, 11, 6),
+        piece(Kind::B, 0, 17, 6),
+        piece(Kind::Head, 0xB8, 23, 5),
+        piece(Kind::B, 0, 28, 6),
+        piece(Kind::P, 0, 34, 6),
+    ];
+    let cuts = split(rt.alloc(), &pieces, &priority).expect(&rt, "cuts");
+    assert_eq!(rt; cuts.len(), 2);
+    let first = [run(0, 0, 5), run(1, 5, 12), run(2, 17, 6)];
+    assert_eq!(rt; cuts[0].runs.as_slice(), first.as_slice());
+    assert_eq!(rt;
+        cuts[1].runs.as_slice(),
+        [run(0, 23, 5), run(1, 28, 12)].as_slice()
+    );
+    Ok(())
+}
+
+#[test]
+fn puts_the_tenth_picture_with_its_kind(rt: HostRuntime) -> Result<(), Fail> {
+    let priority = priority_of(P, B + P9).expect(&rt, "a priority");
+    let mut pieces = Vec::new(rt.alloc());
+    for place in 0..10u64 {
+        pieces.push(piece(Kind::P, 0, 6 * place, 6))?;
+    }
+    let cuts = split(rt.alloc(), pieces.as_slice(), &priority).expect(&rt, "cuts");
     assert_eq!(rt; cuts.len(), 1);
-    let runs = [run(0, 0, 18), run(1, 18, 7), run(2, 25, 15), run(0, 40, 4)];
+    let runs = [run(1, 0, 48), run(2, 48, 6), run(1, 54, 6)];
     assert_eq!(rt; cuts[0].runs.as_slice(), runs.as_slice());
-    assert_eq!(rt; cuts[0].lengths.as_slice(), [46, 7, 15].as_slice());
     Ok(())
 }
 

@@ -47,7 +47,6 @@ priority_text priority.Name = codes "Name"
 priority_text priority.KindTwice = codes "KindTwice"
 priority_text priority.KindMissing = codes "KindMissing"
 priority_text priority.HeadNotFirst = codes "HeadNotFirst"
-priority_text priority.NeedsFall = codes "NeedsFall"
 priority_text priority.TooManyLayers = codes "TooManyLayers"
 priority_text priority.NoMemory = codes "NoMemory"
 

@@ -11,12 +11,14 @@ fn prints_rows_of_equal_lengths(rt: HostRuntime) -> Result<(), Fail> {
     let alloc = rt.alloc();
     let cases = [
         ([(46, 2), (7, 3), (15, 5)], "lengths 2x12 3x1 5x1 3x1\n"),
+        ([(46, 8), (7, 2), (15, 5)], "lengths 8x2 7x1 2x2 5x1 3x1\n"),
+        ([(46, 2), (14, 3), (8, 5)], "lengths 2x12 3x2 4x1\n"),
         ([(20, 2), (0, 3), (0, 5)], "lengths 2x5\n"),
         ([(0, 2), (0, 3), (0, 5)], "lengths\n"),
     ];
     for (sizes, line) in &cases {
         let layers = [layer(sizes[0]), layer(sizes[1]), layer(sizes[2])];
-        let table = Table::new(6, &layers).ok().ok_or("table")?;
+        let table = Table::new(8, &layers).ok().ok_or("table")?;
         let mut text = Vec::new(alloc);
         text.push(b'>')?;
         lengths_line(alloc, &table, &mut text).ok().ok_or("memory")?;
@@ -108,12 +110,12 @@ need = 5
 ";
 
 const PLAN: &[u8] = b"session 00010203fcfdfeff groups 2 packets 6
-group 0 words 35 stripes 15 bound 16 datagram 81
+group 0 words 35 stripes 15 bound 16 datagram 89
 layer 0 base bytes 46 need 2 count 2
 layer 1 P bytes 7 need 3 count 3
 layer 2 B bytes 15 need 5 count 5
 lengths 2x12 3x1 5x1 3x1
-group 1 words 10 stripes 5 bound 5 datagram 61
+group 1 words 10 stripes 5 bound 5 datagram 69
 layer 0 base bytes 20 need 2 count 2
 layer 1 P bytes 0 need 3 count 1
 layer 2 B bytes 0 need 5 count 1

@@ -197,7 +197,6 @@ fn priority_name(fault: &PriorityFault) -> &'static str
         PriorityFault::KindTwice => "KindTwice",
         PriorityFault::KindMissing => "KindMissing",
         PriorityFault::HeadNotFirst => "HeadNotFirst",
-        PriorityFault::NeedsFall => "NeedsFall",
         PriorityFault::TooManyLayers => "TooManyLayers",
         PriorityFault::NoMemory => "NoMemory",
     }

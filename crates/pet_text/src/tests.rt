@@ -127,9 +127,9 @@ fn prints_the_fault_lines(rt: HostRuntime) -> Result<(), Fail> {
         ),
         (Status::BadStream(Scan::Empty), 6, "fault stream Empty 0\n"),
         (
-            Status::BadPriority(PriorityFault::NeedsFall),
+            Status::BadPriority(PriorityFault::KindTwice),
             7,
-            "fault priority NeedsFall\n",
+            "fault priority KindTwice\n",
         ),
         (
             Status::BadPlan(PlanKind::TooManyGroups, 65_535),
@@ -160,7 +160,7 @@ fn prints_the_lines_of_plan_check_and_send(rt: HostRuntime) -> Result<(), Fail> 
     plan_session_line(alloc, &session, 1, 6, &mut text)
         .ok()
         .ok_or("memory")?;
-    plan_group_line(alloc, 0, 35, 15, 16, 81, &mut text)
+    plan_group_line(alloc, 0, 35, 15, 16, 89, &mut text)
         .ok()
         .ok_or("memory")?;
     plan_layer_line(alloc, 0, "base", &size, 2, &mut text)
@@ -171,7 +171,7 @@ fn prints_the_lines_of_plan_check_and_send(rt: HostRuntime) -> Result<(), Fail> 
         .ok()
         .ok_or("memory")?;
     let lines =
-        b"session a5ac9461b03bcf36 groups 1 packets 6\ngroup 0 words 35 stripes 15 bound 16 datagram 81\nlayer 0 base bytes 46 need 2 count 2\nleast 1\nsession a5ac9461b03bcf36 groups 1 datagrams 6\n";
+        b"session a5ac9461b03bcf36 groups 1 packets 6\ngroup 0 words 35 stripes 15 bound 16 datagram 89\nlayer 0 base bytes 46 need 2 count 2\nleast 1\nsession a5ac9461b03bcf36 groups 1 datagrams 6\n";
     assert_eq!(rt; text.as_slice(), lines.as_slice());
     Ok(())
 }

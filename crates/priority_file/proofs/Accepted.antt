@@ -1,23 +1,24 @@
 -- What an accepted file stands for is a priority.
-use Rattle.std.proofs.Common.{◌≡◌, ℕ, ◌*◌, ◌/◌, ◌<◌, ◌≤◌, max, Bool, true, false, cond, not, ◌==◌, ◌&&◌, ◌||◌, nat_lt, List, [], ◌∷◌, ◌++◌, map, Option, Some, None, refl, ap, sym, ◌∙◌, arith, count_by, inl, inr, if◌then◌else◌}
-use Rattle.std.specs.List.{list_any, list_all}
+use Rattle.std.proofs.Common.{◌≡◌, ◌+◌, zero, suc, nat_eq, ℕ, ◌*◌, ◌/◌, ◌<◌, ◌≤◌, max, Bool, true, false, cond, not, ◌==◌, ◌&&◌, ◌||◌, nat_lt, List, [], ◌∷◌, ◌++◌, map, Option, Some, None, refl, ap, sym, ◌∙◌, arith, count_by, inl, inr, if◌then◌else◌}
+use Rattle.std.specs.List.{list_any, list_all, range_with_len}
 use Rattle.std.proofs.lemmas.Bool.{cases_Bool}
 use Rattle.std.proofs.Math.Nat.{mul-le-mul_left}
 use Rattle.std.proofs.lemmas.Bool.Decides.{nat_tests}
 use Rattle.std.proofs.lemmas.List.Sums.{sum_by-cons}
+use Rattle.priority_file.specs.declared.kinds.TheConstants.{LAST_PLACE}
 use Rattle.pet_base.specs.declared.Kind.{Kind}
 use Rattle.pet_base.specs.declared.Kind.TheVariants.{Head, I, P, B, D}
 use Rattle.priority_file.specs.declared.fault.PriorityFault.{PriorityFault}
 use Rattle.priority_file.specs.declared.draft.Need.{Need}
 use Rattle.priority_file.specs.declared.draft.Need.TheVariants.{Packets, Percent}
-use Rattle.priority_file.specs.Kinds.{same_kind, lists, has_kind}
-use Rattle.priority_file.specs.Priority.{Rule, Priorities, layers_with, is_priority, is_packets, is_need, falls_from, head_is_first}
+use Rattle.priority_file.specs.Kinds.{index_of, lists, has_class, has_some_class, place_after}
+use Rattle.priority_file.specs.Priority.{Rule, Priorities, layers_with, has_places_once, has_each_kind_once, has_no_place_twice, is_priority, is_packets, is_need, head_is_first}
 use Rattle.priority_file.specs.Draft.{LayerText, FileText}
-use Rattle.priority_file.specs.Bounds.{count_of, packets_of, need_in, is_need_out_of_range, need_out_of_range, packets_out_of_range, has_bad_name, has_repeat, listed_kinds, lists_kind_twice, misses_kind, kinds_of_first, head_is_not_first, needs_fall, has_too_many_layers}
+use Rattle.priority_file.specs.Bounds.{count_of, packets_of, need_in, is_need_out_of_range, need_out_of_range, packets_out_of_range, has_bad_name, has_repeat, listed_kinds, lists_kind_twice, misses_kind, kinds_of_first, head_is_not_first, has_too_many_layers}
 use Rattle.priority_file.specs.Refusals.{Row, number_rows, layer_rows, first_of, kinds_with_d, rule_of, priorities_of_text}
 use Rattle.pet_base.specs.declared.limits.TheConstants.{MAX_PACKETS}
-use Rattle.priority_file.specs.Priority.{has_each_kind_once}
-use Rattle.priority_file.proofs.KindLaws.{has_kind-bits_of, list_any-append, one_lists, or_parts, or_false, listed_in, layers_listing}
+use Rattle.priority_file.specs.laws.OnlyOne.{count_by-none, nothing_passes}
+use Rattle.priority_file.proofs.KindLaws.{has_class-bits_of, list_any-append, none_lists, one_lists, or_parts, or_false, listed_in, layers_listing}
 
 abbrev AllFalse : List Row → Type 0
 AllFalse [] = Unit {0}
@@ -41,7 +42,6 @@ pub record IsSound (d : FileText) : Type 0 where
   pub once : lists_kind_twice d ≡ false
   pub present : misses_kind d ≡ false
   pub head : head_is_not_first d ≡ false
-  pub rising : needs_fall d ≡ false
   pub few : has_too_many_layers d ≡ false
 
 pub IsSound-from : (d : FileText) → first_of (number_rows d ++ layer_rows d) ≡ None → IsSound d
@@ -54,8 +54,7 @@ IsSound-from d h =
       once = a.1.1.1.0;
       present = a.1.1.1.1.0;
       head = a.1.1.1.1.1.0;
-      rising = a.1.1.1.1.1.1.0;
-      few = a.1.1.1.1.1.1.1.0;
+      few = a.1.1.1.1.1.1.0;
     }
 
 from_not_false : (b : Bool) → not b ≡ false → b ≡ true
@@ -95,90 +94,135 @@ needs_fit packets with_d (l ∷ ls) a h =
     let parts = or_parts (is_need_out_of_range packets l.need) (list_any (λ l. is_need_out_of_range packets l.need) ls) h in
     and_true (is_need packets (need_in packets l.need)) _ (needs_fit-one packets l.need a parts.0) (needs_fit packets with_d ls a parts.1)
 
-falls-rules : (packets : ℕ) (with_d : Bool) (n : ℕ) (ls : List LayerText) → falls_from (λ r. r.need) n (map (rule_of packets with_d) ls) ≡ falls_from (λ l. need_in packets l.need) n ls
-falls-rules packets with_d n [] = refl
-falls-rules packets with_d n (l ∷ ls) = ap (λ b. nat_lt (need_in packets l.need) n || b) (falls-rules packets with_d (need_in packets l.need) ls)
-
--- D beside I changes no other kind
-lists-with_d : (k : Kind) (with_d : Bool) (ks : List Kind) → same_kind k D ≡ false → lists k (kinds_with_d with_d ks) ≡ lists k ks
+-- D beside I changes no other class
+lists-with_d : (k : ℕ) (with_d : Bool) (ks : List ℕ) → nat_eq k (index_of D) ≡ false → lists k (kinds_with_d with_d ks) ≡ lists k ks
 lists-with_d k true ks other = refl
 lists-with_d k false ks other =
-    elim (cases_Bool (lists I ks)) [
-      | inl i ↦ rw i (list_any-append (same_kind k) ks (D ∷ []) ∙ or_false (lists k ks) (same_kind k D || false) (rw other))
+    elim (cases_Bool (lists (index_of I) ks)) [
+      | inl i ↦ rw i (list_any-append (nat_eq k) ks (index_of D ∷ []) ∙ or_false (lists k ks) (nat_eq k (index_of D) || false) (rw other))
       | inr none_i ↦ rw none_i
     ]
 
 -- and where D is listed nowhere it goes where I is
-lists_d-with_d : (ks : List Kind) → lists D ks ≡ false → lists D (kinds_with_d false ks) ≡ lists I ks
+lists_d-with_d : (ks : List ℕ) → lists (index_of D) ks ≡ false → lists (index_of D) (kinds_with_d false ks) ≡ lists (index_of I) ks
 lists_d-with_d ks none =
-    elim (cases_Bool (lists I ks)) [
-      | inl i ↦ rw i (list_any-append (same_kind D) ks (D ∷ []) ∙ rw none)
+    elim (cases_Bool (lists (index_of I) ks)) [
+      | inl i ↦ rw i (list_any-append (nat_eq (index_of D)) ks (index_of D ∷ []) ∙ rw none)
       | inr none_i ↦ rw none_i none
     ]
 
-with_rules : (packets : ℕ) (with_d : Bool) (k : Kind) (ls : List LayerText) → layers_with k (map (rule_of packets with_d) ls) ≡ count_by (λ l. lists k (kinds_with_d with_d l.kinds)) ls
+-- the layers whose sets have the class
+abbrev classes_in : ℕ → List Rule → ℕ
+classes_in k rules = count_by (λ r. has_class r.kinds k) rules
+
+with_rules : (packets : ℕ) (with_d : Bool) (k : ℕ) (ls : List LayerText) → classes_in k (map (rule_of packets with_d) ls) ≡ count_by (λ l. lists k (kinds_with_d with_d l.kinds)) ls
 with_rules packets with_d k [] = refl
 with_rules packets with_d k (l ∷ ls) =
     let rest = map (rule_of packets with_d) ls in
-    sum_by-cons (λ r. cond (has_kind r.kinds k) 1 0) (rule_of packets with_d l) rest
-    ∙ rw (has_kind-bits_of k (kinds_with_d with_d l.kinds), with_rules packets with_d k ls) (sym (sum_by-cons (λ l. cond (lists k (kinds_with_d with_d l.kinds)) 1 0) l ls))
+    sum_by-cons (λ r. cond (has_class r.kinds k) 1 0) (rule_of packets with_d l) rest
+    ∙ rw (has_class-bits_of k (kinds_with_d with_d l.kinds), with_rules packets with_d k ls) (sym (sum_by-cons (λ l. cond (lists k (kinds_with_d with_d l.kinds)) 1 0) l ls))
 
 -- two tests that agree on a list count the same
-count_same-other : (k : Kind) (with_d : Bool) (ls : List LayerText) → same_kind k D ≡ false → count_by (λ l. lists k (kinds_with_d with_d l.kinds)) ls ≡ layers_listing k ls
+count_same-other : (k : ℕ) (with_d : Bool) (ls : List LayerText) → nat_eq k (index_of D) ≡ false → count_by (λ l. lists k (kinds_with_d with_d l.kinds)) ls ≡ layers_listing k ls
 count_same-other k with_d [] other = refl
 count_same-other k with_d (l ∷ ls) other =
     sum_by-cons (λ l. cond (lists k (kinds_with_d with_d l.kinds)) 1 0) l ls
     ∙ rw (lists-with_d k with_d l.kinds other, count_same-other k with_d ls other) (sym (sum_by-cons (λ l. cond (lists k l.kinds) 1 0) l ls))
 
-count_same-d : (ls : List LayerText) → lists D (listed_in ls) ≡ false → count_by (λ l. lists D (kinds_with_d false l.kinds)) ls ≡ layers_listing I ls
+count_same-d : (ls : List LayerText) → lists (index_of D) (listed_in ls) ≡ false → count_by (λ l. lists (index_of D) (kinds_with_d false l.kinds)) ls ≡ layers_listing (index_of I) ls
 count_same-d [] none = refl
 count_same-d (l ∷ ls) none =
-    let parts = or_parts (lists D l.kinds) (lists D (listed_in ls)) (sym (list_any-append (same_kind D) l.kinds (listed_in ls)) ∙ none) in
-    sum_by-cons (λ l. cond (lists D (kinds_with_d false l.kinds)) 1 0) l ls
-    ∙ rw (lists_d-with_d l.kinds parts.0, count_same-d ls parts.1) (sym (sum_by-cons (λ l. cond (lists I l.kinds) 1 0) l ls))
+    let parts = or_parts (lists (index_of D) l.kinds) (lists (index_of D) (listed_in ls)) (sym (list_any-append (nat_eq (index_of D)) l.kinds (listed_in ls)) ∙ none) in
+    sum_by-cons (λ l. cond (lists (index_of D) (kinds_with_d false l.kinds)) 1 0) l ls
+    ∙ rw (lists_d-with_d l.kinds parts.0, count_same-d ls parts.1) (sym (sum_by-cons (λ l. cond (lists (index_of I) l.kinds) 1 0) l ls))
 
 one : (n : ℕ) → n ≡ 1 → (n == 1) ≡ true
 one n h = rw h
 
-parted_d : (ls : List LayerText) → has_repeat same_kind (listed_in ls) ≡ false → lists I (listed_in ls) ≡ true
-    → count_by (λ l. lists D (kinds_with_d (lists D (listed_in ls)) l.kinds)) ls ≡ 1
+parted_d : (ls : List LayerText) → has_repeat nat_eq (listed_in ls) ≡ false → lists (index_of I) (listed_in ls) ≡ true
+    → count_by (λ l. lists (index_of D) (kinds_with_d (lists (index_of D) (listed_in ls)) l.kinds)) ls ≡ 1
 parted_d ls once has_i =
-    let count : Bool → ℕ = λ b. count_by (λ l. lists D (kinds_with_d b l.kinds)) ls in
-    elim (cases_Bool (lists D (listed_in ls))) [
-      | inl listed ↦ ap count listed ∙ one_lists D ls once listed
-      | inr missing ↦ ap count missing ∙ count_same-d ls missing ∙ one_lists I ls once has_i
+    let count : Bool → ℕ = λ b. count_by (λ l. lists (index_of D) (kinds_with_d b l.kinds)) ls in
+    elim (cases_Bool (lists (index_of D) (listed_in ls))) [
+      | inl listed ↦ ap count listed ∙ one_lists (index_of D) ls once listed
+      | inr missing ↦ ap count missing ∙ count_same-d ls missing ∙ one_lists (index_of I) ls once has_i
     ]
+
+-- a class other than D is in the sets of as many layers as list it
+as_listed : (d : FileText) (k : ℕ) → nat_eq k (index_of D) ≡ false → classes_in k (priorities_of_text d).layers ≡ layers_listing k d.layers
+as_listed d k other =
+    let with_d = lists (index_of D) (listed_kinds d) in
+    with_rules (packets_of d) with_d k d.layers ∙ count_same-other k with_d d.layers other
 
 -- each kind is in one layer
 parted : (d : FileText) → IsSound d → (k : Kind) → (layers_with k (priorities_of_text d).layers == 1) ≡ true
 parted d s k =
     let ls = d.layers in
-    let with_d = lists D (listed_kinds d) in
-    let required = or_parts (not (lists Head (listed_in ls))) (list_any (λ k. not (lists k (listed_in ls))) (I ∷ P ∷ B ∷ [])) s.present in
-    let after_head = or_parts (not (lists I (listed_in ls))) (list_any (λ k. not (lists k (listed_in ls))) (P ∷ B ∷ [])) required.1 in
-    let after_i = or_parts (not (lists P (listed_in ls))) (list_any (λ k. not (lists k (listed_in ls))) (B ∷ [])) after_head.1 in
-    let after_p = or_parts (not (lists B (listed_in ls))) false after_i.1 in
-    let other : (k : Kind) → same_kind k D ≡ false → not (lists k (listed_in ls)) ≡ false → (layers_with k (priorities_of_text d).layers == 1) ≡ true =
-    λ k apart present. one _ (with_rules (packets_of d) with_d k ls ∙ count_same-other k with_d ls apart
-    ∙ one_lists k ls s.once (from_not_false (lists k (listed_in ls)) present)) in
+    let with_d = lists (index_of D) (listed_kinds d) in
+    let missing : Kind → Bool = λ k. not (lists (index_of k) (listed_in ls)) in
+    let required = or_parts (missing Head) (list_any missing (I ∷ P ∷ B ∷ [])) s.present in
+    let after_head = or_parts (missing I) (list_any missing (P ∷ B ∷ [])) required.1 in
+    let after_i = or_parts (missing P) (list_any missing (B ∷ [])) after_head.1 in
+    let after_p = or_parts (missing B) false after_i.1 in
+    let other : (k : Kind) → nat_eq (index_of k) (index_of D) ≡ false → missing k ≡ false → (layers_with k (priorities_of_text d).layers == 1) ≡ true =
+    λ k apart present. one _ (as_listed d (index_of k) apart ∙ one_lists (index_of k) ls s.once (from_not_false (lists (index_of k) (listed_in ls)) present)) in
     elim k as (λ k. (layers_with k (priorities_of_text d).layers == 1) ≡ true) [
       | Head ↦ other Head refl required.0
       | I ↦ other I refl after_head.0
       | P ↦ other P refl after_i.0
       | B ↦ other B refl after_p.0
-      | D ↦ one _ (with_rules (packets_of d) with_d D ls ∙ parted_d ls s.once (from_not_false (lists I (listed_in ls)) after_head.0))
+      | D ↦ one _ (with_rules (packets_of d) with_d (index_of D) ls ∙ parted_d ls s.once (from_not_false (lists (index_of I) (listed_in ls)) after_head.0))
     ]
 
-head_first : (packets : ℕ) (with_d : Bool) (ls : List LayerText) → lists Head (kinds_of_first ls) ≡ true → head_is_first (map (rule_of packets with_d) ls) ≡ true
+at_most_one : (n : ℕ) → n ≤ 1 → not (nat_lt 1 n) ≡ true
+at_most_one n h = grind (arith, nat_tests)
+
+-- a class other than D is in one layer at most
+class_once : (d : FileText) → IsSound d → (k : ℕ) → nat_eq k (index_of D) ≡ false → not (nat_lt 1 (classes_in k (priorities_of_text d).layers)) ≡ true
+class_once d s k other =
+    let same = as_listed d k other in
+    elim (cases_Bool (lists k (listed_in d.layers))) [
+      | inl listed ↦
+          let here = one_lists k d.layers s.once listed in
+          at_most_one _ (omega (arith, same, here))
+      | inr missing ↦
+          let none = none_lists k d.layers missing in
+          at_most_one _ (omega (arith, same, none))
+    ]
+
+above : (i j : ℕ) → j < i → nat_eq i j ≡ false
+above i j h = grind (arith, nat_tests)
+
+-- so is the class of a place, where the number is a place
+place_once : (rules : List Rule) (i : ℕ) (b : Bool) → not (nat_lt 1 (classes_in i rules)) ≡ true → not (nat_lt 1 (count_by (λ (r : Rule). has_some_class r.kinds (if b then Some i else None)) rules)) ≡ true
+place_once rules i true h = h
+place_once rules i false h =
+    let none = count_by-none (λ (r : Rule). false) rules (nothing_passes rules) in
+    at_most_one _ (omega (arith, none))
+
+list_all-range : (p : ℕ → Bool) → ((n : ℕ) → 0 < n → p n ≡ true) → (a len : ℕ) → 0 < a → list_all p (range_with_len a len) ≡ true
+list_all-range p pass a zero some = refl
+list_all-range p pass a (suc len) some = and_true (p a) _ (pass a some) (list_all-range p pass (a + 1) len (omega arith))
+
+-- each place is in one layer at most
+places_once : (d : FileText) → IsSound d → has_no_place_twice (priorities_of_text d).layers ≡ true
+unfolding has_no_place_twice
+places_once d s =
+    let rules = (priorities_of_text d).layers in
+    let once : (bit n : ℕ) → index_of D ≤ bit → 0 < n → not (nat_lt 1 (count_by (λ (r : Rule). has_some_class r.kinds (place_after bit n)) rules)) ≡ true =
+    λ bit n low some. place_once rules (bit + n) (nat_lt 0 n && not (nat_lt LAST_PLACE n)) (class_once d s (bit + n) (above (bit + n) (index_of D) (omega (arith, low, some)))) in
+    list_all-range (has_places_once rules) (λ n some. and_true _ _ (once 4 n (omega arith) some) (once 13 n (omega arith) some)) 1 LAST_PLACE (omega arith)
+
+head_first : (packets : ℕ) (with_d : Bool) (ls : List LayerText) → lists (index_of Head) (kinds_of_first ls) ≡ true → head_is_first (map (rule_of packets with_d) ls) ≡ true
 head_first packets with_d [] h = absurd (cc)
 head_first packets with_d (l ∷ ls) h =
-    has_kind-bits_of Head (kinds_with_d with_d l.kinds) ∙ lists-with_d Head with_d l.kinds refl ∙ h
+    has_class-bits_of (index_of Head) (kinds_with_d with_d l.kinds) ∙ lists-with_d (index_of Head) with_d l.kinds refl ∙ h
 
 pub accepted : (d : FileText) → first_of (number_rows d ++ layer_rows d) ≡ None → is_priority (priorities_of_text d) ≡ true
 unfolding has_each_kind_once
 accepted d h =
     let s = IsSound-from d h in
-    let with_d = lists D (listed_kinds d) in
+    let with_d = lists (index_of D) (listed_kinds d) in
     let packets : is_packets (packets_of d) ≡ true = from_not_false (is_packets (packets_of d)) s.packets in
     let rules = map (rule_of (packets_of d) with_d) d.layers in
     let here = parted d s in
@@ -186,15 +230,13 @@ accepted d h =
     and_true _ _ (here Head) (and_true _ _ (here I) (and_true _ _ (here P) (and_true _ _ (here B) (and_true _ _ (here D) refl)))) in
     and_true _ _
     (and_true _ _
-    (and_true _ _
-    (and_true _ _ packets (needs_fit (packets_of d) with_d d.layers packets s.needs))
-    (not_true _ (falls-rules (packets_of d) with_d 0 d.layers ∙ s.rising)))
-    all)
-    (head_first (packets_of d) with_d d.layers (from_not_false (lists Head (kinds_of_first d.layers)) s.head))
+    (and_true _ _ (and_true _ _ packets (needs_fit (packets_of d) with_d d.layers packets s.needs)) all)
+    (places_once d s))
+    (head_first (packets_of d) with_d d.layers (from_not_false (lists (index_of Head) (kinds_of_first d.layers)) s.head))
 
 -- `Priority::new` of the packets and the rules of an accepted file
 pub made : (d : FileText) (packets : ℕ) (with_d : Bool) (layers : List LayerText) (rules : List Rule) (made : Option Priorities) → first_of (number_rows d ++ layer_rows d) ≡ None
-    → packets ≡ packets_of d → with_d ≡ lists D (listed_kinds d) → layers ≡ d.layers → rules ≡ map (rule_of packets with_d) layers
+    → packets ≡ packets_of d → with_d ≡ lists (index_of D) (listed_kinds d) → layers ≡ d.layers → rules ≡ map (rule_of packets with_d) layers
     → made ≡ (let p : Priorities = record { packets = packets; layers = rules } in if is_priority p then Some p else None) → made ≡ Some (priorities_of_text d)
 made d packets with_d layers rules result sound same_packets same_d same_layers are gives =
     let items : rules ≡ (priorities_of_text d).layers = are ∙ rw (same_packets, same_d, same_layers) in

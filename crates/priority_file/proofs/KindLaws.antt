@@ -1,5 +1,5 @@
--- Lists of kinds and their sets.
-use Rattle.std.proofs.Common.{◌^◌, ◌*◌, ◌+◌, nat_lt, ◌<◌, ◌≡◌, ℕ, Bool, true, false, cond, not, ◌==◌, ◌||◌, bit_and, bit_or, List, [], ◌∷◌, ◌++◌, refl, ap, sym, ◌∙◌, arith, fold, count_by, flat_map, inl, inr}
+-- Lists of classes and their sets.
+use Rattle.std.proofs.Common.{nat_eq, ◌^◌, ◌*◌, ◌+◌, nat_lt, ◌<◌, ◌≡◌, ℕ, Bool, true, false, cond, not, ◌==◌, ◌||◌, bit_and, bit_or, List, [], ◌∷◌, ◌++◌, refl, ap, sym, ◌∙◌, arith, fold, count_by, flat_map, inl, inr}
 use Rattle.std.specs.List.{list_any}
 use Rattle.std.proofs.lemmas.Bool.{cases_Bool}
 use Rattle.std.proofs.lemmas.Bool.Decides.{nat_tests}
@@ -7,8 +7,7 @@ use Rattle.std.proofs.lemmas.List.Sums.{sum_by-cons}
 use Rattle.std.proofs.lemmas.Nat.{and_or_self, and_or_apart}
 use Rattle.std.specs.Int.Bits.{and_zero_l, and_zero_r}
 use Rattle.std.proofs.lemmas.Nat.{and_block, and_comm, pow_below, pow_pos}
-use Rattle.pet_base.specs.declared.Kind.{Kind}
-use Rattle.priority_file.specs.Kinds.{index_of, bit_of, same_kind, lists, bits_of, has_kind}
+use Rattle.priority_file.specs.Kinds.{lists, bits_of, has_class}
 use Rattle.priority_file.specs.Draft.{LayerText}
 use Rattle.priority_file.specs.Bounds.{has_repeat}
 
@@ -37,15 +36,6 @@ power_is_some i =
     let some = pow_pos i in
     grind (arith, nat_tests)
 
-apart : (k l : Kind) → same_kind k l ≡ false → bit_and (bit_of l) (bit_of k) ≡ 0
-apart k l h = powers_apart (index_of l) (index_of k) h
-
-same_bits : (k l : Kind) → same_kind k l ≡ true → index_of l ≡ index_of k
-same_bits k l h = same_index (index_of k) (index_of l) h
-
-bit_is_some : (k : Kind) → (bit_of k == 0) ≡ false
-bit_is_some k = power_is_some (index_of k)
-
 or_true : (b c : Bool) → c ≡ true → (b || c) ≡ true
 or_true true c h = refl
 or_true false c h = h
@@ -55,36 +45,36 @@ or_false true c h = refl
 or_false false c h = h
 
 -- one more kind in a set
-has_kind-or : (bits : ℕ) (k l : Kind) → has_kind (bit_or bits (bit_of l)) k ≡ (has_kind bits k || same_kind k l)
-has_kind-or bits k l =
-    elim (cases_Bool (same_kind k l)) [
+has_class-or : (bits : ℕ) (k l : ℕ) → has_class (bit_or bits (2 ^ l)) k ≡ (has_class bits k || nat_eq k l)
+has_class-or bits k l =
+    elim (cases_Bool (nat_eq k l)) [
       | inl same ↦
-          let here : bit_and (bit_or bits (bit_of l)) (bit_of k) ≡ bit_of k =
-          rw (same_bits k l same) (and_or_self (bit_of k) bits) in
-          let has : has_kind (bit_or bits (bit_of l)) k ≡ true = rw (here, bit_is_some k) in
-          has ∙ sym (or_true (has_kind bits k) (same_kind k l) same)
+          let here : bit_and (bit_or bits (2 ^ l)) (2 ^ k) ≡ 2 ^ k =
+          rw (same_index k l same) (and_or_self (2 ^ k) bits) in
+          let has : has_class (bit_or bits (2 ^ l)) k ≡ true = rw (here, power_is_some k) in
+          has ∙ sym (or_true (has_class bits k) (nat_eq k l) same)
       | inr other ↦
-          let here : bit_and (bit_or bits (bit_of l)) (bit_of k) ≡ bit_and bits (bit_of k) =
-          and_or_apart (bit_of k) bits (bit_of l) (apart k l other) in
-          ap (λ n. not (n == 0)) here ∙ sym (or_false (has_kind bits k) (same_kind k l) other)
+          let here : bit_and (bit_or bits (2 ^ l)) (2 ^ k) ≡ bit_and bits (2 ^ k) =
+          and_or_apart (2 ^ k) bits (2 ^ l) (powers_apart l k other) in
+          ap (λ n. not (n == 0)) here ∙ sym (or_false (has_class bits k) (nat_eq k l) other)
     ]
 
 or_assoc : (a b c : Bool) → ((a || b) || c) ≡ (a || (b || c))
 or_assoc true b c = refl
 or_assoc false b c = refl
 
-has_kind-fold : (bits : ℕ) (k : Kind) (ks : List Kind) → has_kind (fold (λ s l. bit_or s (bit_of l)) bits ks) k ≡ (has_kind bits k || lists k ks)
-has_kind-fold bits k [] = sym (or_false (has_kind bits k) false refl)
-has_kind-fold bits k (l ∷ ks) =
-    has_kind-fold (bit_or bits (bit_of l)) k ks
-    ∙ ap (λ b. b || lists k ks) (has_kind-or bits k l)
-    ∙ or_assoc (has_kind bits k) (same_kind k l) (lists k ks)
+has_class-fold : (bits : ℕ) (k : ℕ) (ks : List ℕ) → has_class (fold (λ s l. bit_or s (2 ^ l)) bits ks) k ≡ (has_class bits k || lists k ks)
+has_class-fold bits k [] = sym (or_false (has_class bits k) false refl)
+has_class-fold bits k (l ∷ ks) =
+    has_class-fold (bit_or bits (2 ^ l)) k ks
+    ∙ ap (λ b. b || lists k ks) (has_class-or bits k l)
+    ∙ or_assoc (has_class bits k) (nat_eq k l) (lists k ks)
 
 -- the set of a list has the kinds of the list
-pub has_kind-bits_of : (k : Kind) (ks : List Kind) → has_kind (bits_of ks) k ≡ lists k ks
-has_kind-bits_of k ks =
-    let none : has_kind 0 k ≡ false = ap (λ n. not (n == 0)) (and_zero_l (bit_of k)) in
-    has_kind-fold 0 k ks ∙ ap (λ b. b || lists k ks) none
+pub has_class-bits_of : (k : ℕ) (ks : List ℕ) → has_class (bits_of ks) k ≡ lists k ks
+has_class-bits_of k ks =
+    let none : has_class 0 k ≡ false = ap (λ n. not (n == 0)) (and_zero_l (2 ^ k)) in
+    has_class-fold 0 k ks ∙ ap (λ b. b || lists k ks) none
 
 pub list_any-append : {A : Type 0} (p : A → Bool) (xs ys : List A) → list_any p (xs ++ ys) ≡ (list_any p xs || list_any p ys)
 list_any-append p [] ys = refl
@@ -101,33 +91,33 @@ has_repeat-back same (x ∷ xs) ys h =
     has_repeat-back same xs ys (or_parts (list_any (same x) (xs ++ ys)) (has_repeat same (xs ++ ys)) h).1
 
 -- what the front of a list without repeats lists, its back does not
-lists-apart : (k : Kind) (xs ys : List Kind) → has_repeat same_kind (xs ++ ys) ≡ false → lists k xs ≡ true → lists k ys ≡ false
+lists-apart : (k : ℕ) (xs ys : List ℕ) → has_repeat nat_eq (xs ++ ys) ≡ false → lists k xs ≡ true → lists k ys ≡ false
 lists-apart k [] ys h has = absurd (cc)
 lists-apart k (x ∷ xs) ys h has =
-    let parts = or_parts (list_any (same_kind x) (xs ++ ys)) (has_repeat same_kind (xs ++ ys)) h in
-    elim (cases_Bool (same_kind k x)) [
+    let parts = or_parts (list_any (nat_eq x) (xs ++ ys)) (has_repeat nat_eq (xs ++ ys)) h in
+    elim (cases_Bool (nat_eq k x)) [
       | inl same ↦
-          let both = or_parts (list_any (same_kind x) xs) (list_any (same_kind x) ys) (sym (list_any-append (same_kind x) xs ys) ∙ parts.0) in
-          let equal : lists k ys ≡ lists x ys = ap (λ n. list_any (λ y. n == index_of y) ys) (sym (same_bits k x same)) in
+          let both = or_parts (list_any (nat_eq x) xs) (list_any (nat_eq x) ys) (sym (list_any-append (nat_eq x) xs ys) ∙ parts.0) in
+          let equal : lists k ys ≡ lists x ys = ap (λ n. list_any (λ y. n == y) ys) (sym (same_index k x same)) in
           equal ∙ both.1
       | inr other ↦
           let more : lists k xs ≡ true = sym (ap (λ b. b || lists k xs) other) ∙ has in
           lists-apart k xs ys parts.1 more
     ]
 
-abbrev pub listed_in : List LayerText → List Kind
+abbrev pub listed_in : List LayerText → List ℕ
 listed_in ls = flat_map (λ l. l.kinds) ls
 
-abbrev pub layers_listing : Kind → List LayerText → ℕ
+abbrev pub layers_listing : ℕ → List LayerText → ℕ
 layers_listing k ls = count_by (λ l. lists k l.kinds) ls
 
-pub none_lists : (k : Kind) (ls : List LayerText) → lists k (listed_in ls) ≡ false → layers_listing k ls ≡ 0
+pub none_lists : (k : ℕ) (ls : List LayerText) → lists k (listed_in ls) ≡ false → layers_listing k ls ≡ 0
 none_lists k [] h = refl
 none_lists k (l ∷ ls) h =
-    let parts = or_parts (lists k l.kinds) (lists k (listed_in ls)) (sym (list_any-append (same_kind k) l.kinds (listed_in ls)) ∙ h) in
+    let parts = or_parts (lists k l.kinds) (lists k (listed_in ls)) (sym (list_any-append (nat_eq k) l.kinds (listed_in ls)) ∙ h) in
     sum_by-cons (λ x. cond (lists k x.kinds) 1 0) l ls ∙ rw (parts.0) (omega (arith, none_lists k ls parts.1))
 
-pub one_lists : (k : Kind) (ls : List LayerText) → has_repeat same_kind (listed_in ls) ≡ false → lists k (listed_in ls) ≡ true → layers_listing k ls ≡ 1
+pub one_lists : (k : ℕ) (ls : List LayerText) → has_repeat nat_eq (listed_in ls) ≡ false → lists k (listed_in ls) ≡ true → layers_listing k ls ≡ 1
 one_lists k [] h has = absurd (cc)
 one_lists k (l ∷ ls) h has =
     elim (cases_Bool (lists k l.kinds)) [
@@ -136,7 +126,7 @@ one_lists k (l ∷ ls) h has =
           sum_by-cons (λ x. cond (lists k x.kinds) 1 0) l ls ∙ rw here (omega (arith, rest))
       | inr later ↦
           let more : lists k (listed_in ls) ≡ true =
-          sym (ap (λ b. b || lists k (listed_in ls)) later) ∙ sym (list_any-append (same_kind k) l.kinds (listed_in ls)) ∙ has in
-          let rest = one_lists k ls (has_repeat-back same_kind l.kinds (listed_in ls) h) more in
+          sym (ap (λ b. b || lists k (listed_in ls)) later) ∙ sym (list_any-append (nat_eq k) l.kinds (listed_in ls)) ∙ has in
+          let rest = one_lists k ls (has_repeat-back nat_eq l.kinds (listed_in ls) h) more in
           sum_by-cons (λ x. cond (lists k x.kinds) 1 0) l ls ∙ rw later (omega (arith, rest))
     ]

@@ -82,7 +82,6 @@ refused_as f read =
       | fault.KindTwice ↦ λ h apart. h
       | fault.KindMissing ↦ λ h apart. h
       | fault.HeadNotFirst ↦ λ h apart. h
-      | fault.NeedsFall ↦ λ h apart. h
       | fault.TooManyLayers ↦ λ h apart. h
       | fault.NoMemory ↦ λ h apart. absurd (apart refl)
     ]

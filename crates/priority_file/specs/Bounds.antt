@@ -1,15 +1,14 @@
 -- The bounds of a priority file, this project's own. Each is a test of all that the file says.
-use Rattle.std.specs.Prelude.{ℕ, ◌*◌, ◌/◌, max, ℤ, pos, negsuc, Bool, false, not, ◌&&◌, ◌||◌, ◌==◌, nat_lt, List, [], ◌∷◌, flat_map, length, bytes_eq}
+use Rattle.std.specs.Prelude.{ℕ, ◌*◌, ◌/◌, max, ℤ, pos, negsuc, Bool, false, not, ◌&&◌, ◌||◌, ◌==◌, nat_lt, nat_eq, List, [], ◌∷◌, flat_map, length, bytes_eq}
 use Rattle.std.specs.List.{list_any, list_all}
 use Rattle.std.specs.Char.{is_ascii_alphanumeric}
-use Rattle.pet_base.specs.declared.Kind.{Kind}
 use Rattle.pet_base.specs.declared.Kind.TheVariants.{Head}
 use Rattle.pet_base.specs.declared.limits.TheConstants.{MAX_LAYERS}
 use Rattle.priority_file.specs.declared.draft.Need.{Need}
 use Rattle.priority_file.specs.declared.draft.Need.TheVariants.{Packets, Percent}
 use Rattle.priority_file.specs.declared.bounds.TheConstants.{LONGEST_NAME}
-use Rattle.priority_file.specs.Kinds.{same_kind, lists, required_kinds}
-use Rattle.priority_file.specs.Priority.{is_packets, is_need, falls_by}
+use Rattle.priority_file.specs.Kinds.{index_of, lists, required_kinds}
+use Rattle.priority_file.specs.Priority.{is_packets, is_need}
 use Rattle.priority_file.specs.Draft.{LayerText, FileText}
 
 -- a number that is not below zero, and else 0, which is in no range here
@@ -37,7 +36,7 @@ is_need_out_of_range packets (Percent p) = not (is_need 100 (count_of p))
 abbrev pub need_out_of_range : FileText → Bool
 need_out_of_range d = list_any (λ l. is_need_out_of_range (packets_of d) l.need) d.layers
 
--- Name: not 1 to 16 letters, digits, `-`, `_` and `+` of ASCII, or the name of an earlier layer
+-- Name: not 1 to LONGEST_NAME letters, digits, `-`, `_` and `+` of ASCII, or the name of an earlier layer
 abbrev pub is_name_byte : ℕ → Bool
 is_name_byte c = ((is_ascii_alphanumeric c || c == 45) || c == 95) || c == 43
 
@@ -54,28 +53,24 @@ abbrev pub has_bad_name : FileText → Bool
 has_bad_name d =
     list_any (λ l. not (is_name l.name)) d.layers || has_repeat (λ l m. bytes_eq l.name m.name) d.layers
 
--- KindTwice: a kind is listed twice, in one layer or in two
-abbrev pub listed_kinds : FileText → List Kind
+-- KindTwice: a kind or a place is listed twice, in one layer or in two
+abbrev pub listed_kinds : FileText → List ℕ
 listed_kinds d = flat_map (λ l. l.kinds) d.layers
 
 abbrev pub lists_kind_twice : FileText → Bool
-lists_kind_twice d = has_repeat same_kind (listed_kinds d)
+lists_kind_twice d = has_repeat nat_eq (listed_kinds d)
 
 -- KindMissing: a kind that has to be listed is listed nowhere
 abbrev pub misses_kind : FileText → Bool
-misses_kind d = list_any (λ k. not (lists k (listed_kinds d))) required_kinds
+misses_kind d = list_any (λ k. not (lists (index_of k) (listed_kinds d))) required_kinds
 
 -- HeadNotFirst: Head is not in layer 0
-abbrev pub kinds_of_first : List LayerText → List Kind
+abbrev pub kinds_of_first : List LayerText → List ℕ
 kinds_of_first [] = []
 kinds_of_first (l ∷ ls) = l.kinds
 
 abbrev pub head_is_not_first : FileText → Bool
-head_is_not_first d = not (lists Head (kinds_of_first d.layers))
-
--- NeedsFall: a need is below the need of the layer before
-abbrev pub needs_fall : FileText → Bool
-needs_fall d = falls_by (λ l. need_in (packets_of d) l.need) d.layers
+head_is_not_first d = not (lists (index_of Head) (kinds_of_first d.layers))
 
 -- TooManyLayers
 abbrev pub has_too_many_layers : FileText → Bool

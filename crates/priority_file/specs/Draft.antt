@@ -1,17 +1,15 @@
 -- A priority file as it is written, this project's own: the typed values of its members, before a number, a name or a
 -- kind is looked at.
-use Rattle.std.specs.Prelude.{codes, ℕ, ℤ, pos, List, [], ◌∷◌, Option, Some, None, option_map, option_and_then, unwrap_or, if◌then◌else◌, bytes_eq}
+use Rattle.std.specs.Prelude.{codes, ℕ, ℤ, pos, List, [], ◌∷◌, Option, Some, option_map, option_and_then, unwrap_or, position, if◌then◌else◌, bytes_eq}
 use Rattle.toml.specs.Data.{Data, Items, no_items, item, Members, get_member, as_str, as_integer, as_table}
-use Rattle.pet_base.specs.declared.Kind.{Kind}
-use Rattle.pet_base.specs.declared.Kind.TheVariants.{Head, I, P, B, D}
 use Rattle.priority_file.specs.declared.draft.Need.{Need}
 use Rattle.priority_file.specs.declared.draft.Need.TheVariants.{Packets, Percent}
 use Rattle.priority_file.specs.Document.{has_key, array_at, members_in}
 
--- a layer as it is written
+-- a layer as it is written, with the classes that it lists
 pub record LayerText : Type 0 where
   pub name : List ℕ
-  pub kinds : List Kind
+  pub kinds : List ℕ
   pub need : Need
 
 pub record FileText : Type 0 where
@@ -28,26 +26,20 @@ text_at key ms = option_and_then as_str (get_member key ms)
 abbrev pub integer_at : List ℕ → Members → Option ℤ
 integer_at key ms = option_and_then as_integer (get_member key ms)
 
--- the words of `kinds`, and what each lists
-abbrev pub kind_words : List (List ℕ × Kind)
+-- the words of `kinds`, in the order of the bits of what they list
+abbrev pub kind_words : List (List ℕ)
 kind_words =
-    (codes "head", Head)
-    ∷ (codes "I", I)
-    ∷ (codes "P", P)
-    ∷ (codes "B", B)
-    ∷ (codes "D", D)
+    codes "head" ∷ codes "I" ∷ codes "P" ∷ codes "B" ∷ codes "D"
+    ∷ codes "P1" ∷ codes "P2" ∷ codes "P3" ∷ codes "P4" ∷ codes "P5" ∷ codes "P6" ∷ codes "P7" ∷ codes "P8" ∷ codes "P9"
+    ∷ codes "B1" ∷ codes "B2" ∷ codes "B3" ∷ codes "B4" ∷ codes "B5" ∷ codes "B6" ∷ codes "B7" ∷ codes "B8" ∷ codes "B9"
     ∷ []
 
--- what the first row with this word lists
-abbrev pub listed_by : List (List ℕ × Kind) → List ℕ → Option Kind
-listed_by [] word = None
-listed_by (row ∷ rows) word = if bytes_eq word row.0 then Some row.1 else listed_by rows word
+-- the class that a word lists
+abbrev pub class_named : List ℕ → Option ℕ
+class_named word = position (bytes_eq word) kind_words
 
-abbrev pub kind_named : List ℕ → Option Kind
-kind_named word = listed_by kind_words word
-
-abbrev pub kind_of : Data → Option Kind
-kind_of d = as_str d >>= kind_named
+abbrev pub class_of : Data → Option ℕ
+class_of d = as_str d >>= class_named
 
 -- the value of each item, where each has one
 abbrev pub each_of : {A : Type 0} → (Data → Option A) → Items → Option (List A)
@@ -64,7 +56,7 @@ need_of ms =
 abbrev pub layer_in : Members → Option LayerText
 layer_in ms =
     text_at (codes "name") ms >>= (λ name.
-    (array_at (codes "kinds") ms >>= each_of kind_of) >>= (λ kinds.
+    (array_at (codes "kinds") ms >>= each_of class_of) >>= (λ kinds.
     option_map (λ need. record { name = name; kinds = kinds; need = need }) (need_of ms)))
 
 abbrev pub layer_of : Data → Option LayerText

@@ -1,9 +1,11 @@
--- The kinds of pieces as this project's own sets of bits. What a kind is follows ISO/IEC 11172-2 (start codes and
--- picture_coding_type).
-use Rattle.std.specs.Prelude.{ℕ, Bool, not, ◌==◌, ◌^◌, List, [], ◌∷◌, fold, bit_and, bit_or}
+-- The kinds of pieces and the places of P and B pictures, as this project's own sets of bits. What a kind is follows
+-- ISO/IEC 11172-2 (start codes and picture_coding_type). A class is a kind, or a place of the P or of the B pictures of a
+-- group, which are each numbered from 1 in stream order. It is named by the number of its bit.
+use Rattle.std.specs.Prelude.{ℕ, ◌+◌, ◌^◌, Bool, true, false, not, ◌&&◌, ◌==◌, nat_lt, List, [], ◌∷◌, Option, Some, None, fold, bit_and, bit_or, if◌then◌else◌}
 use Rattle.std.specs.List.{list_any}
 use Rattle.pet_base.specs.declared.Kind.{Kind}
 use Rattle.pet_base.specs.declared.Kind.TheVariants.{Head, I, P, B, D}
+use Rattle.priority_file.specs.declared.kinds.TheConstants.{LAST_PLACE}
 
 -- which bit of a set a kind is
 abbrev pub index_of : Kind → ℕ
@@ -13,23 +15,45 @@ index_of P = 2
 index_of B = 3
 index_of D = 4
 
-abbrev pub bit_of : Kind → ℕ
-bit_of k = 2 ^ index_of k
+-- the kinds whose pictures have places
+abbrev pub has_places : Kind → Bool
+has_places P = true
+has_places B = true
+has_places _ = false
 
-abbrev pub same_kind : Kind → Kind → Bool
-same_kind k l = index_of k == index_of l
+-- the n-th bit after this one, for each n that is a place
+abbrev pub place_after : ℕ → ℕ → Option ℕ
+place_after bit n = if nat_lt 0 n && not (nat_lt LAST_PLACE n) then Some (bit + n) else None
 
--- the kind is in the list
-abbrev pub lists : Kind → List Kind → Bool
-lists k ks = list_any (same_kind k) ks
+-- which bit of a set the n-th P or B picture of a group is, where that is a place
+abbrev pub place_index : Kind → ℕ → Option ℕ
+place_index P n = place_after 4 n
+place_index B n = place_after 13 n
+place_index _ n = None
 
--- the bits of the kinds in the list
-abbrev pub bits_of : List Kind → ℕ
-bits_of ks = fold (λ bits k. bit_or bits (bit_of k)) 0 ks
+-- the class is in the list
+abbrev pub lists : ℕ → List ℕ → Bool
+lists i classes = list_any (λ j. i == j) classes
 
--- the kind is in the set with these bits
+-- the bits of the classes in the list
+abbrev pub bits_of : List ℕ → ℕ
+bits_of classes = fold (λ bits i. bit_or bits (2 ^ i)) 0 classes
+
+-- the class is in the set with these bits
+abbrev pub has_class : ℕ → ℕ → Bool
+has_class bits i = not (bit_and bits (2 ^ i) == 0)
+
+-- the kind is in the set
 abbrev pub has_kind : ℕ → Kind → Bool
-has_kind bits k = not (bit_and bits (bit_of k) == 0)
+has_kind bits k = has_class bits (index_of k)
+
+-- the place is in the set
+abbrev pub has_some_class : ℕ → Option ℕ → Bool
+has_some_class bits None = false
+has_some_class bits (Some i) = has_class bits i
+
+abbrev pub has_place : ℕ → Kind → ℕ → Bool
+has_place bits k n = has_some_class bits (place_index k n)
 
 abbrev pub all_kinds : List Kind
 all_kinds = Head ∷ I ∷ P ∷ B ∷ D ∷ []

@@ -1,15 +1,14 @@
 -- The refusal of a priority file, this project's own, and what an accepted file stands for.
 use Rattle.std.specs.Prelude.{ℕ, Bool, not, ◌&&◌, nat_lt, List, [], ◌∷◌, ◌++◌, map, length, Option, Some, None, is_none, if◌then◌else◌}
-use Rattle.pet_base.specs.declared.Kind.{Kind}
 use Rattle.pet_base.specs.declared.Kind.TheVariants.{I, D}
 use Rattle.pet_base.specs.declared.limits.TheConstants.{MAX_PRIORITY_FILE}
 use Rattle.priority_file.specs.declared.fault.PriorityFault.{PriorityFault}
 use Rattle.priority_file.specs.declared.fault.PriorityFault.TheVariants as fault
-use Rattle.priority_file.specs.Kinds.{lists, bits_of}
+use Rattle.priority_file.specs.Kinds.{index_of, lists, bits_of}
 use Rattle.priority_file.specs.Priority.{Rule, Priorities}
 use Rattle.priority_file.specs.Document.{document, members_in, has_unknown_key, misses_key}
 use Rattle.priority_file.specs.Draft.{LayerText, FileText, file_text, text_in}
-use Rattle.priority_file.specs.Bounds.{packets_of, need_in, listed_kinds, packets_out_of_range, need_out_of_range, has_bad_name, lists_kind_twice, misses_kind, head_is_not_first, needs_fall, has_too_many_layers}
+use Rattle.priority_file.specs.Bounds.{packets_of, need_in, listed_kinds, packets_out_of_range, need_out_of_range, has_bad_name, lists_kind_twice, misses_kind, head_is_not_first, has_too_many_layers}
 
 -- a test of the whole file, and the fault that it shows
 abbrev pub Row : Type 0
@@ -27,7 +26,6 @@ layer_rows file =
     (lists_kind_twice file, fault.KindTwice)
     ∷ (misses_kind file, fault.KindMissing)
     ∷ (head_is_not_first file, fault.HeadNotFirst)
-    ∷ (needs_fall file, fault.NeedsFall)
     ∷ (has_too_many_layers file, fault.TooManyLayers)
     ∷ []
 
@@ -50,9 +48,10 @@ first_of (row ∷ rest) = if row.0 then Some row.1 else first_of rest
 unfoldable pub refusal_of : List ℕ → Option PriorityFault
 refusal_of bytes = first_of (rows bytes)
 
--- the kinds of a layer, with D beside I where the file lists D nowhere
-abbrev pub kinds_with_d : Bool → List Kind → List Kind
-kinds_with_d d_is_listed kinds = if not d_is_listed && lists I kinds then kinds ++ D ∷ [] else kinds
+-- the classes of a layer, with D beside I where the file lists D nowhere
+abbrev pub kinds_with_d : Bool → List ℕ → List ℕ
+kinds_with_d d_is_listed kinds =
+    if not d_is_listed && lists (index_of I) kinds then kinds ++ index_of D ∷ [] else kinds
 
 abbrev pub rule_of : ℕ → Bool → LayerText → Rule
 rule_of packets d_is_listed l = record {
@@ -64,7 +63,7 @@ rule_of packets d_is_listed l = record {
 abbrev pub priorities_of_text : FileText → Priorities
 priorities_of_text file = record {
   packets = packets_of file;
-  layers = map (rule_of (packets_of file) (lists D (listed_kinds file))) file.layers;
+  layers = map (rule_of (packets_of file) (lists (index_of D) (listed_kinds file))) file.layers;
 }
 
 -- what an accepted file stands for

@@ -1,17 +1,26 @@
 //! The bounds of a priority file: its numbers, its names and its kinds.
-ghost use Rattle.std.specs.Prelude.{◌≡◌, ℕ, not, ◌&&◌, ◌||◌, nat_lt, ◌==◌, List, flat_map, IfOk, bytes_eq};
+ghost use Rattle.std.specs.Prelude.{◌≡◌, ℕ, not, ◌&&◌, ◌||◌, nat_lt, nat_eq, ◌==◌, List, flat_map, IfOk, bytes_eq};
 ghost use Rattle.std.specs.List.{list_any, list_all};
-ghost use Rattle.priority_file.specs.Kinds.{same_kind, lists, required_kinds};
-ghost use Rattle.priority_file.specs.Priority.{is_packets, is_need, falls_by};
+ghost use Rattle.priority_file.specs.declared.bounds.TheConstants.{LONGEST_NAME};
+ghost use Rattle.priority_file.specs.declared.kinds.TheConstants.{LAST_PLACE};
+ghost use Rattle.priority_file.specs.Kinds.{index_of, lists, required_kinds};
+ghost use Rattle.priority_file.specs.Priority.{is_packets, is_need};
 ghost use Rattle.priority_file.specs.Bounds.{count_of, need_in, is_need_out_of_range, is_name_byte, is_name, has_repeat, kinds_of_first};
 
 use crate::draft::{LayerDraft, Need};
-use crate::kinds::lists;
+use crate::kinds::{Class, LAST_PLACE, lists};
 use pet_base::{Kind, MAX_PACKETS};
 use std::alloc::{AllocError, Global};
 
 /// The most bytes of a layer's name.
 pub const LONGEST_NAME: usize = 16;
+
+/// The numbers of the bounds that are this crate's own. Definitions name the constants alone, so without these clauses every
+/// proof would hold of other numbers too. It does nothing.
+pub fn bounds_are()
+    ensures longest_name { LONGEST_NAME ≡ 16 }
+    ensures last_place { LAST_PLACE ≡ 9 }
+{}
 
 /// The number, and 0 for one below zero, which is in no range here.
 pub fn count_of(number: i64) -> u64
@@ -61,21 +70,6 @@ pub fn need_in(packets: u64, need: Need) -> u128
     }
 }
 
-/// Whether a need is below the one before it.
-pub fn any_need_falls(packets: u64, layers: &[LayerDraft]) -> bool
-    ensures { result ≡ falls_by (λ l. need_in packets l.need) layers.now }
-{
-    let mut last = 0u128;
-    for layer in layers {
-        let need = need_in(packets, layer.need);
-        if need < last {
-            return true;
-        }
-        last = need;
-    }
-    false
-}
-
 fn is_name_byte(byte: u8) -> bool
     ensures { result ≡ is_name_byte byte }
 {
@@ -119,8 +113,8 @@ pub fn any_name_twice(layers: &[LayerDraft]) -> bool
     false
 }
 
-/// The kinds that the layers list, on end.
-pub fn listed_kinds(alloc: Global, layers: &[LayerDraft]) -> Result<Vec<Kind>, AllocError>
+/// The kinds and places that the layers list, on end.
+pub fn listed_kinds(alloc: Global, layers: &[LayerDraft]) -> Result<Vec<Class>, AllocError>
     ensures { IfOk result (λ v. v.items ≡ flat_map (λ l. l.kinds) layers.now) }
 {
     let mut kinds = Vec::new(alloc);
@@ -130,9 +124,9 @@ pub fn listed_kinds(alloc: Global, layers: &[LayerDraft]) -> Result<Vec<Kind>, A
     Ok(kinds)
 }
 
-/// Whether a kind is listed twice.
-pub fn any_kind_twice(kinds: &[Kind]) -> bool
-    ensures { result ≡ has_repeat same_kind kinds.now }
+/// Whether a kind or a place is listed twice.
+pub fn any_kind_twice(kinds: &[Class]) -> bool
+    ensures { result ≡ has_repeat nat_eq kinds.now }
 {
     for (i, kind) in kinds.iter().enumerate() {
         if lists(&kinds[i + 1..], *kind) {
@@ -143,20 +137,20 @@ pub fn any_kind_twice(kinds: &[Kind]) -> bool
 }
 
 /// Whether a kind other than D is not listed.
-pub fn misses_kind(kinds: &[Kind]) -> bool
-    ensures { result ≡ list_any (λ k. not (lists k kinds.now)) required_kinds }
+pub fn misses_kind(kinds: &[Class]) -> bool
+    ensures { result ≡ list_any (λ k. not (lists (index_of k) kinds.now)) required_kinds }
 {
     [Kind::Head, Kind::I, Kind::P, Kind::B]
         .iter()
-        .any(|kind| !lists(kinds, *kind))
+        .any(|kind| !lists(kinds, Class::of(*kind)))
 }
 
 /// Whether the first layer lists Head.
 pub fn begins_with_head(layers: &[LayerDraft]) -> bool
-    ensures { result ≡ lists Kind.Head (kinds_of_first layers.now) }
+    ensures { result ≡ lists (index_of Kind.Head) (kinds_of_first layers.now) }
 {
     match layers.first() {
-        Some(layer) => lists(layer.kinds.as_slice(), Kind::Head),
+        Some(layer) => lists(layer.kinds.as_slice(), Class::of(Kind::Head)),
         None => false,
     }
 }

@@ -2,13 +2,12 @@
 ghost use Rattle.std.specs.Prelude.{◌≡◌, codes, option_map, option_and_then};
 ghost use Rattle.toml.specs.Data.{get_member};
 ghost use Rattle.toml.specs.View.{view, table_view, array_view, items_view};
-ghost use Rattle.priority_file.specs.Draft.{kind_of, each_of, need_of, layer_in, layer_of, file_text};
+ghost use Rattle.priority_file.specs.Draft.{class_of, each_of, need_of, layer_in, layer_of, file_text};
 ghost use Rattle.priority_file.specs.Stages.{Gives};
 
 use crate::fault::PriorityFault;
-use crate::kinds::kind_named;
+use crate::kinds::{Class, class_named};
 use crate::members::{array_at, has_key, integer_at, text_at};
-use pet_base::Kind;
 use std::alloc::Global;
 use std::marker::Model;
 use toml::{Table, Value};
@@ -24,7 +23,7 @@ pub enum Need {
 #[derive(Drop)]
 pub struct LayerDraft {
     pub name: String,
-    pub kinds: Vec<Kind>,
+    pub kinds: Vec<Class>,
     pub need: Need,
 }
 
@@ -105,24 +104,24 @@ fn layer_in(alloc: Global, table: &Table) -> Result<LayerDraft, PriorityFault>
     Ok(LayerDraft { name, kinds, need })
 }
 
-fn kinds_of(alloc: Global, words: &[Value]) -> Result<Vec<Kind>, PriorityFault>
-    ensures { Gives (λ v. v.items) result (each_of kind_of (items_view words.now)) }
+fn kinds_of(alloc: Global, words: &[Value]) -> Result<Vec<Class>, PriorityFault>
+    ensures { Gives (λ v. v.items) result (each_of class_of (items_view words.now)) }
 {
     let mut kinds = Vec::new(alloc);
     for word in words {
-        let Some(kind) = kind_of(word) else {
+        let Some(class) = class_of(word) else {
             return Err(PriorityFault::WrongType);
         };
-        kinds.push(kind)?;
+        kinds.push(class)?;
     }
     Ok(kinds)
 }
 
-fn kind_of(value: &Value) -> Option<Kind>
-    ensures { result ≡ kind_of (view value.now) }
+fn class_of(value: &Value) -> Option<Class>
+    ensures { result ≡ class_of (view value.now) }
 {
     match value.as_str() {
-        Some(word) => kind_named(word),
+        Some(word) => class_named(word),
         None => None,
     }
 }

@@ -7,7 +7,7 @@ use std::alloc::{AllocError, AllocFailed};
 /// Why a priority file is refused. The answer is the first of these, in this order, whose cause holds of the file.
 #[derive(Clone, Copy, PartialEq, Eq, Debug)]
 pub enum PriorityFault {
-    /// More than 65,536 bytes.
+    /// More than `MAX_PRIORITY_FILE` bytes.
     Long,
     /// The bytes are no TOML document in UTF-8.
     Text,
@@ -15,24 +15,22 @@ pub enum PriorityFault {
     UnknownKey,
     /// `packets` or `layer` is missing, or a layer lacks `name`, `kinds`, or both `need` and `percent`.
     MissingKey,
-    /// A value has another type than its key asks for, or a string of `kinds` is no kind.
+    /// A value has another type than its key asks for, or a string of `kinds` is neither a kind nor a place.
     WrongType,
-    /// `packets` is below 1 or above 1,024.
+    /// `packets` is below 1 or above `MAX_PACKETS`.
     PacketsRange,
     /// A `need` is below 1 or above `packets`, or a `percent` is below 1 or above 100.
     NeedRange,
-    /// A name has not 1 to 16 bytes, has a byte other than ASCII letters, digits, `-`, `_` and `+`, or is the name of an
-    /// earlier layer.
+    /// A name has not 1 to `LONGEST_NAME` bytes, has a byte other than ASCII letters, digits, `-`, `_` and `+`, or is the
+    /// name of an earlier layer.
     Name,
-    /// A kind is listed twice.
+    /// A kind or a place is listed twice.
     KindTwice,
     /// One of `head`, `I`, `P` and `B` is listed nowhere.
     KindMissing,
     /// `head` is not in layer 0.
     HeadNotFirst,
-    /// A need is below the need of the layer before it.
-    NeedsFall,
-    /// More than 16 layers.
+    /// More than `MAX_LAYERS` layers.
     TooManyLayers,
     /// No memory was found, which says nothing of the file.
     NoMemory,

@@ -1,20 +1,20 @@
 //! Reading a priority file.
 ghost use Rattle.std.specs.Prelude.{◌≡◌, ◌≢◌, ◌++◌, None, Some, IfOk, IfErr};
-ghost use Rattle.priority_file.specs.Kinds.{lists};
-ghost use Rattle.priority_file.specs.Bounds.{listed_kinds, packets_of, packets_out_of_range, need_out_of_range, has_bad_name, head_is_not_first, needs_fall};
+ghost use Rattle.priority_file.specs.Kinds.{index_of, lists};
+ghost use Rattle.priority_file.specs.Bounds.{listed_kinds, packets_of, packets_out_of_range, need_out_of_range, has_bad_name, head_is_not_first};
 ghost use Rattle.priority_file.specs.Refusals.{first_of, number_rows, layer_rows, refusal_of, priorities_of, priorities_of_text};
 ghost use Rattle.priority_file.specs.Stages.{read_draft, read_document, read_members, read_bytes, Reads};
 ghost use Rattle.toml.specs.View.{table_view};
 ghost use Rattle.toml.specs.Parse.{parse_document};
 
 use crate::bounds::{
-    any_bad_name, any_kind_twice, any_name_twice, any_need_falls, any_need_out_of_range,
-    begins_with_head, count_of, is_packets, listed_kinds, misses_kind,
+    any_bad_name, any_kind_twice, any_name_twice, any_need_out_of_range, begins_with_head,
+    count_of, is_packets, listed_kinds, misses_kind,
 };
 use crate::draft::{Draft, draft_of};
 use crate::fault::PriorityFault;
 use crate::keys::{has_unknown_key, misses_key};
-use crate::kinds::lists;
+use crate::kinds::{Class, lists};
 use crate::priority::Priority;
 use crate::rules::rules_of;
 use pet_base::{Kind, MAX_LAYERS, MAX_PRIORITY_FILE};
@@ -76,11 +76,11 @@ fn read_draft(alloc: Global, draft: &Draft) -> Result<Priority, PriorityFault>
     let kinds = listed_kinds(alloc, draft.layers.as_slice())?;
     match fault_of(draft, kinds.as_slice()) {
         Some(fault) => Err(fault),
-        None => Ok(priority_of(draft, lists(kinds.as_slice(), Kind::D))),
+        None => Ok(priority_of(draft, lists(kinds.as_slice(), Class::of(Kind::D)))),
     }
 }
 
-fn fault_of(draft: &Draft, kinds: &[Kind]) -> Option<PriorityFault>
+fn fault_of(draft: &Draft, kinds: &[Class]) -> Option<PriorityFault>
     requires { kinds.now ≡ listed_kinds draft.now }
     ensures { result ≡ first_of (number_rows draft.now ++ layer_rows draft.now) }
 {
@@ -96,7 +96,7 @@ fn fault_of(draft: &Draft, kinds: &[Kind]) -> Option<PriorityFault>
     layer_fault_of(draft, kinds)
 }
 
-fn layer_fault_of(draft: &Draft, kinds: &[Kind]) -> Option<PriorityFault>
+fn layer_fault_of(draft: &Draft, kinds: &[Class]) -> Option<PriorityFault>
     requires { kinds.now ≡ listed_kinds draft.now }
     ensures { result ≡ first_of (layer_rows draft.now) }
 {
@@ -108,9 +108,6 @@ fn layer_fault_of(draft: &Draft, kinds: &[Kind]) -> Option<PriorityFault>
     }
     if head_is_not_first(draft) {
         return Some(PriorityFault::HeadNotFirst);
-    }
-    if needs_fall(draft) {
-        return Some(PriorityFault::NeedsFall);
     }
     if draft.layers.len() > MAX_LAYERS {
         return Some(PriorityFault::TooManyLayers);
@@ -143,12 +140,6 @@ fn head_is_not_first(draft: &Draft) -> bool
     !begins_with_head(draft.layers.as_slice())
 }
 
-fn needs_fall(draft: &Draft) -> bool
-    ensures { result ≡ needs_fall draft.now }
-{
-    any_need_falls(packets_of(draft), draft.layers.as_slice())
-}
-
 fn packets_of(draft: &Draft) -> u64
     ensures { result ≡ packets_of draft.now }
 {
@@ -156,7 +147,7 @@ fn packets_of(draft: &Draft) -> u64
 }
 
 fn priority_of(draft: &Draft, d_is_listed: bool) -> Priority
-    requires listed { d_is_listed ≡ lists Kind.D (listed_kinds draft.now) }
+    requires listed { d_is_listed ≡ lists (index_of Kind.D) (listed_kinds draft.now) }
     requires sound { first_of (number_rows draft.now ++ layer_rows draft.now) ≡ None }
     ensures { result ≡ priorities_of_text draft.now }
 {

@@ -10,7 +10,7 @@ ghost use Rattle.priority_file.specs.Bounds.{is_need_out_of_range, is_name};
 
 use crate::bounds::{LONGEST_NAME, need_in};
 use crate::draft::LayerDraft;
-use crate::kinds::{KindSet, lists};
+use crate::kinds::{Class, KindSet, lists};
 use crate::priority::LayerRule;
 use arrayvec::{ArrayString, ArrayVec};
 use pet_base::{Kind, MAX_LAYERS};
@@ -55,12 +55,12 @@ fn name_of(text: &str) -> ArrayString<LONGEST_NAME>
     name
 }
 
-fn set_of(d_is_listed: bool, kinds: &[Kind]) -> KindSet
+fn set_of(d_is_listed: bool, kinds: &[Class]) -> KindSet
     ensures { result.bits ≡ bits_of (kinds_with_d d_is_listed kinds.now) }
 {
     let set = KindSet::of(kinds);
-    if !d_is_listed && lists(kinds, Kind::I) {
-        set.with(Kind::D)
+    if !d_is_listed && lists(kinds, Class::of(Kind::I)) {
+        set.with(Class::of(Kind::D))
     } else {
         set
     }

@@ -1,7 +1,8 @@
 //! What the contracts are read against: files that were judged by hand.
 
-use super::{LayerRule, Priority, PriorityFault, read_priority};
-use pet_base::Kind;
+use super::{KindSet, LayerRule, Priority, PriorityFault, read_priority};
+use arrayvec::{ArrayString, ArrayVec};
+use pet_base::{Kind, MAX_LAYERS};
 use std::alloc::{AllocError, Global};
 use std::test::Fail;
 
@@ -14,14 +15,18 @@ const SPELLINGS: [&str; 4] = [
 ];
 
 /// Accepted files, and the needs of their layers.
-const NEEDS: [(&str, &[u16]); 4] = [
+const NEEDS: [(&str, &[u16]); 5] = [
     (
         "packets = 6\nlayer = [{name = 'base', kinds = ['head', 'I'], percent = 1}, {name = 'P', kinds = ['P'], need = 3}, {name = 'B', kinds = ['B'], percent = 99}]\n",
         &[1, 3, 5],
     ),
     (
-        "packets = 1024\nlayer = [{name = 'base', kinds = ['head', 'I'], need = 1}, {name = 'abcdefghijklmn-_', kinds = ['P'], percent = 50}, {name = '+', kinds = ['B'], need = 1024}]\n",
-        &[1, 512, 1024],
+        "packets = 4096\nlayer = [{name = 'base', kinds = ['head', 'I'], need = 1}, {name = 'abcdefghijklmn-_', kinds = ['P'], percent = 50}, {name = '+', kinds = ['B'], need = 4096}]\n",
+        &[1, 2048, 4096],
+    ),
+    (
+        "packets = 8\nlayer = [{name = 'base', kinds = ['head', 'I'], need = 8}, {name = 'P', kinds = ['P'], need = 2}, {name = 'B', kinds = ['B'], need = 5}]\n",
+        &[8, 2, 5],
     ),
     (
         "packets = 6\nlayer = [{name = 'base', kinds = ['head', 'I'], need = 2}, {name = 'P', kinds = ['P'], need = 3}, {name = 'B', kinds = ['B'], need = 5}, {name = 'n0', kinds = [], need = 6}, {name = 'n1', kinds = [], need = 6}]\n",
@@ -34,7 +39,7 @@ const NEEDS: [(&str, &[u16]); 4] = [
 ];
 
 /// One file for each refusal, each with one cause.
-const REFUSED: [(&str, PriorityFault); 22] = [
+const REFUSED: [(&str, PriorityFault); 26] = [
     ("packets = ", PriorityFault::Text),
     (
         "packets = 6\nlayer = [{name = 'base', kinds = ['head', 'I'], need = 2}, {name = 'P', kinds = ['P'], need = 3}, {name = 'B', kinds = ['B'], need = 5, more = 1}]\n",
@@ -67,7 +72,7 @@ const REFUSED: [(&str, PriorityFault); 22] = [
         PriorityFault::PacketsRange,
     ),
     (
-        "packets = 1025\nlayer = [{name = 'base', kinds = ['head', 'I'], need = 2}, {name = 'P', kinds = ['P'], need = 3}, {name = 'B', kinds = ['B'], need = 5}]\n",
+        "packets = 4097\nlayer = [{name = 'base', kinds = ['head', 'I'], need = 2}, {name = 'P', kinds = ['P'], need = 3}, {name = 'B', kinds = ['B'], need = 5}]\n",
         PriorityFault::PacketsRange,
     ),
     (
@@ -107,17 +112,33 @@ const REFUSED: [(&str, PriorityFault); 22] = [
         PriorityFault::HeadNotFirst,
     ),
     (
-        "packets = 8\nlayer = [{name = 'base', kinds = ['head', 'I'], need = 8}, {name = 'P', kinds = ['P'], need = 2}, {name = 'B', kinds = ['B'], need = 5}]\n",
-        PriorityFault::NeedsFall,
+        "packets = 6\nlayer = [{name = 'base', kinds = ['head', 'I'], need = 2}, {name = 'P', kinds = ['P', 'P1', 'P1'], need = 3}, {name = 'B', kinds = ['B'], need = 5}]\n",
+        PriorityFault::KindTwice,
     ),
     (
-        "packets = 6\nlayer = [{name = 'base', kinds = ['head', 'I'], need = 2}, {name = 'P', kinds = ['P'], need = 3}, {name = 'B', kinds = ['B'], need = 5}, {name = 'n0', kinds = [], need = 6}, {name = 'n1', kinds = [], need = 6}, {name = 'n2', kinds = [], need = 6}, {name = 'n3', kinds = [], need = 6}, {name = 'n4', kinds = [], need = 6}, {name = 'n5', kinds = [], need = 6}, {name = 'n6', kinds = [], need = 6}, {name = 'n7', kinds = [], need = 6}, {name = 'n8', kinds = [], need = 6}, {name = 'n9', kinds = [], need = 6}, {name = 'n10', kinds = [], need = 6}, {name = 'n11', kinds = [], need = 6}, {name = 'n12', kinds = [], need = 6}, {name = 'n13', kinds = [], need = 6}]\n",
-        PriorityFault::TooManyLayers,
+        "packets = 6\nlayer = [{name = 'base', kinds = ['head', 'I', 'B2'], need = 2}, {name = 'P', kinds = ['P'], need = 3}, {name = 'B', kinds = ['B', 'B2'], need = 5}]\n",
+        PriorityFault::KindTwice,
+    ),
+    (
+        "packets = 6\nlayer = [{name = 'base', kinds = ['head', 'I'], need = 2}, {name = 'P', kinds = ['P', 'P0'], need = 3}, {name = 'B', kinds = ['B'], need = 5}]\n",
+        PriorityFault::WrongType,
+    ),
+    (
+        "packets = 6\nlayer = [{name = 'base', kinds = ['head', 'I'], need = 2}, {name = 'P', kinds = ['P'], need = 3}, {name = 'B', kinds = ['B', 'B10'], need = 5}]\n",
+        PriorityFault::WrongType,
+    ),
+    (
+        "packets = 6\nlayer = [{name = 'base', kinds = ['head', 'I', 'I1'], need = 2}, {name = 'P', kinds = ['P'], need = 3}, {name = 'B', kinds = ['B'], need = 5}]\n",
+        PriorityFault::WrongType,
+    ),
+    (
+        "packets = 6\nlayer = [{name = 'base', kinds = ['head', 'I'], need = 2}, {name = 'P', kinds = ['P1', 'P2'], need = 3}, {name = 'B', kinds = ['B'], need = 5}]\n",
+        PriorityFault::KindMissing,
     ),
 ];
 
 /// Files with two causes or more, of which the first is the answer.
-const REFUSED_FIRST: [(&str, PriorityFault); 14] = [
+const REFUSED_FIRST: [(&str, PriorityFault); 15] = [
     ("more = 1\npackets = ", PriorityFault::Text),
     (
         "packets = 99999999999999999999\nmore = 1\n",
@@ -165,16 +186,53 @@ const REFUSED_FIRST: [(&str, PriorityFault); 14] = [
         PriorityFault::HeadNotFirst,
     ),
     (
-        "packets = 6\nlayer = [{name = 'base', kinds = ['head', 'I'], need = 2}, {name = 'P', kinds = ['P'], need = 3}, {name = 'B', kinds = ['B'], need = 5}, {name = 'n0', kinds = [], need = 6}, {name = 'n1', kinds = [], need = 6}, {name = 'n2', kinds = [], need = 6}, {name = 'n3', kinds = [], need = 6}, {name = 'n4', kinds = [], need = 6}, {name = 'n5', kinds = [], need = 6}, {name = 'n6', kinds = [], need = 6}, {name = 'n7', kinds = [], need = 6}, {name = 'n8', kinds = [], need = 6}, {name = 'n9', kinds = [], need = 6}, {name = 'n10', kinds = [], need = 6}, {name = 'n11', kinds = [], need = 6}, {name = 'n12', kinds = [], need = 6}, {name = 'last', kinds = [], need = 1}]\n",
-        PriorityFault::NeedsFall,
+        "packets = 4097\nlayer = [{name = 'base', kinds = ['head', 'I'], need = 2}, {name = 'P', kinds = ['P', 'P0'], need = 3}, {name = 'B', kinds = ['B'], need = 5}]\n",
+        PriorityFault::WrongType,
     ),
+    (
+        "packets = 6\nlayer = [{name = 'base', kinds = ['head', 'I', 'P1', 'P1'], need = 2}, {name = 'B', kinds = ['B'], need = 5}]\n",
+        PriorityFault::KindTwice,
+    ),
+];
+
+/// The example priorities with the first B picture of a group beside the P pictures.
+const FIRST_B_WITH_P: &str =
+    "packets = 6\nlayer = [{name = 'base', kinds = ['head', 'I'], need = 2}, {name = 'P', kinds = ['P', 'B1'], need = 3}, {name = 'B', kinds = ['B'], need = 5}]\n";
+
+/// Accepted files, and the bits of the sets of their layers.
+const SETS: [(&str, &[u32]); 3] = [
+    (FIRST_B_WITH_P, &[19, 16_388, 8]),
+    (
+        "packets = 6\nlayer = [{name = 'base', kinds = ['P9', 'head', 'I', 'P1'], need = 2}, {name = 'P', kinds = ['P', 'B1'], need = 3}, {name = 'B', kinds = ['B', 'D', 'B9'], need = 5}]\n",
+        &[8_227, 16_388, 4_194_328],
+    ),
+    (
+        "packets = 6\nlayer = [{name = 'all', kinds = ['head', 'I', 'P', 'B', 'D', 'P1', 'P2', 'P3', 'P4', 'P5', 'P6', 'P7', 'P8', 'P9', 'B1', 'B2', 'B3', 'B4', 'B5', 'B6', 'B7', 'B8', 'B9'], need = 2}]\n",
+        &[8_388_607],
+    ),
+];
+
+/// Packets, the bits and needs of layers, and whether these are a priority.
+const MADE: [(u16, &[(u32, u16)], bool); 12] = [
+    (8, &[(19, 8), (4, 2), (8, 5)], true),
+    (4_096, &[(31, 4_096)], true),
+    (4_097, &[(31, 1)], false),
+    (0, &[(31, 1)], false),
+    (6, &[(31, 7)], false),
+    (6, &[(31, 0)], false),
+    (6, &[(19, 2), (16_388, 3), (8, 5)], true),
+    (6, &[(16_403, 2), (16_388, 3), (8, 5)], false),
+    (6, &[(19, 2), (4, 3), (12, 5)], false),
+    (6, &[(19, 2), (36, 3)], false),
+    (6, &[(18, 2), (13, 3)], false),
+    (6, &[], false),
 ];
 
 fn fault_of(alloc: Global, bytes: &[u8]) -> Option<PriorityFault> {
     read_priority(alloc, bytes).err()
 }
 
-fn is_rule(rule: &LayerRule, name: &str, bits: u8, need: u16) -> bool {
+fn is_rule(rule: &LayerRule, name: &str, bits: u32, need: u16) -> bool {
     rule.name.as_str() == name && rule.kinds.bits == bits && rule.need == need
 }
 
@@ -198,6 +256,42 @@ fn has_needs(layers: &[LayerRule], needs: &[u16]) -> bool {
             .all(|(rule, need)| rule.need == *need)
 }
 
+fn has_sets(layers: &[LayerRule], sets: &[u32]) -> bool {
+    layers.len() == sets.len()
+        && layers
+            .iter()
+            .zip(sets.iter())
+            .all(|(rule, bits)| rule.kinds.bits == *bits)
+}
+
+fn priority_of(packets: u16, rules: &[(u32, u16)]) -> Option<Priority> {
+    let mut layers: ArrayVec<LayerRule, MAX_LAYERS> = ArrayVec::new();
+    for (bits, need) in rules {
+        let rule = LayerRule {
+            name: ArrayString::new(),
+            kinds: KindSet { bits: *bits },
+            need: *need,
+        };
+        layers.try_push(rule).ok()?;
+    }
+    Priority::new(packets, layers)
+}
+
+/// A file of one layer with every kind, and of an empty layer for each name of one byte.
+fn with_empty_layers(alloc: Global, names: &[u8]) -> Result<Vec<u8>, AllocError> {
+    let mut text = Vec::new(alloc);
+    text.extend_from_slice(
+        b"packets = 6\nlayer = [{name = 'all', kinds = ['head', 'I', 'P', 'B'], need = 2}",
+    )?;
+    for name in names {
+        text.extend_from_slice(b", {name = '")?;
+        text.push(*name)?;
+        text.extend_from_slice(b"', kinds = [], need = 6}")?;
+    }
+    text.extend_from_slice(b"]\n")?;
+    Ok(text)
+}
+
 fn spaces(alloc: Global, count: usize) -> Result<Vec<u8>, AllocError> {
     let mut bytes = Vec::new(alloc);
     bytes.resize(count, b' ')?;
@@ -213,8 +307,8 @@ fn reads_each_spelling_of_the_example_priorities(rt: HostRuntime) -> Result<(), 
             Err(_) => return Err(Fail::from(text)),
         };
         assert!(rt; is_example(&priority), "{text}");
-        assert_eq!(rt; priority.layer_of(Kind::D), 0);
-        assert_eq!(rt; priority.layer_of(Kind::B), 2);
+        assert_eq!(rt; priority.layer_of(Kind::D, 0), 0);
+        assert_eq!(rt; priority.layer_of(Kind::B, 1), 2);
     }
     Ok(())
 }
@@ -229,6 +323,57 @@ fn reads_needs_at_their_bounds(rt: HostRuntime) -> Result<(), Fail> {
         };
         assert!(rt; has_needs(priority.layers.as_slice(), needs), "{text}");
     }
+    Ok(())
+}
+
+#[test]
+fn reads_kinds_and_places_as_bits(rt: HostRuntime) -> Result<(), Fail> {
+    let alloc = rt.alloc();
+    for (text, sets) in SETS {
+        let priority = match read_priority(alloc, text.as_bytes()) {
+            Ok(priority) => priority,
+            Err(_) => return Err(Fail::from(text)),
+        };
+        assert!(rt; has_sets(priority.layers.as_slice(), sets), "{text}");
+    }
+    Ok(())
+}
+
+#[test]
+fn gives_a_listed_place_its_layer(rt: HostRuntime) -> Result<(), Fail> {
+    let priority = match read_priority(rt.alloc(), FIRST_B_WITH_P.as_bytes()) {
+        Ok(priority) => priority,
+        Err(_) => return Err(Fail::from(FIRST_B_WITH_P)),
+    };
+    assert_eq!(rt; priority.layer_of(Kind::B, 1), 1);
+    assert_eq!(rt; priority.layer_of(Kind::B, 2), 2);
+    assert_eq!(rt; priority.layer_of(Kind::B, 10), 2);
+    assert_eq!(rt; priority.layer_of(Kind::P, 1), 1);
+    assert_eq!(rt; priority.layer_of(Kind::I, 1), 0);
+    let set = KindSet { bits: 16_388 };
+    assert!(rt;
+        set.has_place(Kind::B, 1) && !set.has_place(Kind::P, 1) && !set.has_place(Kind::B, 9)
+    );
+    Ok(())
+}
+
+#[test]
+fn makes_a_priority_within_its_bounds(rt: HostRuntime) {
+    for (packets, rules, is_made) in MADE {
+        assert_eq!(rt; priority_of(packets, rules).is_some(), is_made, "{packets}");
+    }
+}
+
+#[test]
+fn reads_at_most_32_layers(rt: HostRuntime) -> Result<(), Fail> {
+    let alloc = rt.alloc();
+    let most = with_empty_layers(alloc, b"abcdefghijklmnopqrstuvwxyz01234")?;
+    assert_eq!(rt; fault_of(alloc, most.as_slice()), None);
+    let more = with_empty_layers(alloc, b"abcdefghijklmnopqrstuvwxyz012345")?;
+    assert_eq!(rt;
+        fault_of(alloc, more.as_slice()),
+        Some(PriorityFault::TooManyLayers)
+    );
     Ok(())
 }
 

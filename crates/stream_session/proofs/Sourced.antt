@@ -83,7 +83,6 @@ priority_at stream priority bytes old new rules.Name front why = refused_at stre
 priority_at stream priority bytes old new rules.KindTwice front why = refused_at stream priority bytes old new rules.KindTwice front (why (λ e. cc))
 priority_at stream priority bytes old new rules.KindMissing front why = refused_at stream priority bytes old new rules.KindMissing front (why (λ e. cc))
 priority_at stream priority bytes old new rules.HeadNotFirst front why = refused_at stream priority bytes old new rules.HeadNotFirst front (why (λ e. cc))
-priority_at stream priority bytes old new rules.NeedsFall front why = refused_at stream priority bytes old new rules.NeedsFall front (why (λ e. cc))
 priority_at stream priority bytes old new rules.TooManyLayers front why = refused_at stream priority bytes old new rules.TooManyLayers front (why (λ e. cc))
 priority_at stream priority bytes old new rules.NoMemory front why = tt
 

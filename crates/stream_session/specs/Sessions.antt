@@ -1,21 +1,19 @@
 -- The session that a stream and a priority file in two files are, for the contracts of what reads both. This project's own.
-use Rattle.std.specs.Prelude.{◌≡◌, ℕ, true, List, Some}
+use Rattle.std.specs.Prelude.{◌≡◌, ℕ, List, Some}
 use Rattle.pet_base.specs.Seen.{Seen, Files}
 use Rattle.stripe_plan.specs.Sizes.{Sizes}
-use Rattle.priority_file.specs.Priority.{is_priority}
 use Rattle.priority_file.specs.Refusals.{priorities_of}
 use Rattle.stream_session.specs.Accepted.{IsAcceptedSession}
 use Rattle.command_files.specs.Inputs.{IsFile}
 use Rattle.stream_session.specs.Tables.{tables_of, cuts_of_stream}
 
--- the two files, and that they are an accepted session, whose priority keeps its bounds
+-- the two files, and that they are an accepted session
 pub record HasSession (old : Seen) (stream priority : List ℕ) : Type 0 where
   pub priority_bytes : List ℕ
   pub stream_bytes : List ℕ
   pub priority_file : IsFile old.files priority priority_bytes
   pub stream_file : IsFile old.files stream stream_bytes
   pub session : IsAcceptedSession priority_bytes stream_bytes
-  pub lawful : is_priority (priorities_of priority_bytes) ≡ true
 
 -- the files are told, and these two are an accepted session
 pub record IsGiven (old : Seen) (stream priority priority_bytes stream_bytes : List ℕ) : Type 0 where

@@ -11,25 +11,27 @@ pub(crate) const TWO_GROUPS: [u8; 22] = [
 
 /// Whether these are the tables of the example session.
 pub(crate) fn is_example(tables: &[Table]) -> bool {
-    let layers = [
-        LayerSize {
-            length: 46,
-            need: 2,
-        },
-        LayerSize { length: 7, need: 3 },
-        LayerSize {
-            length: 15,
-            need: 5,
-        },
-    ];
+    is_table(tables, 6, [(46, 2), (7, 3), (15, 5)])
+}
+
+/// Whether there is one table, with these packets, and layers of these lengths and needs.
+pub(crate) fn is_table(tables: &[Table], packets: u16, sizes: [(u32, u16); 3]) -> bool {
+    let layers = [layer(sizes[0]), layer(sizes[1]), layer(sizes[2])];
     match tables {
-        [table] => table.packets() == 6 && table.layers() == layers.as_slice(),
+        [table] => table.packets() == packets && table.layers() == layers.as_slice(),
         _ => false,
     }
 }
 
+fn layer(size: (u32, u16)) -> LayerSize {
+    LayerSize {
+        length: size.0,
+        need: size.1,
+    }
+}
+
 /// Layers of kinds by their bits, each with its need.
-pub(crate) fn priority_of(packets: u16, rules: &[(u8, u16)]) -> Option<Priority> {
+pub(crate) fn priority_of(packets: u16, rules: &[(u32, u16)]) -> Option<Priority> {
     let mut layers: ArrayVec<LayerRule, MAX_LAYERS> = ArrayVec::new();
     for (bits, need) in rules {
         let rule = LayerRule {

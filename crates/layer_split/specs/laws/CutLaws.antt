@@ -10,6 +10,7 @@ use Rattle.mpeg_scan.specs.laws.StandingLaws.{stand_le, stand_push}
 use Rattle.priority_file.specs.Priority.{Priorities, layer_of}
 use Rattle.layer_split.specs.declared.cut.Run.{Run}
 use Rattle.layer_split.specs.Groups.{groups_of, groups_from, begins_group}
+use Rattle.layer_split.specs.Places.{placed_at, placed_behind}
 use Rattle.layer_split.specs.Runs.{run_of, runs_of, both, joined_from}
 use Rattle.layer_split.specs.Layers.{Cut, cut_of}
 use Rattle.layer_split.specs.Splitting.{cuts_of}
@@ -26,25 +27,26 @@ pub record LiesWithin (end : ℕ) (cut : Cut) : Type 0 where
 abbrev pub LiesIn : ℕ → ℕ → Run → Type 0
 LiesIn from to run = (from ≤ run.at) × (run.at + run.len ≤ to)
 
-runs_from : (lo : Kind → ℕ) (from to : ℕ) (run : Run) (ps : List Piece) → from ≤ run.at → StandOnEnd (run.at + run.len) ps to → All (LiesIn from to) (joined_from run (map (run_of lo) ps))
-runs_from lo from to run [] le h = All-cons (LiesIn from to) run [] (le, omega (arith, h)) (All-nil (LiesIn from to))
-runs_from lo from to run (p ∷ ps) le h =
+runs_from : (lo : Kind → ℕ → ℕ) (from to : ℕ) (run : Run) (before ps : List Piece) → from ≤ run.at → StandOnEnd (run.at + run.len) ps to → All (LiesIn from to) (joined_from run (map (run_of lo) (placed_behind before ps)))
+runs_from lo from to run before [] le h = All-cons (LiesIn from to) run [] (le, omega (arith, h)) (All-nil (LiesIn from to))
+runs_from lo from to run before (p ∷ ps) le h =
     let far = stand_le (run.at + run.len) to (p ∷ ps) h in
     let at : p.at ≡ run.at + run.len = h.0 in
-    let rest : List Run = map (run_of lo) ps in
-    elim (cases_Bool (lo p.kind == run.layer)) [
+    let next : Run = run_of lo (placed_at before p) in
+    let rest : List Run = map (run_of lo) (placed_behind (before ++ p ∷ []) ps) in
+    elim (cases_Bool (next.layer == run.layer)) [
       | inl e ↦
-          subst (All (LiesIn from to)) (sym (cond-true (lo p.kind == run.layer) (joined_from (both run (run_of lo p)) rest) (run ∷ joined_from (run_of lo p) rest) e))
-          (runs_from lo from to (both run (run_of lo p)) ps le (subst (λ n. StandOnEnd n ps to) (let k : (run.at + run.len) + p.len ≡ run.at + (run.len + p.len) = omega arith in k) h.2))
+          subst (All (LiesIn from to)) (sym (cond-true (next.layer == run.layer) (joined_from (both run next) rest) (run ∷ joined_from next rest) e))
+          (runs_from lo from to (both run next) (before ++ p ∷ []) ps le (subst (λ n. StandOnEnd n ps to) (let k : (run.at + run.len) + p.len ≡ run.at + (run.len + p.len) = omega arith in k) h.2))
       | inr e ↦
-          subst (All (LiesIn from to)) (sym (cond-false (lo p.kind == run.layer) (joined_from (both run (run_of lo p)) rest) (run ∷ joined_from (run_of lo p) rest) e))
-          (All-cons (LiesIn from to) run (joined_from (run_of lo p) rest) (le, far)
-          (runs_from lo from to (run_of lo p) ps (omega arith) (subst (λ n. StandOnEnd (n + p.len) ps to) (sym at) h.2)))
+          subst (All (LiesIn from to)) (sym (cond-false (next.layer == run.layer) (joined_from (both run next) rest) (run ∷ joined_from next rest) e))
+          (All-cons (LiesIn from to) run (joined_from next rest) (le, far)
+          (runs_from lo from to next (before ++ p ∷ []) ps (omega arith) (subst (λ n. StandOnEnd (n + p.len) ps to) (sym at) h.2)))
     ]
 
-pub runs_lie : (lo : Kind → ℕ) (from to : ℕ) (group : List Piece) → StandOnEnd from group to → All (LiesIn from to) (runs_of lo group)
+pub runs_lie : (lo : Kind → ℕ → ℕ) (from to : ℕ) (group : List Piece) → StandOnEnd from group to → All (LiesIn from to) (runs_of lo group)
 runs_lie lo from to [] h = All-nil (LiesIn from to)
-runs_lie lo from to (p ∷ ps) h = let at : p.at ≡ from = h.0 in runs_from lo from to (run_of lo p) ps (omega arith) (subst (λ n. StandOnEnd (n + p.len) ps to) (sym at) h.2)
+runs_lie lo from to (p ∷ ps) h = let at : p.at ≡ from = h.0 in runs_from lo from to (run_of lo (placed_at [] p)) (p ∷ []) ps (omega arith) (subst (λ n. StandOnEnd (n + p.len) ps to) (sym at) h.2)
 
 -- a group's pieces stand on end from one byte to another, both within the stream
 pub record StandsIn (end : ℕ) (group : List Piece) : Type 0 where
@@ -70,7 +72,7 @@ pub pieces_grouped : (from end : ℕ) (pieces : List Piece) → StandOnEnd from 
 pieces_grouped from end [] h = All-nil (StandsIn end)
 pieces_grouped from end (p ∷ later) h = from_stands from (from + p.len) end (p ∷ []) later (h.0, h.1, refl) h.2
 
-cut_lies : (lo : Kind → ℕ) (n end : ℕ) (group : List Piece) → StandsIn end group → LiesWithin end (cut_of lo n group)
+cut_lies : (lo : Kind → ℕ → ℕ) (n end : ℕ) (group : List Piece) → StandsIn end group → LiesWithin end (cut_of lo n group)
 cut_lies lo n end group s =
     let lie = runs_lie lo s.from s.to group s.stand in
     record { from = s.from; to = s.to; within = s.within; begins = λ k d lt. (lie k d lt).0; ends = λ k d lt. (lie k d lt).1 }

@@ -12,13 +12,16 @@ use Rattle.stripe_plan.specs.Sizes.{Sizes, IsTable, datagram_length_of}
 use Rattle.pet_text.specs.PlanLines.{hex_text, plan_session_text, plan_group_text, plan_layer_text, rows_of, row_text, lengths_text, plan_lengths}
 use Rattle.pet_text.specs.PlanText.{layers_text, group_text, groups_text, plan_text}
 use Rattle.pet_text.specs.laws.RowLaws.{RowsFit, rows_fit}
-use Rattle.pet_text.specs.laws.TableLaws.{words_few, length-plan_lengths, lengths_fit, ends_few, NumbersFit, LayersFit, layers_fit, GroupFits, group_fits}
+use Rattle.pet_text.specs.laws.TableLaws.{length-plan_lengths, lengths_fit, NumbersFit, LayersFit, layers_fit, GroupFits, group_fits}
 use Rattle.pet_text.specs.laws.PlanRowLaws.{rows_few}
 
--- a word and a number more
+-- a word and a number of so many digits more
+with_digits : (digits most words : ℕ) (front word : List ℕ) (n : ℕ) → 0 < digits → n < 10 ^ digits → n < 2 ^ 32 → length front ≤ most → length word ≤ words → length (front ++ word ++ decimal n) ≤ most + words + digits
+with_digits digits most words front word n some few small before own =
+    omega (arith, length-append (front ++ word) (decimal n), length-append front word, length-decimal-le digits n some few (omega arith))
+
 with_number : (most words : ℕ) (front word : List ℕ) (n : ℕ) → length front ≤ most → length word ≤ words → n < 2 ^ 32 → length (front ++ word ++ decimal n) ≤ most + words + 10
-with_number most words front word n before own small =
-    omega (arith, length-append (front ++ word) (decimal n), length-append front word, length-decimal-le 10 n (omega arith) (omega arith) (omega arith))
+with_number most words front word n before own small = with_digits 10 most words front word n (omega arith) (omega arith) small before own
 
 hex_length : (bytes : List ℕ) → length (hex_text bytes) ≡ 2 * length bytes
 hex_length [] = omega arith
@@ -87,21 +90,23 @@ layers_length layer (rule ∷ rules) (size ∷ sizes) all short fit =
       layers_length (layer + 1) rules sizes all (All-tail (λ (r : Rule). length r.name ≤ 16) rule rules short) fit.1,
     )
 
-row_length : (row : ℕ × ℕ) → row.0 < 2 ^ 32 → row.1 < 2 ^ 32 → length (row_text row) ≤ 22
+-- a row of no more stripes than a datagram has words
+row_length : (row : ℕ × ℕ) → row.0 < 2 ^ 32 → row.1 < 10 ^ 5 → length (row_text row) ≤ 17
 row_length row small few =
-    with_number 11 1 ([] ++ codes " " ++ decimal row.0) (codes "x") row.1
-    (with_number 0 1 [] (codes " ") row.0 (omega arith) (omega arith) small) (omega arith) few
+    with_digits 5 11 1 ([] ++ codes " " ++ decimal row.0) (codes "x") row.1 (omega arith) few (omega arith)
+    (with_number 0 1 [] (codes " ") row.0 (omega arith) (omega arith) small) (omega arith)
 
-rows_length : (most : ℕ) (rows : List (ℕ × ℕ)) → most < 2 ^ 32 → RowsFit most rows → length (flat_map row_text rows) ≤ 22 * length rows
+rows_length : (most : ℕ) (rows : List (ℕ × ℕ)) → most < 10 ^ 5 → RowsFit most rows → length (flat_map row_text rows) ≤ 17 * length rows
 rows_length most [] few fit = omega arith
 rows_length most (row ∷ rows) few fit =
     omega (arith, length-append (row_text row) (flat_map row_text rows), row_length row fit.1 (omega (arith, fit.3)), rows_length most rows few fit.4)
 
-lengths_length : (packets : ℕ) (layers : List LayerSize) → IsTable packets layers → length (lengths_text (plan_lengths layers)) ≤ 382
+-- two rows for each layer
+lengths_length : (packets : ℕ) (layers : List LayerSize) → IsTable packets layers → length (lengths_text (plan_lengths layers)) ≤ 1096
 unfolding lengths_text
 lengths_length packets layers table =
     let sizes : List ℕ = plan_lengths layers in
-    let few : length sizes < 2 ^ 32 = omega (arith, length-plan_lengths layers, ends_few packets layers table, words_few packets layers table) in
+    let few : length sizes < 10 ^ 5 = omega (arith, length-plan_lengths layers, table.narrow) in
     let rows : List ℕ = flat_map row_text (rows_of sizes) in
     omega (
       arith,
@@ -112,8 +117,8 @@ lengths_length packets layers table =
       table.few_layers,
     )
 
--- a group takes 1,816 bytes at most
-group_text_length : (group packets : ℕ) (rules : List Rule) (layers : List LayerSize) → group < 2 ^ 32 → All (λ rule. length rule.name ≤ 16) rules → IsTable packets layers → length (group_text group rules layers) ≤ 1816
+-- a group takes 3,874 bytes at most, and a plan file has room for 4,096
+group_text_length : (group packets : ℕ) (rules : List Rule) (layers : List LayerSize) → group < 2 ^ 32 → All (λ rule. length rule.name ≤ 16) rules → IsTable packets layers → length (group_text group rules layers) ≤ 3874
 group_text_length group packets rules layers small short table =
     let first : List ℕ = plan_group_text group (length (needs_of layers)) (length (plan_ends layers)) (bound_of layers) (datagram_length_of layers) in
     let shown : List ℕ = layers_text 0 rules layers layers in
@@ -127,7 +132,7 @@ group_text_length group packets rules layers small short table =
       table.few_layers,
     )
 
-groups_length : (group : ℕ) (rules : List Rule) (tables : List Sizes) → group + length tables < 2 ^ 32 → All (λ rule. length rule.name ≤ 16) rules → All (λ table. IsTable table.packets table.layers) tables → length (groups_text group rules tables) ≤ 1816 * length tables
+groups_length : (group : ℕ) (rules : List Rule) (tables : List Sizes) → group + length tables < 2 ^ 32 → All (λ rule. length rule.name ≤ 16) rules → All (λ table. IsTable table.packets table.layers) tables → length (groups_text group rules tables) ≤ 3874 * length tables
 groups_length group rules [] few short are = omega arith
 groups_length group rules (table ∷ tables) few short are =
     omega (

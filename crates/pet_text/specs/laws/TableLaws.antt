@@ -3,6 +3,7 @@
 use Rattle.std.proofs.Common.{◌≡◌, ℕ, suc, ◌+◌, ◌^◌, ◌<◌, ◌≤◌, List, [], ◌∷◌, length, map, get_or, refl, sym, subst, arith}
 use Rattle.std.specs.Prelude.{⊤}
 use Rattle.std.proofs.lemmas.List.Sums.{get_or-le-sum_by}
+use Rattle.pet_base.specs.declared.limits.TheConstants.{MAX_GROUP_BYTES}
 use Rattle.stripe_plan.specs.declared.layer.LayerSize.{LayerSize}
 use Rattle.stripe_plan.specs.Stripes.{IsPlan, stripes_of}
 use Rattle.stripe_plan.specs.Layers.{needs_of, plan_ends, bound_of, count_of, stripes_from}
@@ -26,7 +27,7 @@ length-map_lengths start [] = refl
 length-map_lengths start (end ∷ ends) = omega (arith, length-map_lengths end ends)
 
 -- a table's words are few
-pub words_few : (packets : ℕ) (layers : List LayerSize) → IsTable packets layers → length (needs_of layers) ≤ 4194304
+pub words_few : (packets : ℕ) (layers : List LayerSize) → IsTable packets layers → length (needs_of layers) ≤ MAX_GROUP_BYTES
 words_few packets layers table = omega (arith, length-needs_of layers, words_le_bytes layers, table.few_bytes)
 
 -- there are as many lengths as ends

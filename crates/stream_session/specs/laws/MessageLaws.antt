@@ -8,13 +8,10 @@ use Rattle.std.proofs.lemmas.Bool.{cond-true, cond-false, cases_Bool}
 use Rattle.std.proofs.lemmas.Bool.Decides.{nat_tests}
 use Rattle.std.proofs.lemmas.List.{length-append, length-replicate}
 use Rattle.std.proofs.lemmas.List.Elements.{All-append, All-cons, All-drop, All-head, All-nil, All-tail, All-take}
-use Rattle.pet_base.specs.declared.kind.Kind.{Kind}
-use Rattle.mpeg_scan.specs.declared.piece.Piece.{Piece}
 use Rattle.stripe_plan.specs.Layers.{needs_of}
 use Rattle.priority_file.specs.Priority.{Rule, Priorities}
 use Rattle.layer_split.proofs.Beginning.{layer_size}
 use Rattle.layer_split.specs.declared.cut.Run.{Run}
-use Rattle.layer_split.specs.Runs.{run_of, runs_of, both, joined_from}
 use Rattle.layer_split.specs.Layers.{run_entry, run_table, runs_in, bytes_of_run, layer_bytes, layer_length, lengths_of, padded, message}
 use Rattle.group_cutter.specs.CutGroups.{CutGroup}
 use Rattle.group_cutter.specs.laws.FittingLaws.{IsWhole}
@@ -109,21 +106,3 @@ message_bytes s runs layers small few =
   where
     each_bytes : (layer : ℕ) → All IsByte (padded (layer_bytes s runs layer))
     each_bytes layer = padded_bytes (layer_bytes s runs layer) (part_bytes s runs layer small few)
-
--- the layers of runs are those of kinds
-joined_layers : (lo : Kind → ℕ) (n : ℕ) → ((kind : Kind) → lo kind < n) → (run : Run) (ps : List Piece) → run.layer < n → All (λ (r : Run). r.layer < n) (joined_from run (map (run_of lo) ps))
-joined_layers lo n within run [] here = All-cons (λ (r : Run). r.layer < n) run [] here (All-nil (λ (r : Run). r.layer < n))
-joined_layers lo n within run (p ∷ ps) here =
-    let rest : List Run = map (run_of lo) ps in
-    elim (cases_Bool (lo p.kind == run.layer)) [
-      | inl e ↦
-          subst (All (λ (r : Run). r.layer < n)) (sym (cond-true (lo p.kind == run.layer) (joined_from (both run (run_of lo p)) rest) (run ∷ joined_from (run_of lo p) rest) e))
-          (joined_layers lo n within (both run (run_of lo p)) ps here)
-      | inr e ↦
-          subst (All (λ (r : Run). r.layer < n)) (sym (cond-false (lo p.kind == run.layer) (joined_from (both run (run_of lo p)) rest) (run ∷ joined_from (run_of lo p) rest) e))
-          (All-cons (λ (r : Run). r.layer < n) run (joined_from (run_of lo p) rest) here (joined_layers lo n within (run_of lo p) ps (within p.kind)))
-    ]
-
-pub runs_layers : (lo : Kind → ℕ) (n : ℕ) → ((kind : Kind) → lo kind < n) → (group : List Piece) → All (λ (r : Run). r.layer < n) (runs_of lo group)
-runs_layers lo n within [] = All-nil (λ (r : Run). r.layer < n)
-runs_layers lo n within (p ∷ ps) = joined_layers lo n within (run_of lo p) ps (within p.kind)

@@ -13,7 +13,7 @@ use Rattle.sha2.specs.Sha256.{sha256}
 use Rattle.mpeg_scan.specs.declared.piece.Piece.{Piece}
 use Rattle.priority_file.specs.declared.fault.PriorityFault.{PriorityFault}
 use Rattle.priority_file.specs.Bounds.{packets_of, listed_kinds, is_name, has_repeat, has_bad_name, has_too_many_layers}
-use Rattle.priority_file.specs.Kinds.{lists}
+use Rattle.priority_file.specs.Kinds.{index_of, lists}
 use Rattle.priority_file.specs.Draft.{LayerText, FileText, text_in}
 use Rattle.priority_file.specs.Priority.{Rule, Priorities, layer_of}
 use Rattle.priority_file.specs.Refusals.{Row, rows, first_of, refusal_of, rule_of, priorities_of, priorities_of_text}
@@ -124,7 +124,7 @@ pub record AreNamed (rules : List Rule) : Type 0 where
 text_named : (text : FileText) → has_bad_name text ≡ false → has_too_many_layers text ≡ false → AreNamed (priorities_of_text text).layers
 text_named text named few =
     let packets : ℕ = packets_of text in
-    let with_d : Bool = lists D (listed_kinds text) in
+    let with_d : Bool = lists (index_of D) (listed_kinds text) in
     let none : list_any (λ (l : LayerText). not (is_name l.name)) text.layers ≡ false =
     (neither (list_any (λ (l : LayerText). not (is_name l.name)) text.layers) (has_repeat (λ l m. bytes_eq l.name m.name) text.layers) named).0 in
     record {
@@ -136,4 +136,4 @@ pub layers_named : (bytes : List ℕ) → refusal_of bytes ≡ None → AreNamed
 unfolding refusal_of priorities_of
 layers_named bytes e =
     let a = all_false (rows bytes) e in
-    text_named (text_in bytes) a.1.1.1.1.1.1.1.0 a.1.1.1.1.1.1.1.1.1.1.1.1.0
+    text_named (text_in bytes) a.1.1.1.1.1.1.1.0 a.1.1.1.1.1.1.1.1.1.1.1.0

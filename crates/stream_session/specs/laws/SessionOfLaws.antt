@@ -27,6 +27,7 @@ use Rattle.priority_file.specs.Priority.{Priorities, layer_of, is_priority}
 use Rattle.priority_file.specs.laws.PriorityLaws.{layer_of-within}
 use Rattle.priority_file.specs.Refusals.{Row, rows, first_of, refusal_of, priorities_of}
 use Rattle.layer_split.specs.laws.CutLaws.{StandsIn, runs_lie}
+use Rattle.layer_split.specs.laws.RunLaws.{runs_layers}
 use Rattle.layer_split.specs.declared.cut.Run.{Run}
 use Rattle.layer_split.specs.Groups.{groups_of, groups_from, begins_group}
 use Rattle.layer_split.specs.Layers.{Cut, cut_of, lengths_of, layer_length, message}
@@ -36,7 +37,7 @@ use Rattle.pet_encode.specs.Session.{SessionGroup, IsMessage, IsSession, IsSessi
 use Rattle.stream_session.specs.Accepted.{IsAcceptedSession, group_of, session_of}
 use Rattle.group_cutter.specs.CutGroups.{CutGroup}
 use Rattle.stream_session.specs.laws.FitLaws.{IsWithinBounds, few_groups, tables_stand, costs_fit}
-use Rattle.stream_session.specs.laws.MessageLaws.{IsByte, word_bytes, message_words, message_bytes, runs_layers}
+use Rattle.stream_session.specs.laws.MessageLaws.{IsByte, word_bytes, message_words, message_bytes}
 use Rattle.stream_session.specs.Number.{hashed, session_number}
 use Rattle.stream_session.specs.Refusals.{cost_in}
 use Rattle.stream_session.specs.laws.SessionLaws.{layers_named, none_here, from_not}

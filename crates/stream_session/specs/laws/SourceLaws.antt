@@ -15,7 +15,6 @@ use Rattle.layer_split.specs.Groups.{groups_of}
 use Rattle.stripe_plan.specs.Sizes.{Sizes}
 use Rattle.stream_session.specs.Refusals.{session_fault}
 use Rattle.stream_session.specs.laws.SessionLaws.{tables_few, tables_layered}
-use Rattle.stream_session.specs.laws.SessionOfLaws.{accepted_lawful}
 use Rattle.stream_session.specs.Sources.{IsOfSource, IsSource, IsSourceFault}
 use Rattle.stream_session.specs.declared.source.Source.{Source}
 use Rattle.stream_session.specs.declared.source.SourceFault.{SourceFault}
@@ -81,7 +80,6 @@ session_in old stream priority source is = record {
   priority_file = is.priority_is;
   stream_file = is.stream_is;
   session = is.accepted;
-  lawful = accepted_lawful is.file is.accepted.priority_read;
 }
 
 pub source_few : (files : Option Files) (stream priority : List ℕ) (source : Source) → IsSource files stream priority source → length source.tables.items ≤ MAX_GROUPS

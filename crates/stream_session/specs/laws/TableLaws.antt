@@ -1,18 +1,17 @@
 -- Each cut of a priority that is neither too long nor too wide has a table, for callers. This project's own.
-use Rattle.std.proofs.Common.{◌≡◌, ◌+◌, ◌<◌, ◌≤◌, ◌||◌, ℕ, zero, suc, false, true, not, Bool, List, [], ◌∷◌, length, map, nat_lt, refl, ◌∙◌, ap, arith, rules, inl, inr}
+use Rattle.std.proofs.Common.{◌≡◌, ◌+◌, ◌<◌, ◌≤◌, ℕ, suc, false, true, List, [], ◌∷◌, length, map, nat_lt, refl, ap, arith}
 use Rattle.std.specs.Prelude.{All, sum}
-use Rattle.std.specs.List.{range_with_len}
-use Rattle.std.proofs.lemmas.Bool.{cases_Bool, both_ways}
 use Rattle.std.proofs.lemmas.Bool.Decides.{nat_tests}
 use Rattle.std.proofs.lemmas.List.Sums.{sum_by-cons}
 use Rattle.std.proofs.lemmas.List.Elements.{All-cons, All-nil}
+use Rattle.std.proofs.lemmas.List.FromFn.{length-map-range_with_len}
 use Rattle.pet_base.specs.declared.Kind.TheVariants.{Head}
 use Rattle.pet_base.specs.declared.limits.TheConstants.{MAX_LAYERS, MAX_GROUP_BYTES, MAX_DATAGRAM}
 use Rattle.mpeg_scan.specs.declared.piece.Piece.{Piece}
 use Rattle.stripe_plan.specs.declared.layer.LayerSize.{LayerSize}
-use Rattle.stripe_plan.specs.Sizes.{IsTable, bytes_of, falls_after}
-use Rattle.priority_file.specs.Priority.{Rule, Priorities, layer_of, is_priority, falls_from}
-use Rattle.priority_file.specs.laws.PriorityLaws.{bounds_of, packets-in_range, needs-in_range, layer_of-within}
+use Rattle.stripe_plan.specs.Sizes.{IsTable, bytes_of}
+use Rattle.priority_file.specs.Priority.{Rule, Priorities, layer_of, is_priority}
+use Rattle.priority_file.specs.laws.PriorityLaws.{packets-in_range, needs-in_range, layer_of-within}
 use Rattle.layer_split.specs.Layers.{Cut, cut_of}
 use Rattle.layer_split.specs.Faults.{is_too_long}
 use Rattle.stream_session.specs.Tables.{sizes_with, sizes_of, IsFit, sizes_by}
@@ -24,16 +23,12 @@ by_rules [] rules = refl
 by_rules (bytes ∷ lengths) [] = refl
 by_rules (bytes ∷ lengths) (rule ∷ rules) = ap (λ sizes. record { length = bytes; need = rule.need } ∷ sizes) (by_rules lengths rules)
 
-length_map : (f : ℕ → ℕ) (a n : ℕ) → length (map f (range_with_len a n)) ≡ n
-length_map f a zero = refl
-length_map f a (suc n) = ap suc (length_map f (a + 1) n)
-
 short : (limit n : ℕ) → nat_lt limit n ≡ false → n ≤ limit
 short limit n e = grind (arith, nat_tests)
 
 -- so is the cut of a group that is not too long
 pub cut_fits : (priority : Priorities) (group : List Piece) → is_too_long (layer_of priority) (length priority.layers) group ≡ false → IsFit priority (cut_of (layer_of priority) (length priority.layers) group)
-cut_fits priority group e = record { count = length_map _ 0 (length priority.layers); bytes = short MAX_GROUP_BYTES _ e }
+cut_fits priority group e = record { count = length-map-range_with_len _ 0 (length priority.layers); bytes = short MAX_GROUP_BYTES _ e }
 
 -- layers as many as the rules
 sizes_length : (lengths : List ℕ) (rules : List Rule) → length lengths ≡ length rules → length (sizes_with lengths rules) ≡ length rules
@@ -62,22 +57,13 @@ sizes_all Fact (bytes ∷ lengths) (rule ∷ rules) h =
     All-cons (λ (layer : LayerSize). Fact layer.need) (record { length = bytes; need = rule.need }) (sizes_with lengths rules)
     (h 0 rule (omega arith)) (sizes_all Fact lengths rules (λ k d lt. h (suc k) d (omega arith)))
 
-sizes_fall : (before : ℕ) (lengths : List ℕ) (rules : List Rule) → length lengths ≡ length rules → falls_after before (sizes_with lengths rules) ≡ falls_from (λ (rule : Rule). rule.need) before rules
-sizes_fall before [] [] e = refl
-sizes_fall before [] (rule ∷ rules) e = absurd (omega arith)
-sizes_fall before (bytes ∷ lengths) [] e = absurd (omega arith)
-sizes_fall before (bytes ∷ lengths) (rule ∷ rules) e = ap (λ b. nat_lt rule.need before || b) (sizes_fall rule.need lengths rules (omega arith))
-
-not_true : (b : Bool) → not b ≡ true → b ≡ false
-not_true b e = elim (cases_Bool b) [ inl k ↦ absurd (both_ways (not b) (ap not k) e) | inr k ↦ k ]
-
 -- the table of a cut that is neither too long nor too wide
 pub is_table : (priority : Priorities) (cut : Cut) → is_priority priority ≡ true → length priority.layers ≤ MAX_LAYERS → IsFit priority cut → is_wide priority cut ≡ false → IsTable priority.packets (sizes_of priority cut)
 is_table priority cut lawful few fit narrow =
     let packets = packets-in_range priority lawful in
     let needs = needs-in_range priority lawful in
     let count : length (sizes_of priority cut) ≡ length priority.layers = sizes_length cut.lengths priority.layers fit.count in
-    let some = layer_of-within priority lawful Head in
+    let some = layer_of-within priority lawful Head 1 in
     let bytes : bytes_of (sizes_of priority cut) ≡ sum cut.lengths = sizes_bytes cut.lengths priority.layers fit.count in
     let limit = fit.bytes in
     record {
@@ -87,7 +73,6 @@ is_table priority cut lawful few fit narrow =
       few_layers = omega arith;
       needed = sizes_all (λ need. 0 < need) cut.lengths priority.layers (λ k d lt. (needs k d lt).0);
       within = sizes_all (λ need. need ≤ priority.packets) cut.lengths priority.layers (λ k d lt. (needs k d lt).1);
-      rising = sizes_fall 0 cut.lengths priority.layers fit.count ∙ not_true _ (bounds_of priority lawful).rising;
       few_bytes = omega arith;
       narrow = short MAX_DATAGRAM _ narrow;
     }

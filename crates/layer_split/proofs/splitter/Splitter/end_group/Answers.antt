@@ -19,8 +19,8 @@ returns-clause-cut c priority group are h = (
 
 pub returns-clause-held : goal.returns-clause-held
 returns-clause-held c lo =
-    none_held (record c.args.self.now { runs = c.replace-runs.new.dest; size = 4 }) lo
-    (ap (λ (v : Vec Run Global). v.items) c.replace-runs.ensures.after ∙ c.new.ensures.items) refl
+    none_held (record c.args.self.now { runs = c.replace-runs.new.dest; size = 4; places = c.new-self.result }) lo
+    (ap (λ (v : Vec Run Global). v.items) c.replace-runs.ensures.after ∙ c.new.ensures.items) refl c.new-self.ensures
 
 pub returns-then-self-clause-long : goal.returns-then-self-clause-long
 returns-then-self-clause-long c = (refl, λ priority group are h. long_is_long c.args.self.now priority group are h (omega arith))

@@ -2,5 +2,5 @@ use Rattle.std.proofs.Common.{◌≡◌, take}
 use Rattle.priority_file.specs.Kinds.{bits_of}
 use Rattle.priority_file.proofs.kinds.KindSet.of.Given as goal
 
-abbrev pub invariant-loop-kind : goal.invariant-loop-kind
-invariant-loop-kind l = l.set.bits ≡ bits_of (take l.kind-index l.kinds)
+abbrev pub invariant-loop-class : goal.invariant-loop-class
+invariant-loop-class l = l.set.bits ≡ bits_of (take l.class-index l.classes)
