@@ -1,6 +1,7 @@
 //! Both commands over objects in memory. Plans and session numbers were computed outside.
-use crate::fixtures::{NO_LAYERS, PLAN, PRIORITIES, STREAM, check_on, place_of, plan_on};
+use crate::fixtures::{NO_LAYERS, check_on, place_of, plan_on};
 use crate::{CheckEnd, PlanEnd};
+use example_session::{PLAN, PRIORITIES, STREAM};
 use mpeg_scan::Scan;
 use pet_base::MemorySink;
 use priority_file::PriorityFault;
@@ -20,10 +21,24 @@ const ALL_IN_ONE: &str =
 
 /// The plan of one picture under the example priorities, and of the longest head in one packet.
 const ONE_PICTURE_PLAN: &str =
-    "session f835625a4d0ea4d0 groups 1 packets 6\ngroup 0 words 10 stripes 5 bound 5 datagram 61\nlayer 0 base bytes 20 need 2 count 2\nlayer 1 P bytes 0 need 3 count 1\nlayer 2 B bytes 0 need 5 count 1\nlengths 2x5\n";
+    "session f835625a4d0ea4d0 groups 1 packets 6\ngroup 0 words 10 stripes 5 bound 5 datagram 69\nlayer 0 base bytes 20 need 2 count 2\nlayer 1 P bytes 0 need 3 count 1\nlayer 2 B bytes 0 need 5 count 1\nlengths 2x5\n";
 
 const WIDEST_PLAN: &str =
-    "session cb5d53f20c89a73d groups 1 packets 1\ngroup 0 words 32474 stripes 32474 bound 32474 datagram 64999\nlayer 0 base bytes 64948 need 1 count 1\nlayer 1 P bytes 0 need 1 count 1\nlayer 2 B bytes 0 need 1 count 1\nlengths 1x32474\n";
+    "session 2fabc19ee8bc385e groups 1 packets 1\ngroup 0 words 32470 stripes 32470 bound 32470 datagram 64999\nlayer 0 base bytes 64940 need 1 count 1\nlayer 1 P bytes 0 need 1 count 1\nlayer 2 B bytes 0 need 1 count 1\nlengths 1x32470\n";
+
+/// The example priorities with needs that fall and rise, and with the first B picture in the layer of the P pictures.
+const NEEDS_IN_ANY_ORDER: &str =
+    "packets = 8\n[[layer]]\nname = \"base\"\nkinds = [\"head\", \"I\"]\nneed = 8\n[[layer]]\nname = \"P\"\nkinds = [\"P\"]\nneed = 2\n[[layer]]\nname = \"B\"\nkinds = [\"B\"]\nneed = 5\n";
+
+const FIRST_B_WITH_P: &str =
+    "packets = 6\n[[layer]]\nname = \"base\"\nkinds = [\"head\", \"I\"]\nneed = 2\n[[layer]]\nname = \"P\"\nkinds = [\"P\", \"B1\"]\nneed = 3\n[[layer]]\nname = \"B\"\nkinds = [\"B\"]\nneed = 5\n";
+
+/// The plans of the example stream under these.
+const ANY_ORDER_PLAN: &str =
+    "session cc3127311cef160f groups 1 packets 8\ngroup 0 words 35 stripes 7 bound 7 datagram 73\nlayer 0 base bytes 46 need 8 count 8\nlayer 1 P bytes 7 need 2 count 2\nlayer 2 B bytes 15 need 5 count 5\nlengths 8x2 7x1 2x2 5x1 3x1\n";
+
+const FIRST_B_PLAN: &str =
+    "session 7155c4f4ede0094a groups 1 packets 6\ngroup 0 words 34 stripes 15 bound 16 datagram 89\nlayer 0 base bytes 46 need 2 count 2\nlayer 1 P bytes 14 need 3 count 3\nlayer 2 B bytes 8 need 5 count 4\nlengths 2x12 3x2 4x1\n";
 
 /// A head of so many bytes.
 fn head_of(alloc: Global, len: usize) -> Result<Vec<u8>, AllocError> {
@@ -44,16 +59,18 @@ fn groups_of(alloc: Global, count: u32) -> Result<Vec<u8>, AllocError> {
 #[test]
 fn plans_or_refuses_a_stream(rt: HostRuntime) -> Result<(), Fail> {
     let alloc = rt.alloc();
-    let widest = head_of(alloc, 64_939)?;
-    let too_wide = head_of(alloc, 64_941)?;
+    let widest = head_of(alloc, 64_931)?;
+    let too_wide = head_of(alloc, 64_933)?;
     let many = groups_of(alloc, 65_536)?;
     let wide_plan = PlanEnd::BadPlan(SessionFault::TooWide(0));
     let many_plan = PlanEnd::BadPlan(SessionFault::TooManyGroups);
     let no_type = PlanEnd::BadStream(Scan::PictureType(4, 5));
     let empty = PlanEnd::BadStream(Scan::Empty);
     let no_layers = PlanEnd::BadPriority(PriorityFault::MissingKey);
-    let rows: [(&[u8], &str, PlanEnd, &str); 8] = [
+    let rows: [(&[u8], &str, PlanEnd, &str); 10] = [
         (&STREAM, PRIORITIES, PlanEnd::Done, PLAN),
+        (&STREAM, NEEDS_IN_ANY_ORDER, PlanEnd::Done, ANY_ORDER_PLAN),
+        (&STREAM, FIRST_B_WITH_P, PlanEnd::Done, FIRST_B_PLAN),
         // one run, and two empty layers
         (&ONE_PICTURE, PRIORITIES, PlanEnd::Done, ONE_PICTURE_PLAN),
         (&widest, ALL_IN_ONE, PlanEnd::Done, WIDEST_PLAN),

@@ -1,5 +1,5 @@
 -- What was read so far, one datagram more, and what stands after a failure.
-use Rattle.std.proofs.Common.{◌≡◌, ℕ, ◌+◌, ◌≤◌, take, List, [], ◌∷◌, ◌++◌, Option, refl, sym, ap, subst, ◌∙◌, append_assoc, arith, inl, inr}
+use Rattle.std.proofs.Common.{◌≡◌, ◌<◌, ℕ, ◌+◌, ◌≤◌, take, List, [], ◌∷◌, ◌++◌, Option, refl, sym, ap, subst, ◌∙◌, append_assoc, arith, inl, inr}
 use Rattle.std.proofs.lemmas.List.{length_push, append-nil}
 use Rattle.pet_base.specs.declared.limits.TheConstants.{MAX_DATAGRAMS}
 use Rattle.pet_base.specs.declared.entry.Entry.TheVariants.{Datagram, End}
@@ -11,10 +11,10 @@ use Rattle.pet_receive.specs.Arrivals.{Order, ReceiverState, kept_set}
 use Rattle.pet_receive.specs.KeptSet.{KeptSet}
 use Rattle.pet_receive.specs.laws.KeptSetLaws.{after_more}
 use Rattle.pet_receive.specs.Verdicts.{after, after_all}
-use Rattle.met_packets.specs.Gf16.{HasKeptIn}
-use Rattle.met_packets.specs.LayersText.{IsArrivalText, IsLayersText, order_after, order_after_all}
+use Rattle.pet_field.specs.Gf16.{gf16_coding}
+use Rattle.met_packets.specs.Gf16.{HasKeptIn, IsArrivalText, IsLayersText, IsTextAt}
+use Rattle.met_packets.specs.LayersText.{order_after, order_after_all}
 use Rattle.command_files.specs.Outputs.{Puts}
-use Rattle.met_packets.specs.Records.{IsTextAt}
 use Rattle.command_receive.specs.SoFar.{SoFar, HasReceived, PartSoFar, PartOfOne}
 use Rattle.met_packets.specs.Steps.{steps_of, steps_of_all}
 use Rattle.command_files.specs.laws.OutputLaws.{puts_nothing}
@@ -29,7 +29,7 @@ so_far_start s r steps held = record {
   rest = HasRead-nil s.rest;
   kept = refl;
   held = held;
-  is_text = text_nothing (kept_set r) [] 1;
+  is_text = text_nothing (λ a. a < 65536) gf16_coding (kept_set r) [] 1;
   puts = puts_nothing s s refl;
   steps = omega arith;
 }
@@ -38,7 +38,7 @@ so_far_start s r steps held = record {
 arrival_text : (set : KeptSet) (n n1 : ℕ) (first before : Seen) (r : ReceiverState ℕ) (d text : List ℕ) (a b : ℕ) (s : SoFar set n first before r a b) → n1 ≡ n + 1 → IsTextAt r n1 d text
     → IsLayersText set [] 1 (s.read ++ d ∷ []) (s.text ++ text)
 arrival_text set n n1 first before r d text a b s at is =
-    text_push set [] 1 n1 s.read d s.text text (omega (arith, s.many, at)) s.is_text
+    text_push (λ a. a < 65536) gf16_coding set [] 1 n1 s.read d s.text text (omega (arith, s.many, at)) s.is_text
     (subst (λ (k : KeptSet). IsArrivalText k (order_after_all set [] s.read) n1 d text) s.kept (is (order_after_all set [] s.read) s.held))
 
 pub so_far_more : (set : KeptSet) (n n1 len : ℕ) (into : List ℕ) (first before between now : Seen) (r next : ReceiverState ℕ) (a b c : ℕ) → SoFar set n first before r a b → n1 ≡ n + 1 → KeepsNames first before

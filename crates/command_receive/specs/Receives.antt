@@ -10,7 +10,7 @@ use Rattle.command_files.specs.Wrote.{File, Wrote}
 use Rattle.pet_receive.specs.KeptSet.{kept_in_all}
 use Rattle.pet_receive.specs.ShownBytes.{IsComplete, shown_in_all}
 use Rattle.met_packets.specs.Kept.{nothing_of, kept_of}
-use Rattle.met_packets.specs.LayersText.{IsLayersText}
+use Rattle.met_packets.specs.Gf16.{IsLayersText}
 use Rattle.met_packets.specs.Steps.{steps_of_all}
 use Rattle.pet_text.specs.Lines.{receive_text}
 use Rattle.command_receive.specs.declared.command.ReceiveEnd.{ReceiveEnd}

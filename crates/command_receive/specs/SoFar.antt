@@ -8,9 +8,8 @@ use Rattle.command_files.specs.Outputs.{IsPrefix, Puts, PutsPart}
 use Rattle.pet_receive.specs.Arrivals.{ReceiverState, kept_set}
 use Rattle.pet_receive.specs.KeptSet.{KeptSet}
 use Rattle.pet_receive.specs.Verdicts.{after_all}
-use Rattle.met_packets.specs.Gf16.{HasKeptIn}
-use Rattle.met_packets.specs.LayersText.{IsLayersText, order_after_all}
-use Rattle.met_packets.specs.Records.{IsTextAt}
+use Rattle.met_packets.specs.Gf16.{HasKeptIn, IsLayersText, IsTextAt}
+use Rattle.met_packets.specs.LayersText.{order_after_all}
 use Rattle.met_packets.specs.Steps.{steps_of_all}
 
 -- The datagrams that were read since, and what they have left: the receiver has kept what they bring, and the output has

@@ -3,19 +3,18 @@ ghost use Rattle.std.specs.Prelude.{◌≡◌, ◌<◌};
 
 use crate::fixtures::{
     EXAMPLE_0, EXAMPLE_1, EXAMPLE_2, FIRST_0, FIRST_1, FIRST_RECORD, OTHER_SESSION, WORDS_1,
-    WORDS_3, WORDS_RECORD, joined, packets,
+    WORDS_3, WORDS_RECORD, joined,
 };
 use crate::{ReceiveEnd, receive};
+use example_session::{ENTRY_LENGTH, SESSION, packets};
 use pet_base::{MemoryLink, MemoryPlace, MemorySink, Outside, Place, Steps};
 use std::alloc::Global;
 use std::marker::Brand;
 use std::sync::ledger::{Blank, Ledger};
 use std::test::Fail;
 
-/// The session of the short files, and the example session.
+/// The session of the short files.
 const FIRST_SESSION: [u8; 8] = [0, 1, 2, 3, 4, 5, 6, 7];
-
-const EXAMPLE_SESSION: [u8; 8] = [0xA5, 0xAC, 0x94, 0x61, 0xB0, 0x3B, 0xCF, 0x36];
 
 /// Whether `receive` from a place whose file `a`, where it is there, has these bytes ends so, leaves these records in `b`, and
 /// prints this line.
@@ -101,7 +100,7 @@ fn a_missing_file_of_datagrams_leaves_no_file_of_layers(rt: HostRuntime) -> Resu
 fn receives_the_example_session_and_parts_of_it(rt: HostRuntime) -> Result<(), Fail> {
     let alloc = rt.alloc();
     // its packets, and packet 5 with a bit flipped
-    let mut p = [[0; 83]; 7];
+    let mut p = [[0; ENTRY_LENGTH]; 7];
     p[..6].copy_from_slice(&packets());
     let mut damaged = p[5];
     damaged[47] = 0x01;
@@ -125,14 +124,7 @@ fn receives_the_example_session_and_parts_of_it(rt: HostRuntime) -> Result<(), F
     ];
     for (file, end, records, printed) in rows {
         assert!(rt;
-            receives(
-                alloc,
-                EXAMPLE_SESSION,
-                Some(file),
-                end,
-                Some(records),
-                printed
-            )?,
+            receives(alloc, SESSION, Some(file), end, Some(records), printed)?,
             "{printed}"
         );
     }

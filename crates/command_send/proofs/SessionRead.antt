@@ -1,12 +1,12 @@
 -- The session that was read with its marks, and what of it was sent.
-use Rattle.std.proofs.Common.{◌≡◌, ℕ, ◌+◌, ◌*◌, ◌≤◌, true, List, [], ◌∷◌, length, Option, Some, None, sym, ap, subst, ◌∙◌, inl, inr}
+use Rattle.std.proofs.Common.{◌≡◌, ℕ, ◌+◌, ◌*◌, ◌≤◌, List, [], ◌∷◌, length, Option, Some, None, sym, ap, subst, ◌∙◌, inl, inr}
 use Rattle.std.specs.Prelude.{◌⊎◌, option_map, Result, Ok, Err, IfErr, IsErrAnd}
 use Rattle.std.specs.List.{sum_by}
 use Rattle.pet_base.specs.declared.faults.Stop.TheVariants as stop
 use Rattle.pet_base.specs.Seen.{Seen, Files, Blame}
 use Rattle.pet_base.specs.laws.SeenLaws.{HadFault-since}
 use Rattle.stripe_plan.specs.Sizes.{Sizes}
-use Rattle.priority_file.specs.Priority.{Priorities, is_priority}
+use Rattle.priority_file.specs.Priority.{Priorities}
 use Rattle.priority_file.specs.Refusals.{priorities_of}
 use Rattle.stream_session.specs.declared.mark.GroupMark.{GroupMark}
 use Rattle.stream_session.specs.declared.source.Source.{Source}
@@ -32,13 +32,9 @@ line_of_pass p b source marks first =
     ∙ ap (λ (r : Priorities). send_text (session_number p b) (length source.tables.items) (length source.tables.items * r.packets)) first.rules
     ∙ ap (λ (ts : List Sizes). send_text (session_number p b) (length ts) (length ts * (priorities_of p).packets)) first.tables
 
--- the priority that was read is that of its file
-lawful_in : (rules read : Priorities) → read ≡ rules → is_priority read ≡ true → is_priority rules ≡ true
-lawful_in rules read same lawful = ap is_priority (sym same) ∙ lawful
-
 pub session_read : (old : Seen) (stream priority : List ℕ) (source : Source) (marks : List GroupMark) → (is : IsSource old.files stream priority source) × (marks ≡ marks_of (priorities_of is.file) is.bytes)
-    → is_priority source.priority ≡ true → IsReadFrom old stream priority source marks
-session_read old stream priority source marks read lawful =
+    → IsReadFrom old stream priority source marks
+session_read old stream priority source marks read =
     let is = read.0 in
     record {
       session = record {
@@ -47,7 +43,6 @@ session_read old stream priority source marks read lawful =
         priority_file = is.priority_is;
         stream_file = is.stream_is;
         session = is.accepted;
-        lawful = lawful_in (priorities_of is.file) source.priority is.rules lawful;
       };
       first = record { accepted = is.accepted; rules = is.rules; number = is.number; tables = is.tables; marks_are = read.1 };
     }

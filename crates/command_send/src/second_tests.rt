@@ -4,11 +4,11 @@ ghost use Rattle.std.specs.Prelude.{◌≡◌, ◌<◌};
 use crate::Change;
 use crate::fault::SendFault;
 use crate::fixtures::{
-    CHANGED_MARK, EXAMPLE_MARK, FIRST_MARK, GROUPS, NO_MARK, PRIORITIES, SECOND_MARK, STREAM,
-    THIRD_MARK, place_of,
+    CHANGED_MARK, EXAMPLE_MARK, FIRST_MARK, GROUPS, NO_MARK, SECOND_MARK, THIRD_MARK, place_of,
 };
 use crate::second::send_groups;
 use crate::session::read_first;
+use example_session::{PRIORITIES, STREAM};
 use pet_base::{Place, Steps};
 use std::alloc::Global;
 use std::marker::Brand;
@@ -69,17 +69,17 @@ fn sends_the_groups_before_a_change(rt: HostRuntime) -> Result<(), Fail> {
     let none = change_at(0, FIRST_MARK, NO_MARK);
     // a stream, what it has become, what the pass answers, and how many bytes it puts
     let rows: [(&[u8], &[u8], Result<(), SendFault>, usize); 9] = [
-        (&STREAM, &STREAM, Ok(()), 498),
+        (&STREAM, &STREAM, Ok(()), 546),
         (&STREAM, &changed, other, 0),
         // the stream is refused before its group has ended
         (&STREAM, &no_type, refused, 0),
-        (&GROUPS[..22], &GROUPS[..11], fewer, 378),
-        (&GROUPS, &pack_behind, fewer, 378),
+        (&GROUPS[..22], &GROUPS[..11], fewer, 426),
+        (&GROUPS, &pack_behind, fewer, 426),
         (&GROUPS, &pack_within, none, 0),
         // the stream is refused behind all groups of the first pass
-        (&GROUPS[..11], &pack_behind, Ok(()), 378),
-        (&GROUPS[..22], &GROUPS, more, 756),
-        (&GROUPS, &GROUPS, Ok(()), 1134),
+        (&GROUPS[..11], &pack_behind, Ok(()), 426),
+        (&GROUPS[..22], &GROUPS, more, 852),
+        (&GROUPS, &GROUPS, Ok(()), 1278),
     ];
     for (first, second, answer, put) in rows {
         let (told, sent) = sends::<Brand>(alloc, first, second, Blank::new(1))?;

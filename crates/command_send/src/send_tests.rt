@@ -1,10 +1,8 @@
 //! `send` over files in memory, and over a place that tells nothing. Session numbers, packets and marks were made outside.
-use crate::fixtures::{
-    CHANGED_MARK, EXAMPLE_MARK, GROUPS, NO_MARK, PRIORITIES, SECOND_MARK, STREAM, ends, packets,
-    place_of,
-};
+use crate::fixtures::{CHANGED_MARK, EXAMPLE_MARK, GROUPS, NO_MARK, SECOND_MARK, ends, place_of};
 use crate::untold_place::UntoldPlace;
 use crate::{Change, SendEnd};
+use example_session::{PRIORITIES, STREAM, packets};
 use mpeg_scan::Scan;
 use pet_base::MemoryPlace;
 use priority_file::PriorityFault;
@@ -63,7 +61,7 @@ fn compares_both_readings_where_nothing_is_told(rt: HostRuntime) -> Result<(), F
             second: Some(&STREAM),
             end: SendEnd::Done,
             printed: SENT,
-            sent: 498,
+            sent: 546,
         },
         ReopenedCase {
             first: &STREAM,
@@ -77,7 +75,7 @@ fn compares_both_readings_where_nothing_is_told(rt: HostRuntime) -> Result<(), F
             second: Some(&GROUPS[..11]),
             end: changed_at(1, SECOND_MARK, NO_MARK),
             printed: "",
-            sent: 378,
+            sent: 426,
         },
         ReopenedCase {
             first: &STREAM,

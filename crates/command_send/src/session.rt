@@ -3,7 +3,6 @@ ghost use Rattle.std.specs.Prelude.{◌≡◌, ◌+◌, ◌≤◌, ◌*◌, ℕ,
 ghost use Rattle.std.specs.List.{sum_by};
 ghost use Rattle.std.specs.Str.{bytes_eq};
 ghost use Rattle.pet_base.specs.Seen.{Seen, KeepsOutput, HasBlame};
-ghost use Rattle.priority_file.specs.Priority.{is_priority};
 ghost use Rattle.stream_session.specs.Sources.{IsSourceFault};
 ghost use Rattle.pet_text.specs.PlanLines.{send_text};
 ghost use Rattle.command_send.specs.Sends.{Costs, HasPackets, LeavesFront, sent_line_text};
@@ -16,7 +15,6 @@ use crate::first::FirstPass;
 use crate::second::send_groups;
 use pet_base::{Failed, NoMemory, Place, Steps};
 use pet_text::send_line;
-use priority_file::Priority;
 use std::alloc::Global;
 use std::sync::ledger::Ledger;
 use stream_session::{SourceFault, read_marked};
@@ -60,18 +58,10 @@ pub(crate) fn read_first<P: Place>(
         priority.now) }
 {
     let marked = read_marked(alloc, stream, priority, place)?;
-    keeps_bounds(&marked.source.priority);
     Ok(FirstPass {
         source: marked.source,
         marks: marked.marks,
     })
-}
-
-/// A priority keeps its bounds, as its type says: this tells a caller, who sees only the value.
-fn keeps_bounds(priority: &Priority)
-    ensures { is_priority priority.now ≡ true }
-{
-    let _ = &priority.packets;
 }
 
 /// Makes the file TO, reads the stream again and sends its groups.

@@ -1,4 +1,4 @@
-//! What the tests of `run` share: the example session, whose numbers were made outside, and `run` on objects in memory.
+//! What the tests of `run` share: a place that has files, and `run` on objects in memory.
 ghost use Rattle.std.specs.Prelude.{◌≡◌, ◌<◌};
 
 use crate::run;
@@ -9,24 +9,10 @@ use std::marker::Brand;
 use std::sync::ledger::{Blank, Ledger};
 use std::test::Fail;
 
-/// The example stream.
-pub(crate) const STREAM: [u8; 44] = [
-    0, 0, 1, 0xB3, 0x11, 0x22, 0, 0, 1, 0xB8, 0x33, 0, 0, 1, 0, 0, 8, 0x44, 0, 0, 1, 0, 0, 0x10,
-    0x55, 0, 0, 1, 0, 0, 0x18, 0x66, 0, 0, 1, 0, 0, 0x18, 0x77, 0x77, 0, 0, 1, 0xB7,
-];
-
 /// Two groups of 11 bytes, each a group of pictures and an I picture.
 pub(crate) const GROUPS: [u8; 22] = [
     0, 0, 1, 0xB8, 1, 0, 0, 1, 0, 0, 8, 0, 0, 1, 0xB8, 2, 0, 0, 1, 0, 0, 8,
 ];
-
-/// The example priorities.
-pub(crate) const PRIORITIES: &str =
-    "packets = 6\n[[layer]]\nname = \"base\"\nkinds = [\"head\", \"I\"]\nneed = 2\n[[layer]]\nname = \"P\"\nkinds = [\"P\"]\nneed = 3\n[[layer]]\nname = \"B\"\nkinds = [\"B\"]\nneed = 5\n";
-
-/// The plan of the example.
-pub(crate) const PLAN: &str =
-    "session a5ac9461b03bcf36 groups 1 packets 6\ngroup 0 words 35 stripes 15 bound 16 datagram 81\nlayer 0 base bytes 46 need 2 count 2\nlayer 1 P bytes 7 need 3 count 3\nlayer 2 B bytes 15 need 5 count 5\nlengths 2x12 3x1 5x1 3x1\n";
 
 /// A place with a stream `s`, priorities `f` and a file `p`.
 pub(crate) fn place_of(

@@ -1,6 +1,7 @@
 //! `run` over objects in memory: each form of words, and statuses with their numbers and lines. Session numbers were made
 //! outside. What each command writes is tested in its own crate.
-use crate::fixtures::{GROUPS, PLAN, PRIORITIES, STREAM, ends, place_of, run_on};
+use crate::fixtures::{GROUPS, ends, place_of, run_on};
+use example_session::{PLAN, PRIORITIES, STREAM};
 use mpeg_scan::Scan;
 use pet_base::MemorySink;
 use pet_text::{PlanKind, Status};
@@ -75,7 +76,7 @@ fn ends_with_the_status_and_its_line(rt: HostRuntime) -> Result<(), Fail> {
 #[test]
 fn judges_a_file_before_the_next_is_read(rt: HostRuntime) -> Result<(), Fail> {
     let alloc = rt.alloc();
-    let bad = "packets = 1025\n";
+    let bad = "packets = 4097\n";
     let no_key = Status::BadPriority(PriorityFault::MissingKey);
     let empty = Status::BadStream(Scan::Empty);
     let place_fault = Status::PlaceFault;

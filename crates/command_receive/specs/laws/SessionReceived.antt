@@ -13,6 +13,7 @@ use Rattle.command_files.specs.Wrote.{with_files}
 use Rattle.pet_encode.specs.Session.{Session}
 use Rattle.pet_receive.specs.ShownBytes.{IsComplete, shown_in_all}
 use Rattle.pet_text.specs.Lines.{receive_text}
+use Rattle.pet_field.specs.Gf16.{gf16_coding}
 use Rattle.met_packets.specs.Kept.{kept_of}
 use Rattle.met_packets.specs.Met.{met_in, all_shown, count_met, layers_text}
 use Rattle.met_packets.specs.laws.AllDatagrams.{follows_all, text_is}
@@ -43,16 +44,16 @@ module _ (s : Session) (from layers : List ℕ) (files : Files) (bytes : List �
     read_is : (datagrams bytes ≡ r.read) × (length r.read < MAX_DATAGRAMS)
     read_is = all_read r.read r.input
 
-    plain : All (IsPlain s) r.read
-    plain = subst (λ (l : List (List ℕ)). All (IsPlain s) l) read_is.0 given.packets
+    plain : All (IsPlain gf16_coding s) r.read
+    plain = subst (λ (l : List (List ℕ)). All (IsPlain gf16_coding s) l) read_is.0 given.packets
 
-    follows : Follows made s MAX_SESSION (met_in s.number r.read) (kept_of s.number r.read)
-    follows = follows_all s MAX_SESSION given.session given.fits r.read plain
+    follows : Follows (made gf16_coding) s MAX_SESSION (met_in s.number r.read) (kept_of s.number r.read)
+    follows = follows_all (λ a. a < 65536) gf16_coding s MAX_SESSION given.session given.fits r.read plain
 
     -- every layer is shown exactly where the session is complete
     pub shown_where : (IsComplete (kept_of s.number r.read) → all_shown s (met_in s.number r.read) ≡ true) × (all_shown s (met_in s.number r.read) ≡ true → IsComplete (kept_of s.number r.read))
     shown_where =
-        let complete = complete_is made s MAX_SESSION (met_in s.number r.read) (kept_of s.number r.read) given.session follows in
+        let complete = complete_is (made gf16_coding) s MAX_SESSION (met_in s.number r.read) (kept_of s.number r.read) given.session follows in
         (complete.0, complete.1)
 
     -- what was read and printed is what the session defines
@@ -61,7 +62,7 @@ module _ (s : Session) (from layers : List ℕ) (files : Files) (bytes : List �
     session_received end ended printed =
         let pairs = met_in s.number r.read in
         let kept = kept_of s.number r.read in
-        let text : r.text ≡ layers_text s r.read = text_is s MAX_SESSION given.session given.fits r.read r.text plain r.is_text in
+        let text : r.text ≡ layers_text s r.read = text_is (λ a. a < 65536) gf16_coding s MAX_SESSION given.session given.fits r.read r.text plain r.is_text in
         subst (λ (l : List (List ℕ)). ReceivesSession s layers files l before after end) (sym read_is.0)
         (record {
           file =
@@ -70,8 +71,8 @@ module _ (s : Session) (from layers : List ℕ) (files : Files) (bytes : List �
           ended = ended;
           printed =
               printed
-              ∙ ap (λ (n : ℕ). append_known before.written (receive_text (length r.read) n (shown_in_all kept))) (kept_is made s MAX_SESSION pairs kept given.session follows)
-              ∙ ap (λ (n : ℕ). append_known before.written (receive_text (length r.read) (count_met s pairs) n)) (shown_is made s MAX_SESSION pairs kept given.session follows);
+              ∙ ap (λ (n : ℕ). append_known before.written (receive_text (length r.read) n (shown_in_all kept))) (kept_is (made gf16_coding) s MAX_SESSION pairs kept given.session follows)
+              ∙ ap (λ (n : ℕ). append_known before.written (receive_text (length r.read) (count_met s pairs) n)) (shown_is (made gf16_coding) s MAX_SESSION pairs kept given.session follows);
           fewest = all_carry_fewest s.groups given.session.groups;
         })
 

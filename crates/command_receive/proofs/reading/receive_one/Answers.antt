@@ -1,10 +1,11 @@
-use Rattle.std.proofs.Common.{◌≡◌, ℕ, Bool, false, cond, List, [], ◌∷◌, ◌++◌, refl, sym, ap, subst, ◌∙◌, arith, inr}
+use Rattle.std.proofs.Common.{◌≡◌, ◌<◌, ℕ, Bool, false, cond, List, [], ◌∷◌, ◌++◌, refl, sym, ap, subst, ◌∙◌, arith, inr}
 use Rattle.pet_base.specs.laws.Through.{on_any_err}
 use Rattle.packet_frame.specs.Refusals.{fields_of}
 use Rattle.pet_receive.specs.Arrivals.{ReceiverState, kept_set}
 use Rattle.pet_receive.specs.declared.verdict.Verdict.{Verdict}
 use Rattle.pet_receive.specs.declared.verdict.Verdict.TheVariants.{Damaged, Foreign, Clash, Repeated, Full, Kept}
 use Rattle.pet_receive.specs.declared.verdict.LayerSet.{LayerSet}
+use Rattle.pet_field.specs.Gf16.{gf16_coding}
 use Rattle.met_packets.specs.Gf16.{HasKeptIn}
 use Rattle.pet_receive.specs.KeptSet.{KeptSet, open_group, group_with}
 use Rattle.pet_receive.specs.ShownBytes.{IsShown}
@@ -45,7 +46,7 @@ returns-in-Kept-clause-puts g c =
     let d = c.args.datagram.now in
     let S = kept_set c.args.receiver.now in
     let k = kept_shows S d c.in-Kept.shown c.requires.sound (sym c.in-Kept.is ∙ c.in_ok-verdict.ensures.verdict) in
-    let text = λ (t : List ℕ). text_at c.args.receiver.now c.accept.new.self c.args.arrival c.group_of-group.result d t c.in-Kept.shown k c.group_of-group.ensures c.in_ok-verdict.ensures.kept (c.in_ok-verdict.ensures.order (ap is_kept c.in-Kept.is)) in
+    let text = λ (t : List ℕ). text_at (λ a. a < 65536) gf16_coding c.args.receiver.now c.accept.new.self c.args.arrival c.group_of-group.result d t c.in-Kept.shown k c.group_of-group.ensures c.in_ok-verdict.ensures.kept (c.in_ok-verdict.ensures.order (ap is_kept c.in-Kept.is)) in
     let p = c.in_ok-put_shown.ensures.puts in
     (p.0, text p.0 p.1, p.2)
 
@@ -54,7 +55,7 @@ returns-in_err-put_shown-clause-part g c =
     let d = c.args.datagram.now in
     let S = kept_set c.args.receiver.now in
     let k = kept_shows S d c.in-Kept.shown c.requires.sound (sym c.in-Kept.is ∙ c.in_ok-verdict.ensures.verdict) in
-    let text = λ (t : List ℕ). text_at c.args.receiver.now c.accept.new.self c.args.arrival c.group_of-group.result d t c.in-Kept.shown k c.group_of-group.ensures c.in_ok-verdict.ensures.kept (c.in_ok-verdict.ensures.order (ap is_kept c.in-Kept.is)) in
+    let text = λ (t : List ℕ). text_at (λ a. a < 65536) gf16_coding c.args.receiver.now c.accept.new.self c.args.arrival c.group_of-group.result d t c.in-Kept.shown k c.group_of-group.ensures c.in_ok-verdict.ensures.kept (c.in_ok-verdict.ensures.order (ap is_kept c.in-Kept.is)) in
     let p = c.in_err-put_shown.ensures.part in
     on_any_err c.from_residual-in_err-put_shown.result (inr (p.0, text p.0 p.1, p.2))
 
@@ -70,7 +71,7 @@ pub returns-clause-puts : goal.returns-clause-puts
 returns-clause-puts g c =
     let out = not_kept c.in_ok-verdict.verdict c.in_default.not-Kept in
     let s = g.P.Place.seen c.args.place.now in
-    ([], nothing_at c.args.receiver.now c.args.arrival c.args.datagram.now (ap is_kept (sym c.in_ok-verdict.ensures.verdict) ∙ out), puts_nothing s s refl)
+    ([], nothing_at (λ a. a < 65536) gf16_coding c.args.receiver.now c.args.arrival c.args.datagram.now (ap is_kept (sym c.in_ok-verdict.ensures.verdict) ∙ out), puts_nothing s s refl)
 
 pub returns-clause-held : goal.returns-clause-held
 returns-clause-held g c order held =

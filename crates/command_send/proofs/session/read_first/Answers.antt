@@ -4,7 +4,7 @@ use Rattle.command_send.proofs.session.read_first.Goals as goal
 
 pub returns-clause-read : goal.returns-clause-read
 returns-clause-read g c =
-    session_read (g.P.Place.seen c.args.place.now) c.args.stream.now c.args.priority.now c.in_ok-marked.marked.source c.in_ok-marked.marked.marks.items c.in_ok-marked.ensures.source c.keeps_bounds.ensures
+    session_read (g.P.Place.seen c.args.place.now) c.args.stream.now c.args.priority.now c.in_ok-marked.marked.source c.in_ok-marked.marked.marks.items c.in_ok-marked.ensures.source
 
 pub invariant_of-result-clause-as_many : goal.invariant_of-result-clause-as_many
 invariant_of-result-clause-as_many g c =
