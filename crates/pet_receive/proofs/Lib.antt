@@ -10,3 +10,9 @@ pub mod Sums
 pub mod Grown
 pub mod Accepted
 pub mod Named
+pub mod Opened
+pub mod Filling
+pub mod Joined
+pub mod Clashes
+pub mod Absorbed
+pub mod Fitting

@@ -1,6 +1,6 @@
 -- What a receiver of one session has kept: a finite map from the pairs of a group and a packet number to frames of one
 -- session number. This project's own.
-use Rattle.std.specs.Prelude.{◌≡◌, ℕ, ◌<◌, ◌≤◌, List, [], length, Option, None, Some, IsSome, option_map, option_and_then, unwrap_or, sum_by, replicate}
+use Rattle.std.specs.Prelude.{◌≡◌, ℕ, ◌<◌, ◌≤◌, List, [], length, Option, None, Some, IsSome, option_map, option_and_then, unwrap_or, sum_by, replicate, slice_get}
 use Rattle.std.specs.Ordering.{nat_cmp}
 use Rattle.std.specs.BTreeMap.{is_at, insert_entry}
 use Rattle.std.specs.Map.{lookup, keys_of}
@@ -54,6 +54,10 @@ cost_in p = cost_of p.header.table.packets p.header.table.layers
 -- the same, summed over the open groups
 abbrev pub cost_kept : KeptSet → ℕ
 cost_kept set = sum_by (λ e. cost_in e.1) set.groups
+
+-- the number of groups that the kept frames tell, where one is kept
+abbrev pub told_by : KeptSet → Option ℕ
+told_by set = option_map (λ e. e.1.header.groups) (slice_get set.groups 0)
 
 -- what the frame shares with all frames of its group
 abbrev pub header_of : Fields → Header

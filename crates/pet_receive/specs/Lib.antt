@@ -4,4 +4,6 @@ pub mod Arrivals
 pub mod ShownBytes
 pub mod Receiving
 pub mod Group
+pub mod Union
+pub mod Joining
 pub mod laws

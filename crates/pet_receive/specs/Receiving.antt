@@ -1,5 +1,5 @@
 -- What the fields of a receiver keep to, and the verdict of a frame in two steps: by what is kept of its group.
-use Rattle.std.specs.Prelude.{◌≡◌, ℕ, ◌+◌, ◌^◌, ◌<◌, ◌≤◌, ◌==◌, Bool, not, nat_lt, if◌then◌else◌, List, [], ◌∷◌, ◌++◌, length, Option, None, Some, option_map, unwrap_or, slice_get, MatchOption}
+use Rattle.std.specs.Prelude.{◌≡◌, ℕ, ◌+◌, ◌^◌, ◌<◌, ◌≤◌, ◌==◌, Bool, not, nat_lt, if◌then◌else◌, List, [], ◌∷◌, ◌++◌, length, Option, None, Some, option_map, unwrap_or, MatchOption}
 use Rattle.std.specs.Ordering.{nat_cmp}
 use Rattle.std.specs.BTreeMap.{is_at, insert_entry}
 use Rattle.std.specs.Map.{lookup}
@@ -12,14 +12,10 @@ use Rattle.packet_set.specs.Packets.{Packets, slot_at, with_packet}
 use Rattle.pet_encode.specs.Session.{cost_of}
 use Rattle.pet_receive.specs.declared.verdict.Verdict.{Verdict}
 use Rattle.pet_receive.specs.declared.verdict.Verdict.TheVariants.{Clash, Repeated, Full, Kept}
-use Rattle.pet_receive.specs.KeptSet.{KeptSet, IsKeptSet, count_in, cost_kept, header_of, no_packets}
+use Rattle.pet_receive.specs.KeptSet.{IsKeptSet, count_in, cost_kept, told_by, header_of, no_packets}
 use Rattle.pet_receive.specs.Verdicts.{layer_set, shown_between}
 use Rattle.pet_receive.specs.ShownBytes.{shown_in}
 use Rattle.pet_receive.specs.Arrivals.{layers_of, GroupState, ReceiverState, Order, HoldsAfter, kept_set, HasKept}
-
--- the number of groups that the kept frames tell, where one is kept
-abbrev pub told_by : KeptSet → Option ℕ
-told_by set = option_map (λ e. e.1.header.groups) (slice_get set.groups 0)
 
 -- a frame whose number is not kept: it opens its group, or follows so many packets of it
 abbrev pub shows_next : Fields → ℕ → Verdict

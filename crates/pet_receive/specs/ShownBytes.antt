@@ -1,5 +1,5 @@
 -- The bytes of a shown layer, by the frames that were kept. This project's own, on interpolation by polynomials.
-use Rattle.std.specs.Prelude.{◌≡◌, ℕ, ◌+◌, ◌<◌, ◌≤◌, nat_le, List, [], length, take, sum_by, count_by, slice_index_or, Some, option_map, unwrap_or, slice_get, MatchOption}
+use Rattle.std.specs.Prelude.{◌≡◌, ℕ, ◌+◌, ◌<◌, ◌≤◌, nat_le, List, [], length, take, sum_by, count_by, slice_index_or, Some, unwrap_or, MatchOption}
 use Rattle.std.specs.List.{range_with_len}
 use Rattle.pet_field.specs.Field.{Coding}
 use Rattle.pet_interp.specs.Progressive.{column}
@@ -9,7 +9,7 @@ use Rattle.stripe_plan.specs.Counts.{Meets}
 use Rattle.packet_set.specs.Packets.{Packets, slot_at}
 use Rattle.pet_encode.specs.Payload.{stripes_in, payload_at}
 use Rattle.pet_encode.specs.Session.{IsMessage, bytes_of_layer}
-use Rattle.pet_receive.specs.KeptSet.{KeptSet, open_group, count_in}
+use Rattle.pet_receive.specs.KeptSet.{KeptSet, open_group, count_in, told_by}
 use Rattle.pet_receive.specs.Arrivals.{layers_of, points_of}
 
 -- the layer of a group is shown
@@ -30,7 +30,7 @@ shown_in_all set = sum_by (λ e. shown_in e.1) set.groups
 
 -- the number of groups that the kept frames tell, and 0 where nothing is kept
 abbrev pub groups_told : KeptSet → ℕ
-groups_told set = unwrap_or (option_map (λ e. e.1.header.groups) (slice_get set.groups 0)) 0
+groups_told set = unwrap_or (told_by set) 0
 
 -- something is kept, and every layer of every group of the session is shown
 pub record IsComplete (set : KeptSet) : Type 0 where

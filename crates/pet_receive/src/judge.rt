@@ -1,5 +1,6 @@
 //! The verdict of a frame of the session, by what is kept of its group.
-ghost use Rattle.std.specs.Prelude.{◌≡◌, ℕ, ◌+◌, ◌^◌, ◌<◌, ◌≤◌, ◌&&◌, nat_lt, nat_le, cond, length};
+ghost use Rattle.std.specs.Prelude.{◌≡◌, ℕ, ◌+◌, ◌^◌, ◌<◌, ◌≤◌, ◌&&◌, nat_lt, nat_le, cond, length, not, ◌==◌, false};
+ghost use Rattle.std.specs.Option.{option_map_or};
 ghost use Rattle.stripe_plan.specs.Layers.{count_of};
 ghost use Rattle.packet_frame.specs.View.{view};
 ghost use Rattle.pet_receive.specs.Verdicts.{layer_set, shown_between};
@@ -71,4 +72,14 @@ fn with_layer(bits: u32, layer: u8, wanted: bool) -> u32
     ensures below { result < 2 ^ (layer + 1) }
 {
     if wanted { bits + (1u32 << layer) } else { bits }
+}
+
+/// Whether another number of groups was told.
+pub(crate) fn is_other(told: Option<u32>, groups: u32) -> bool
+    ensures { result ≡ option_map_or (λ n. not (n == groups)) told false }
+{
+    match told {
+        Some(count) => count != groups,
+        None => false,
+    }
 }

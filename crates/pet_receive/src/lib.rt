@@ -4,21 +4,29 @@
 //! The verdict of a datagram is the defined one by the set of packets kept so far, and every verdict but `Kept` changes
 //! nothing. A layer is shown from the very packet on that brings its group to the layer's count, and its bytes are those
 //! of the only words that have the kept payloads as their values; where the kept packets are those of a message, they are
-//! the message's. Memory is taken only where a datagram opens a group.
+//! the message's. A receiver takes in what another has kept, all of it or nothing. Memory is taken only where a group is
+//! opened, and by `absorb` for its answer.
 #![tactic(auto)]
 
+mod checks;
 mod datagram;
 mod group;
+mod joining;
 mod judge;
 mod keeping;
 mod receiver;
+mod shown;
 mod totals;
+mod union;
 mod verdict;
 mod write;
 
-pub use datagram::group_of;
+pub use datagram::{group_of, number_of};
 pub use receiver::Receiver;
+pub use union::Absorb;
 pub use verdict::{LayerSet, Verdict};
 
 #[cfg(test)]
 mod tests;
+#[cfg(test)]
+mod union_tests;

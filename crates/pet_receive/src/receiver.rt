@@ -1,6 +1,6 @@
 //! The receiver of one session.
-ghost use Rattle.std.specs.Prelude.{◌≡◌, ◌↔◌, ℕ, ◌+◌, ◌≤◌, false, true, List, [], ◌∷◌, ◌++◌, Some, IsSome, IsTrue, IfOk, IfSome, OnOk, OnErr, not, ◌==◌};
-ghost use Rattle.std.specs.Option.{option_map_or};
+ghost use Rattle.std.specs.Prelude.{◌≡◌, ◌≢◌, None, IfErr, map, ◌↔◌, ℕ, ◌+◌, ◌≤◌, false, true, List, [], ◌∷◌, ◌++◌, Some, IsSome, IsTrue, IfOk, IfSome, OnOk, OnErr, option_copied, option_map};
+ghost use Rattle.std.specs.Option.{option_or};
 ghost use Rattle.pet_base.specs.declared.limits.TheConstants.{MAX_PACKETS};
 ghost use Rattle.packet_frame.specs.Frame.{IsFrame};
 ghost use Rattle.packet_frame.specs.Refusals.{fields_of};
@@ -8,17 +8,22 @@ ghost use Rattle.packet_frame.specs.View.{view};
 ghost use Rattle.packet_set.specs.Packets.{Packets};
 ghost use Rattle.pet_interp.specs.Progressive.{step_bound};
 ghost use Rattle.pet_encode.specs.Session.{IsMessage, bytes_of_layer};
-ghost use Rattle.pet_receive.specs.KeptSet.{IsKeptSet, empty_set, open_group, Keeps, count_kept, kept_in_all, keep};
+ghost use Rattle.pet_receive.specs.KeptSet.{IsKeptSet, empty_set, open_group, payload_of, Keeps, count_kept, kept_in_all, keep, told_by, cost_kept};
 ghost use Rattle.pet_receive.specs.Verdicts.{verdict_of, frame_verdict, is_kept, opens, after};
 ghost use Rattle.pet_receive.specs.Arrivals.{Order, HasKept, kept_set, numbers_of, layers_of, stripe_lengths};
+ghost use Rattle.pet_receive.specs.Union.{union, absorb_fault, new_pairs, shown_by_union, union_steps};
 ghost use Rattle.pet_receive.specs.ShownBytes.{IsShown, IsShownBytes, Agrees, IsComplete, shown_in_all};
 
+use crate::checks::{cost_with, find_clash};
 use crate::group::OpenGroup;
-use crate::judge::{judge_in, judge_new};
+use crate::joining::{join_all, open_all};
+use crate::judge::{is_other, judge_in, judge_new};
 use crate::keeping::keep_frame;
+use crate::shown::newly_shown;
 use crate::totals::{total_kept, total_shown, total_whole};
+use crate::union::Absorb;
 use crate::verdict::Verdict;
-use packet_frame::{Frame, read_frame};
+use packet_frame::{Frame, Header, read_frame};
 use pet_base::{NoMemory, Steps};
 use pet_field::Field;
 use std::alloc::Global;
@@ -112,6 +117,36 @@ impl<'f, F: Field> Receiver<'f, F> {
         }
     }
 
+    /// Takes in all packets that the other receiver has kept, by group, then number, and answers the layers that are shown now
+    /// and were not before, by group, then layer. It takes all its memory before it keeps the first packet, and a refusal
+    /// changes nothing. Each packet that is added counts at most (q + 1)(2r + 1) steps, where r packets of its group were kept
+    /// before it and q of the group's stripes are longer than r.
+    pub fn absorb<L: Ledger>(
+        &mut self,
+        other: &Receiver<'f, F>,
+        steps: &mut Steps<L>,
+    ) -> Result<Vec<(u32, u8)>, Absorb>
+        ensures refused { IfErr result (λ fault. fault ≢ Absorb.NoMemory
+            → absorb_fault (kept_set self.old) (kept_set other.now) ≡ Some fault) }
+        ensures unchanged { OnErr result ((self.new ≡ self.old) × (steps.new ≡ steps.old)) }
+        ensures joined { OnOk result (absorb_fault (kept_set self.old) (kept_set other.now) ≡ None) }
+        ensures kept { OnOk result (kept_set self.new ≡ union (kept_set self.old) (kept_set other.now)) }
+        ensures shown { IfOk result (λ shown. map (λ s. (s.0, s.1)) shown.items ≡ shown_by_union (kept_set self.old) (kept_set other.now)) }
+        ensures order { OnOk result ((order : Order) → HasKept F.is_element F.coding self.old order
+            → HasKept F.is_element F.coding self.new (order ++ new_pairs (kept_set self.old) (kept_set other.now))) }
+        ensures cost { OnOk result (steps.new ≤ steps.old
+            + union_steps (kept_set self.old) (kept_set other.now)) }
+        ensures sound { IsKeptSet (kept_set self.new) }
+    {
+        let cost = self.fit(other)?;
+        let shown = newly_shown(self.alloc, &self.groups, &other.groups)?;
+        open_all(self.alloc, self.field, &mut self.groups, &other.groups)?;
+        join_all(&mut self.groups, &other.groups, steps);
+        self.told = told_by_either(self.told, other.told);
+        self.cost = cost;
+        Ok(shown)
+    }
+
     /// The bytes of a layer of a group, where it is shown. It takes no memory.
     pub fn layer(&self, group: u32, layer: u8) -> Option<&[u8]>
         ensures shown { IsSome result ↔ IsShown (kept_set self.now) group layer }
@@ -156,6 +191,34 @@ impl<'f, F: Field> Receiver<'f, F> {
         }
     }
 
+    /// The payload of a packet of a group, where it is kept. It takes no memory.
+    pub fn packet(&self, group: u32, number: u16) -> Option<&[u8]>
+        ensures { option_copied result ≡ payload_of (kept_set self.now) group number }
+    {
+        match self.groups.get(&group) {
+            Some(open) => open.packets().payload(number),
+            None => None,
+        }
+    }
+
+    /// What the packets of a group share, where one is kept. It takes no memory.
+    pub fn header(&self, group: u32) -> Option<&Header>
+        ensures { option_copied result ≡ option_map (λ p. p.header) (open_group (kept_set self.now) group) }
+    {
+        match self.groups.get(&group) {
+            Some(open) => Some(open.packets().header()),
+            None => None,
+        }
+    }
+
+    /// How many groups the session has, where a packet is kept. It takes no memory.
+    pub fn groups(&self) -> Option<u32>
+        ensures value { result ≡ told_by (kept_set self.now) }
+        ensures sound { IsKeptSet (kept_set self.now) }
+    {
+        self.told
+    }
+
     /// The session's number. It takes no memory.
     pub fn session(&self) -> [u8; 8]
         ensures { result ≡ (kept_set self.now).session }
@@ -179,6 +242,24 @@ impl<'f, F: Field> Receiver<'f, F> {
         // A field is touched, so that what the type promises of itself is known here.
         let _ = &self.told;
         total_shown(&self.groups)
+    }
+
+    /// What the open groups cost with those of the other, or why the two cannot be joined.
+    fn fit(&self, other: &Receiver<'f, F>) -> Result<u64, Absorb>
+        ensures refused { IfErr result (λ fault. absorb_fault (kept_set self.now) (kept_set other.now) ≡ Some fault) }
+        ensures joined { OnOk result (absorb_fault (kept_set self.now) (kept_set other.now) ≡ None) }
+        ensures cost { IfOk result (λ cost. cost ≡ cost_kept (union (kept_set self.now) (kept_set other.now))) }
+    {
+        if self.session != other.session {
+            return Err(Absorb::OtherSession);
+        }
+        if let Some(clash) = find_clash(self.told, &self.groups, &other.groups) {
+            return Err(clash);
+        }
+        match cost_with(&self.groups, &other.groups, self.limit, self.cost) {
+            Ok(cost) => Ok(cost),
+            Err(group) => Err(Absorb::Full(group)),
+        }
     }
 
     /// Judges a frame, and keeps it where the verdict is `Kept`.
@@ -252,12 +333,12 @@ impl<'f, F: Field> Receiver<'f, F> {
     }
 }
 
-/// Whether another number of groups was told.
-fn is_other(told: Option<u32>, groups: u32) -> bool
-    ensures { result ≡ option_map_or (λ n. not (n == groups)) told false }
+/// The number of groups that was told here, or else there.
+fn told_by_either(here: Option<u32>, there: Option<u32>) -> Option<u32>
+    ensures { result ≡ option_or here there }
 {
-    match told {
-        Some(count) => count != groups,
-        None => false,
+    match here {
+        Some(count) => Some(count),
+        None => there,
     }
 }

@@ -15,21 +15,21 @@ use Rattle.std.proofs.lemmas.Map.Keys.{sorted_tail, IsDistinct-from_sorted}
 use Rattle.std.proofs.lemmas.Map.Lookups.{exact_unsigned}
 use Rattle.std.proofs.lemmas.Map.Views.{All-keys-insert_entry}
 
-cmp_same : (k : ℕ) → nat_cmp k k ≡ Equal
+pub cmp_same : (k : ℕ) → nat_cmp k k ≡ Equal
 cmp_same k = sym (nat_cmp_is k k Equal refl)
 
-cmp_apart : (q k : ℕ) → q ≢ k → is_eq (nat_cmp q k) ≡ false
+pub cmp_apart : (q k : ℕ) → q ≢ k → is_eq (nat_cmp q k) ≡ false
 cmp_apart q k ne =
     elim (cases_lt q k) [
       | inl l ↦ ap is_eq (sym (nat_cmp_is q k Less l))
       | inr m ↦ let above : k < q = omega arith in ap is_eq (sym (nat_cmp_is q k Greater above))
     ]
 
-cmp_less : (q k : ℕ) → q < k → nat_cmp q k ≡ Less
+pub cmp_less : (q k : ℕ) → q < k → nat_cmp q k ≡ Less
 cmp_less q k l = sym (nat_cmp_is q k Less l)
 
 -- what the order says of two numbers
-cmp_says_less : (q k : ℕ) → nat_cmp q k ≡ Less → q < k
+pub cmp_says_less : (q k : ℕ) → nat_cmp q k ≡ Less → q < k
 cmp_says_less q k p =
     elim (cases_lt q k) [
       | inl l ↦ l
@@ -39,7 +39,7 @@ cmp_says_less q k p =
       ]
     ]
 
-cmp_says_greater : (q k : ℕ) → nat_cmp q k ≡ Greater → k < q
+pub cmp_says_greater : (q k : ℕ) → nat_cmp q k ≡ Greater → k < q
 cmp_says_greater q k p =
     elim (cases_lt k q) [
       | inl l ↦ l

@@ -55,11 +55,11 @@ chain true false true d k e = absurd (cc)
 chain true false false true k e = absurd (cc)
 chain true false false false k e = record { first = refl; second = refl; third = refl; fourth = refl; is = refl }
 
-neither : (a b : Bool) → (a || b) ≡ false → (a ≡ false) × (b ≡ false)
+pub neither : (a b : Bool) → (a || b) ≡ false → (a ≡ false) × (b ≡ false)
 neither true b e = absurd (cc)
 neither false b e = (refl, e)
 
-not_false : (b : Bool) → not b ≡ false → b ≡ true
+pub not_false : (b : Bool) → not b ≡ false → b ≡ true
 not_false true e = refl
 not_false false e = absurd (cc)
 
@@ -118,7 +118,7 @@ count_none A (suc n) = omega (arith, sum_by-cons (λ (x : Option A). cond (is_so
 pub none_in : (A : Type 0) (n i : ℕ) → get_or {A = Option A} (replicate n None) i None ≡ None
 none_in A n i = elim (cases_lt i n) [ inl l ↦ get_or-replicate n i None None l | inr past ↦ get_or_past (replicate n None) i None (omega (arith, length-replicate {A = Option A} n None)) ]
 
-none_told : {A : Type 0} (test : A → Bool) (xs : List A) → list_any test xs ≡ false → (i : ℕ) (d : A) → i < length xs → test (get_or xs i d) ≡ false
+pub none_told : {A : Type 0} (test : A → Bool) (xs : List A) → list_any test xs ≡ false → (i : ℕ) (d : A) → i < length xs → test (get_or xs i d) ≡ false
 none_told test [] e i d l = absurd (omega arith)
 none_told test (x ∷ xs) e zero d l = (neither (test x) (list_any test xs) e).0
 none_told test (x ∷ xs) e (suc i) d l = none_told test xs (neither (test x) (list_any test xs) e).1 i d (omega arith)
@@ -130,7 +130,7 @@ header_same h f s n g t =
     ∙ ap (λ x. record { session = f.session; groups = f.groups; group = x; table = h.table }) g
     ∙ ap (λ x. record { session = f.session; groups = f.groups; group = f.group; table = x }) t
 
-same_number : (a b : ℕ) → not (a == b) ≡ false → a ≡ b
+pub same_number : (a b : ℕ) → not (a == b) ≡ false → a ≡ b
 same_number a b e = exact_unsigned_eq a b (not_false (a == b) e)
 
 -- the packets of a group before a frame is kept, of which n are kept

@@ -1,4 +1,4 @@
-use Rattle.std.proofs.Common.{◌≡◌, ◌<◌, ◌*◌, length, get_or, take, drop, ap, ap₂, ◌∙◌, arith}
+use Rattle.std.proofs.Common.{◌*◌, get_or, take, drop, ap, ap₂, ◌∙◌, arith}
 use Rattle.stripe_plan.specs.declared.layer.LayerSize.{LayerSize}
 use Rattle.stripe_plan.specs.Layers.{words_before}
 use Rattle.pet_receive.proofs.Needs.{layer_inside, length_is}

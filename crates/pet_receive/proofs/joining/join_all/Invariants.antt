@@ -1,0 +1,11 @@
+use Rattle.std.proofs.Common.{ℕ, List}
+use Rattle.pet_receive.specs.Arrivals.{GroupState}
+use Rattle.pet_receive.specs.Joining.{CanJoin, JoinsAll}
+use Rattle.pet_receive.proofs.joining.join_all.Given as goal
+
+abbrev pub invariant-loop-group : goal.invariant-loop-group
+invariant-loop-group g l = record {
+  ready : CanJoin g.F.Field.is_element g.F.Field.coding l.groups.entries l.group-iterator;
+  joined : (after : List (ℕ × GroupState g.row.F-Elem.Denot)) (more : ℕ) → JoinsAll g.F.Field.is_element g.F.Field.coding l.groups.entries l.steps l.group-iterator after more
+      → JoinsAll g.F.Field.is_element g.F.Field.coding l.initial.groups.entries l.initial.steps l.others.entries after more;
+}

@@ -1,0 +1,27 @@
+use Rattle.std.proofs.Common.{◌≡◌, sym, ap, ◌∙◌, subst}
+use Rattle.packet_frame.specs.declared.frame.Header.{Header}
+use Rattle.packet_set.specs.Packets.{Packets}
+use Rattle.pet_receive.specs.Joining.{OpensOne, OpensAll}
+use Rattle.pet_receive.proofs.Opened.{opens_next, opens_end}
+use Rattle.pet_receive.proofs.joining.open_each.Goals as goal
+
+pub loop-group-preserved : goal.loop-group-preserved
+loop-group-preserved g c =
+    let F = g.F.Field in
+    let es = c.loop-group.groups.entries in
+    let mid = c.open_missing.new.groups.entries in
+    let header : c.header.result.now ≡ c.in-Some.other.now.packets.header = c.header.ensures.value ∙ ap (λ (p : Packets). p.header) c.packets.ensures in
+    record {
+      opened =
+          λ after all.
+          let one = subst (λ (h : Header). OpensOne F.is_element F.coding es c.in-Some.group.now h mid) header c.in_ok-open_missing.ensures.opened in
+          c.loop-group.invariant.opened after (subst (λ it. OpensAll F.is_element F.coding es it after) (sym c.in-Some.ensures.steps)
+          (opens_next F.is_element F.coding es mid after (c.in-Some.group.now, c.in-Some.other.now) c.next.new.self one all));
+      same = c.in_ok-open_missing.ensures.same ∙ c.loop-group.invariant.same;
+    }
+
+pub returns-clause-opened : goal.returns-clause-opened
+returns-clause-opened g c =
+    let F = g.F.Field in
+    let es = c.loop-group.groups.entries in
+    c.loop-group.invariant.opened es (subst (λ it. OpensAll F.is_element F.coding es it es) (sym c.in-None.ensures.steps.0) (opens_end F.is_element F.coding es))
