@@ -10,7 +10,7 @@ ghost use Rattle.command_files.specs.Outputs.{Puts, PutsPart};
 
 use pet_base::{NoMemory, Place, Steps, Stop};
 use pet_encode::Encoder;
-use pet_field::Gf16Plain;
+use pet_tables::Gf16Tables;
 use std::alloc::Global;
 use std::sync::ledger::Ledger;
 use stripe_plan::datagram_length;
@@ -21,7 +21,7 @@ use stripe_plan::datagram_length;
 pub fn put_group<P: Place, L: Ledger>(
     alloc: Global,
     place: &mut P,
-    encoder: &Encoder<'_, Gf16Plain>,
+    encoder: &Encoder<'_, Gf16Tables>,
     steps: &mut Steps<L>,
 ) -> Result<(), Stop>
     requires output { (P.seen place.old).has_output ≡ true }
@@ -46,7 +46,7 @@ pub fn put_group<P: Place, L: Ledger>(
 /// Puts the entry of one packet, whose number is below the group's packets. The buffer is emptied first.
 fn put_packet<P: Place, L: Ledger>(
     place: &mut P,
-    encoder: &Encoder<'_, Gf16Plain>,
+    encoder: &Encoder<'_, Gf16Tables>,
     number: u16,
     entry: &mut Vec<u8>,
     steps: &mut Steps<L>,
@@ -70,7 +70,7 @@ fn put_packet<P: Place, L: Ledger>(
 
 /// Makes the buffer the entry of one packet, whose number is below the group's packets.
 fn write_entry<L: Ledger>(
-    encoder: &Encoder<'_, Gf16Plain>,
+    encoder: &Encoder<'_, Gf16Tables>,
     number: u16,
     entry: &mut Vec<u8>,
     steps: &mut Steps<L>,

@@ -5,7 +5,7 @@ use crate::put_group;
 use packet_frame::Header;
 use pet_base::{MemoryPlace, Place, Steps, Stop};
 use pet_encode::Encoder;
-use pet_field::Gf16Plain;
+use pet_tables::Gf16Tables;
 use std::alloc::Global;
 use std::marker::Brand;
 use std::sync::ledger::{Blank, Ledger};
@@ -44,7 +44,7 @@ const LAST: [u8; 91] = [
 fn put_example<L: Ledger>(
     alloc: Global,
     place: &mut MemoryPlace,
-    encoder: &Encoder<'_, Gf16Plain>,
+    encoder: &Encoder<'_, Gf16Tables>,
     blank: Blank,
 ) -> Result<(), Stop>
     requires name { blank.name ≡ L.name }
@@ -77,7 +77,7 @@ fn puts_the_packets_of_the_example_group(rt: HostRuntime) -> Result<(), Fail> {
         table: Table::new(6, &layers)?,
     };
     assert!(rt; header.table.words() == 35);
-    let field = Gf16Plain;
+    let field = Gf16Tables::new(alloc)?;
     let encoder = Encoder::new(alloc, &field, header, &MESSAGE)?;
     // the calls that fail, and how many bytes are then put: the file is made first, and then six entries of 91 bytes
     let rows: [(&[u64], Result<(), Stop>, usize); 3] = [

@@ -1,0 +1,92 @@
+-- The store in a file, by what was read of it; and the file of a store, by the text that was put.
+use Rattle.std.specs.Prelude.{nat_lt, if◌then◌else◌, option_map, IfOk, IfErr, OnOk, OnErr, IfSome}
+use Rattle.std.proofs.Common.{◌≡◌, ◌≢◌, ◌⊎◌, ℕ, ◌+◌, ◌<◌, ◌≤◌, Bool, List, [], ◌∷◌, ◌++◌, length, take, Option, None, Some, Result, Ok, Err, sym, ap, ◌∙◌, arith, inl, inr}
+use Rattle.std.proofs.lemmas.Bool.{cases_lt}
+use Rattle.std.proofs.lemmas.List.{append-nil, length-append}
+use Rattle.pet_base.specs.declared.limits.TheConstants.{MAX_SESSION, MAX_STORE}
+use Rattle.pet_base.specs.declared.faults.Stop.{Stop}
+use Rattle.pet_base.specs.declared.faults.Stop.TheVariants as place
+use Rattle.pet_base.specs.Seen.{Seen, Files, HadFault, Names, Grows, with_file}
+use Rattle.command_files.specs.Inputs.{IsFrontOf, IsRead, Licensed}
+use Rattle.command_files.specs.Wrote.{File, Wrote}
+use Rattle.command_files.specs.laws.WroteLaws.{Wrote-file, Wrote-front}
+use Rattle.pet_receive.specs.KeptSet.{KeptSet}
+use Rattle.store_merge.specs.Refusals.{read_text}
+use Rattle.store_merge.specs.declared.fault.StoreKind.TheVariants.{Cut}
+use Rattle.store_merge.specs.declared.fault.BadStore.{BadStore}
+use Rattle.store_merge.specs.declared.fault.BadStore.TheVariants.{At, NoMemory}
+use Rattle.store_merge.specs.Files.{HasFile, IsStop, store_in, stop_of_place, stop_of_store}
+use Rattle.store_merge.proofs.Text.{long_by, short_by}
+
+-- what holds of an answer, by what else does
+pub each_ok : {T E : Type 0} (result : Result T E) (P Q : T → Type 0) → ((x : T) → P x → Q x) → IfOk result P → IfOk result Q
+each_ok (Ok x) P Q h p = h x p
+each_ok (Err e) P Q h p = tt
+
+pub each_err : {T E : Type 0} (result : Result T E) (P Q : E → Type 0) → ((e : E) → P e → Q e) → IfErr result P → IfErr result Q
+each_err (Ok x) P Q h p = tt
+each_err (Err e) P Q h p = h e p
+
+-- what is read of bytes, of which at most so many may be
+abbrev read_to : ℕ → List ℕ → Result KeptSet BadStore
+read_to limit bytes = if nat_lt limit (length bytes) then Err (At limit Cut) else read_text MAX_SESSION bytes
+
+long_to : (limit : ℕ) (bytes : List ℕ) → limit < length bytes → read_to limit bytes ≡ Err (At limit Cut)
+long_to limit bytes long = ap (λ (b : Bool). if b then Err (At limit Cut) else read_text MAX_SESSION bytes) (short_by limit (length bytes) long)
+
+short_to : (limit : ℕ) (bytes : List ℕ) → length bytes ≤ limit → read_to limit bytes ≡ read_text MAX_SESSION bytes
+short_to limit bytes short = ap (λ (b : Bool). if b then Err (At limit Cut) else read_text MAX_SESSION bytes) (long_by limit (length bytes) short)
+
+longer : (limit : ℕ) (bytes more : List ℕ) → limit < length bytes → limit < length (bytes ++ more)
+longer limit bytes more long = omega (arith, long, length-append bytes more)
+
+-- bytes that are more than the limit are cut there, and others are read
+pub store_long : (bytes : List ℕ) → MAX_STORE < length bytes → store_in bytes ≡ Err (At MAX_STORE Cut)
+unfolding store_in
+store_long bytes long = long_to MAX_STORE bytes long
+
+pub store_short : (bytes : List ℕ) → length bytes ≤ MAX_STORE → store_in bytes ≡ read_text MAX_SESSION bytes
+unfolding store_in
+store_short bytes short = short_to MAX_STORE bytes short
+
+-- what was read of a file tells what all of it is
+same_to : (limit : ℕ) (bytes more : List ℕ) → (length bytes ≤ limit → more ≡ []) → read_to limit (bytes ++ more) ≡ read_to limit bytes
+same_to limit bytes more whole =
+    elim (cases_lt limit (length bytes)) [
+      | inl long ↦ long_to limit (bytes ++ more) (longer limit bytes more long) ∙ sym (long_to limit bytes long)
+      | inr short ↦ ap (read_to limit) (ap (λ (m : List ℕ). bytes ++ m) (whole short) ∙ append-nil bytes)
+    ]
+
+same_store : (bytes more : List ℕ) → (length bytes ≤ MAX_STORE → more ≡ []) → store_in (bytes ++ more) ≡ store_in bytes
+unfolding store_in
+same_store bytes more whole = same_to MAX_STORE bytes more whole
+
+store_at : (files : Option Files) (name bytes more : List ℕ) (result : Result KeptSet BadStore) → IfSome files (λ f. f name ≡ Some (bytes ++ more)) → store_in (bytes ++ more) ≡ result
+    → HasFile files name (λ bytes. store_in bytes ≡ result)
+store_at None name bytes more result file is = tt
+store_at (Some f) name bytes more result file is = (bytes ++ more, file, is)
+
+pub store_of_file : (files : Option Files) (name slice bytes : List ℕ) (result : Result KeptSet BadStore) → slice ≡ bytes → IsFrontOf MAX_STORE bytes files name → store_in slice ≡ result
+    → HasFile files name (λ bytes. store_in bytes ≡ result)
+store_of_file files name slice bytes result lent front is =
+    store_at files name bytes front.more result front.told (same_store bytes front.more front.whole ∙ sym (ap store_in lent) ∙ is)
+
+-- why the file was not read, and why it has no store
+pub stop_read : (old new : Seen) (name : List ℕ) (stop : Stop) → Licensed (HadFault old new (IsRead name)) stop → IsStop old new name (stop_of_place stop)
+stop_read old new name place.NoMemory had = tt
+stop_read old new name place.Failed had = had
+
+pub stop_refused : (old new : Seen) (name slice bytes : List ℕ) (fault : BadStore) → slice ≡ bytes → IsFrontOf MAX_STORE bytes old.files name → (fault ≢ NoMemory → store_in slice ≡ Err fault)
+    → IsStop old new name (stop_of_store fault)
+stop_refused old new name slice bytes NoMemory lent front is = tt
+stop_refused old new name slice bytes (At at kind) lent front is = store_of_file old.files name slice bytes (Err (At at kind)) lent front (is (λ e. cc))
+
+-- the file that was made, and then put whole or a front of it
+module _ {T E : Type 0} (file : File) (old made new : Seen) (create : made.files ≡ option_map (with_file file.name []) old.files) (is : Names old.files made.target file.name) where
+  pub put_written : (result : Result T E) → OnOk result (Grows made.target file.bytes made.files new.files) → OnOk result (Wrote (file ∷ []) None old new)
+  put_written (Ok x) put = Wrote-file file made.target old made new create is put
+  put_written (Err e) put = tt
+
+  pub put_front : (result : Result T E) → OnErr result ((k : ℕ) × Grows made.target (take k file.bytes) made.files new.files) → OnErr result ((new.files ≡ old.files) ⊎ Wrote [] (Some file) old new)
+  put_front (Ok x) put = tt
+  put_front (Err e) put = inr (Wrote-front file put.0 made.target old made new create is put.1)

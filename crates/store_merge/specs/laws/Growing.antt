@@ -1,0 +1,112 @@
+-- What frames that may be read one after the other make of a kept set: a kept set, whose frames in order are those that it
+-- had, and then these.
+use Rattle.std.proofs.Common.{◌≡◌, ℕ, ◌<◌, ◌⊎◌, Bool, true, false, not, ◌&&◌, ◌||◌, ◌==◌, nat_lt, List, [], ◌∷◌, ◌++◌, Option, None, Some, option_and_then, append-nil, append_assoc, refl, sym, ap, subst, ◌∙◌, arith, inl, inr}
+use Rattle.std.specs.Prelude.{if◌then◌else◌, is_some}
+use Rattle.std.specs.Str.{bytes_eq}
+use Rattle.std.proofs.lemmas.Bool.{cases_lt, le-ltb}
+use Rattle.std.proofs.lemmas.Map.Views.{exact_unsigned_eq}
+use Rattle.packet_frame.specs.Frame.{Fields}
+use Rattle.packet_set.specs.Packets.{Packets, slot_at}
+use Rattle.pet_receive.specs.KeptSet.{KeptSet, IsKeptSet, empty_set, open_group, payload_of, keep}
+use Rattle.pet_receive.specs.Verdicts.{clashes, is_too_much, newly_shown, layer_set, frame_verdict, is_kept}
+use Rattle.pet_receive.specs.Union.{frames_in}
+use Rattle.pet_receive.specs.declared.verdict.Verdict.TheVariants as verdict
+use Rattle.pet_receive.specs.declared.verdict.LayerSet.{LayerSet}
+use Rattle.pet_receive.specs.laws.KeptSetLaws.{IsKeepable, keepable, keep_sound, keep_session, keep_limit, empty_sound}
+use Rattle.pet_receive.specs.laws.FramesInOrder.{IsAbove, ComesBefore, frames_more, above_keep, above_none}
+use Rattle.store_merge.specs.declared.fault.StoreKind.{StoreKind}
+use Rattle.store_merge.specs.declared.fault.StoreKind.TheVariants.{Session, Order}
+use Rattle.store_merge.specs.Refusals.{Last, is_above, kind_of, frame_fault}
+use Rattle.store_merge.specs.laws.Leading.{pair_of, Leads}
+
+-- what is above the last pair is above all that is kept
+abbrev pub EndsIn : KeptSet → Last → Type 0
+EndsIn set last = (f : Fields) → is_above last f ≡ true → IsAbove set f
+
+below_true : (a b : ℕ) → nat_lt a b ≡ true → a < b
+below_true a b e =
+    elim (cases_lt a b) [
+      | inl lt ↦ lt
+      | inr le ↦ let no : false ≡ true = sym (le-ltb a b le) ∙ e in absurd (cc)
+    ]
+
+either : (a b c : Bool) → (a || (b && c)) ≡ true → (a ≡ true) ⊎ ((b ≡ true) × (c ≡ true))
+either true b c e = inl refl
+either false true true e = inr (refl, refl)
+either false true false e = absurd (cc)
+either false false c e = absurd (cc)
+
+-- a frame that is above a pair comes after it
+pub comes_after : (group number : ℕ) (f : Fields) → is_above (Some (group, number)) f ≡ true → ComesBefore group number f
+comes_after group number f e =
+    elim (either (nat_lt group f.group) (group == f.group) (nat_lt number f.number) e) [
+      | inl less ↦ inl (below_true group f.group less)
+      | inr same ↦ inr (exact_unsigned_eq group f.group same.0, below_true number f.number same.1)
+    ]
+
+record Passed (set : KeptSet) (last : Last) (f : Fields) : Type 0 where
+  session : bytes_eq f.session set.session ≡ true
+  above : is_above last f ≡ true
+  kind : kind_of (frame_verdict set f) ≡ None
+
+passed : (a b : Bool) (rest : Option StoreKind) → (if not a then Some Session else if not b then Some Order else rest) ≡ None → (a ≡ true) × (b ≡ true) × (rest ≡ None)
+passed false b rest e = absurd (cc)
+passed true false rest e = absurd (cc)
+passed true true rest e = (refl, refl, e)
+
+kept_by : (a b c d : Bool) (layers : LayerSet) → a ≡ true → c ≡ false → kind_of (if not a then verdict.Foreign else if b then verdict.Clash else if c then verdict.Repeated else if d then verdict.Full else verdict.Kept layers) ≡ None
+    → is_kept (if not a then verdict.Foreign else if b then verdict.Clash else if c then verdict.Repeated else if d then verdict.Full else verdict.Kept layers) ≡ true
+kept_by false b c d layers first third e = absurd (cc)
+kept_by true b true d layers first third e = absurd (cc)
+kept_by true true false d layers first third e = absurd (cc)
+kept_by true false false true layers first third e = absurd (cc)
+kept_by true false false false layers first third e = refl
+
+absent_by : (o : Option Packets) (number : ℕ) → ((p : Packets) → o ≡ Some p → slot_at p number ≡ None) → option_and_then (λ p. slot_at p number) o ≡ None
+absent_by None number none = refl
+absent_by (Some p) number none = none p refl
+
+module _ (set : KeptSet) (last : Last) (f : Fields) (ends : EndsIn set last) (none : frame_fault set last f ≡ None) where
+  parts : (bytes_eq f.session set.session ≡ true) × (is_above last f ≡ true) × (kind_of (frame_verdict set f) ≡ None)
+  parts = passed (bytes_eq f.session set.session) (is_above last f) (kind_of (frame_verdict set f)) none
+
+  -- the next frame is above all that is kept
+  pub next_above : IsAbove set f
+  next_above = ends f parts.1
+
+  absent : payload_of set f.group f.number ≡ None
+  absent = absent_by (open_group set f.group) f.number (λ p opened. next_above.later p opened f.number (omega arith))
+
+  kept : is_kept (frame_verdict set f) ≡ true
+  unfolding frame_verdict
+  kept = kept_by (bytes_eq f.session set.session) (clashes set f) (is_some (payload_of set f.group f.number)) (is_too_much set f) (layer_set (newly_shown set f)) parts.0 (ap is_some absent) parts.2
+
+  -- and is kept
+  pub next_keepable : IsKeepable set f
+  next_keepable = keepable set f kept
+
+-- what the set is that frames lead to
+pub record HasGrownBy (set : KeptSet) (more : List Fields) (target : KeptSet) : Type 0 where
+  pub sound : IsKeptSet target
+  pub frames : frames_in target ≡ frames_in set ++ more
+  pub session : target.session ≡ set.session
+  pub limit : target.limit ≡ set.limit
+
+pub leads_grow : (frames : List Fields) (set : KeptSet) (last : Last) (target : KeptSet) → IsKeptSet set → EndsIn set last → Leads set last frames target → HasGrownBy set frames target
+leads_grow [] set last target sound ends same =
+    subst (HasGrownBy set []) same (record { sound = sound; frames = sym (append-nil (frames_in set)); session = refl; limit = refl })
+leads_grow (f ∷ rest) set last target sound ends leads =
+    let k = next_keepable set last f ends leads.1 in
+    let above = next_above set last f ends leads.1 in
+    let later = leads_grow rest (keep set f) (Some (pair_of f)) target (keep_sound set sound f leads.0 k)
+    (λ g e. above_keep set sound f leads.0 k above g (comes_after f.group f.number g e)) leads.2 in
+    record {
+      sound = later.sound;
+      frames = later.frames ∙ ap (λ t. t ++ rest) (frames_more set sound f leads.0 k above) ∙ append_assoc (frames_in set) (f ∷ []) rest;
+      session = later.session ∙ keep_session set f;
+      limit = later.limit ∙ keep_limit set f;
+    }
+
+-- from nothing on
+pub leads_make : (frames : List Fields) (session : List ℕ) (limit : ℕ) (target : KeptSet) → Leads (empty_set session limit) None frames target → HasGrownBy (empty_set session limit) frames target
+leads_make frames session limit target leads = leads_grow frames (empty_set session limit) None target (empty_sound session limit) (λ f e. above_none session limit f) leads
