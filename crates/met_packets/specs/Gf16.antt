@@ -2,11 +2,15 @@
 -- program. This project's own.
 use Rattle.std.specs.Prelude.{ℕ, ◌<◌, List}
 use Rattle.pet_field.specs.Gf16.{gf16_coding}
+use Rattle.packet_frame.specs.Frame.{Fields}
+use Rattle.pet_encode.specs.Session.{Session}
 pub use Rattle.session_packets.specs.Packets.{IsItsPacket}
 use Rattle.pet_receive.specs.KeptSet.{KeptSet}
 use Rattle.pet_receive.specs.Arrivals.{Order, ReceiverState, HasKept}
 use Rattle.met_packets.specs.LayersText as L
 use Rattle.met_packets.specs.Records as R
+use Rattle.met_packets.specs.Met.{Pair}
+use Rattle.met_packets.specs.MetFrames as F
 
 -- the receiver stands for this order of arrival
 abbrev pub HasKeptIn : ReceiverState ℕ → Order → Type 0
@@ -23,3 +27,7 @@ IsLayersText set order arrival datagrams text = L.IsLayersText (λ a. a < 65536)
 -- the text of a datagram's arrival, for whatever order the receiver stood for
 abbrev pub IsTextAt : ReceiverState ℕ → ℕ → List ℕ → List ℕ → Type 0
 IsTextAt r arrival bytes text = R.IsTextAt (λ a. a < 65536) gf16_coding r arrival bytes text
+
+-- the session's packets that were met, by group, then number
+abbrev pub met_frames : Session → List Pair → List Fields
+met_frames s pairs = F.met_frames gf16_coding s pairs

@@ -3,6 +3,8 @@ pub mod Gf16
 pub mod Kept
 pub mod LayersText
 pub mod Met
+pub mod MetStore
+pub mod MetFrames
 pub mod Records
 pub mod Steps
 pub mod laws

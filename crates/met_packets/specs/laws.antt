@@ -7,6 +7,11 @@ pub mod PacketText
 pub mod DatagramMore
 pub mod AllDatagrams
 pub mod CountsAreMet
+pub mod FramesAreMet
+pub mod FollowsFrom
+pub mod JoinedAreMet
+pub mod SetOfPairs
 pub mod KeptDatagram
 pub mod DatagramAtEnd
 pub mod FewestStripesLaws
+pub mod StoreLaws

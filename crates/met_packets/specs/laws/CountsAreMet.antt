@@ -43,7 +43,8 @@ get_below [] i lt = absurd (omega arith)
 get_below (g ∷ gs) zero lt = (g, refl)
 get_below (g ∷ gs) (suc i) lt = get_below gs i (omega arith)
 
-below_get : (gs : List SessionGroup) (i : ℕ) (g : SessionGroup) → slice_get gs i ≡ Some g → i < length gs
+-- the groups are those below their number
+pub below_get : (gs : List SessionGroup) (i : ℕ) (g : SessionGroup) → slice_get gs i ≡ Some g → i < length gs
 below_get [] i g e = absurd cc
 below_get (x ∷ gs) zero g e = omega arith
 below_get (x ∷ gs) (suc i) g e = omega (arith, below_get gs i g e)

@@ -36,6 +36,27 @@ same_count (e ∷ es) n told =
     ap (λ (b : Bool). not b || list_any (λ t. not (eqb t.1.header.groups n)) es) (eq-eqb e.1.header.groups n (All-head (λ (p : Packets). p.header.groups ≡ n) e.1 (values_of es) told))
     ∙ same_count es n (All-tail (λ (p : Packets). p.header.groups ≡ n) e.1 (values_of es) told)
 
+module _ (made : SessionGroup → ℕ → List ℕ) (s : Session) (limit : ℕ) where
+  -- the open groups never cost more than all groups of the session
+  pub cost_within : (with : KeptSet) (now : List Pair) → Follows made s limit now with → sum_by cost_in (values_of with.groups) ≤ sum_by (λ x. cost_of x.packets x.layers) s.groups
+  cost_within with now after =
+      let spread = after.spread cost_in in
+      let plain = sum_plain (λ (x : SessionGroup). cost_of x.packets x.layers) s.groups 0 in
+      let below =
+      sum_below (λ (e : ℕ × SessionGroup). weight cost_in (open_group with e.0)) (λ (e : ℕ × SessionGroup). cost_of e.1.packets e.1.layers) s.groups 0
+      (λ i n x at has. by i n x at has (open_group with n) refl) in
+      omega (arith, spread, plain, below)
+    where
+      by : (i n : ℕ) (x : SessionGroup) → 0 + i ≡ n → slice_get s.groups i ≡ Some x → (o : Option Packets) → open_group with n ≡ o → weight cost_in o ≤ cost_of x.packets x.layers
+      by i n x at has None e = omega arith
+      by i n x at has (Some p) e =
+          let opened = after.opened n p e in
+          let n_is : n ≡ i = omega arith in
+          let same : opened.0 ≡ x = same_Some opened.0 x (sym opened.1 ∙ ap (slice_get s.groups) n_is ∙ has) in
+          let cost : cost_in p ≡ cost_of opened.0.packets opened.0.layers = ap (λ (h : Header). cost_of h.table.packets h.table.layers) opened.2.header in
+          let cost_is : cost_in p ≡ cost_of x.packets x.layers = cost ∙ ap (λ (y : SessionGroup). cost_of y.packets y.layers) same in
+          omega (arith, cost_is)
+
 module _ (made : SessionGroup → ℕ → List ℕ) (s : Session) (limit : ℕ) (pairs : List Pair) (kept : KeptSet) (f : Fields) (g : SessionGroup) (follows : Follows made s limit pairs kept) (is : IsMade made s f g) where
   -- the group's packets, where it is open
   open_is : (p : Packets) → open_group kept f.group ≡ Some p → HasMet made s pairs f.group g p
@@ -70,30 +91,10 @@ module _ (made : SessionGroup → ℕ → List ℕ) (s : Session) (limit : ℕ) 
       by true = ap (λ (t : List ℕ). not (bytes_eq t f.payload)) (sym is.payload) ∙ same_bytes f.payload
       by false = refl
 
-  no_clash : clashes kept f ≡ false
+  pub no_clash : clashes kept f ≡ false
   no_clash =
       ap (λ (b : Bool). b || tells_other_table kept f || tells_other_payload kept f) count_told
       ∙ ap (λ (b : Bool). b || tells_other_payload kept f) table_told ∙ payload_told
-
-  -- the open groups never cost more than all groups of the session
-  cost_within : (with : KeptSet) (now : List Pair) → Follows made s limit now with → sum_by cost_in (values_of with.groups) ≤ sum_by (λ x. cost_of x.packets x.layers) s.groups
-  cost_within with now after =
-      let spread = after.spread cost_in in
-      let plain = sum_plain (λ (x : SessionGroup). cost_of x.packets x.layers) s.groups 0 in
-      let below =
-      sum_below (λ (e : ℕ × SessionGroup). weight cost_in (open_group with e.0)) (λ (e : ℕ × SessionGroup). cost_of e.1.packets e.1.layers) s.groups 0
-      (λ i n x at has. by i n x at has (open_group with n) refl) in
-      omega (arith, spread, plain, below)
-    where
-      by : (i n : ℕ) (x : SessionGroup) → 0 + i ≡ n → slice_get s.groups i ≡ Some x → (o : Option Packets) → open_group with n ≡ o → weight cost_in o ≤ cost_of x.packets x.layers
-      by i n x at has None e = omega arith
-      by i n x at has (Some p) e =
-          let opened = after.opened n p e in
-          let n_is : n ≡ i = omega arith in
-          let same : opened.0 ≡ x = same_Some opened.0 x (sym opened.1 ∙ ap (slice_get s.groups) n_is ∙ has) in
-          let cost : cost_in p ≡ cost_of opened.0.packets opened.0.layers = ap (λ (h : Header). cost_of h.table.packets h.table.layers) opened.2.header in
-          let cost_is : cost_in p ≡ cost_of x.packets x.layers = cost ∙ ap (λ (y : SessionGroup). cost_of y.packets y.layers) same in
-          omega (arith, cost_is)
 
   never_too_much : Fits s limit → is_too_much kept f ≡ false
   unfolding keep
@@ -102,7 +103,7 @@ module _ (made : SessionGroup → ℕ → List ℕ) (s : Session) (limit : ℕ) 
       by : (o : Option Packets) → open_group kept f.group ≡ o → (is_none o && ltb kept.limit (cost_kept kept + cost_of f.packets f.layers)) ≡ false
       by None e =
           let v = group_with kept f in
-          let within = cost_within (keep kept f) (with_pair made pairs f) (follows_keep made s limit pairs kept f g follows is) in
+          let within = cost_within made s limit (keep kept f) (with_pair made pairs f) (follows_keep made s limit pairs kept f g follows is) in
           let grown = sum_by-insert_entry cost_in nat_cmp_total kept.groups f.group v follows.rising in
           let nothing : weight cost_in (open_group kept f.group) ≡ 0 = ap (weight cost_in) e in
           let cost : cost_in v ≡ cost_of f.packets f.layers = ap (λ (o : Option Packets). cost_in (unwrap_or o (no_packets (header_of f)))) e in

@@ -5,11 +5,11 @@ use Rattle.std.proofs.lemmas.Bool.{eq-eqb, ne_eqb}
 use Rattle.std.proofs.lemmas.List.Folds.{list_any-append}
 use Rattle.met_packets.specs.Met.{Pair, pair_in, met_in, met_after, has_pair}
 
-or_false : (a : Bool) → (a || false) ≡ a
+pub or_false : (a : Bool) → (a || false) ≡ a
 or_false true = refl
 or_false false = refl
 
-or_true : (a : Bool) → (a || true) ≡ true
+pub or_true : (a : Bool) → (a || true) ≡ true
 or_true true = refl
 or_true false = refl
 
@@ -35,6 +35,10 @@ met_other_group pairs g n h m apart =
 pub met_other_number : (pairs : List Pair) (g n h m : ℕ) → n ≢ m → has_pair (pairs ++ (g, n) ∷ []) h m ≡ has_pair pairs h m
 met_other_number pairs g n h m apart =
     at_end pairs g n h m ∙ ap (λ (b : Bool). has_pair pairs h m || (eqb g h && b)) (ne_eqb n m apart) ∙ ap (λ (b : Bool). has_pair pairs h m || b) (and_false (eqb g h)) ∙ or_false (has_pair pairs h m)
+
+-- of two lists on end one has the pair
+pub has_either : (a b : List Pair) (g n : ℕ) → has_pair (a ++ b) g n ≡ (has_pair a g n || has_pair b g n)
+has_either a b g n = list_any-append (λ p. eqb p.0 g && eqb p.1 n) a b
 
 -- the first datagram's pair, and then those of the others
 pub met_cons : (session : List ℕ) (before : List Pair) (d : List ℕ) (ds : List (List ℕ)) → met_after before (pair_in session d) ++ met_in session ds ≡ before ++ met_in session (d ∷ ds)

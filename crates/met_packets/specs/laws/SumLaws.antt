@@ -1,8 +1,9 @@
 -- Sums over the numbered elements of a list, and counts of slots.
 use Rattle.std.proofs.Common.{◌≡◌, ◌≢◌, ℕ, zero, suc, ◌+◌, ◌<◌, ◌≤◌, Bool, false, cond, List, [], ◌∷◌, length, get_or, Option, None, Some, refl, ap, ◌∙◌, arith}
-use Rattle.std.specs.Prelude.{sum_by, count_by, slice_get, is_some, filter}
+use Rattle.std.specs.Prelude.{sum_by, count_by, slice_get, is_some, filter, All}
 use Rattle.std.specs.List.{enumerate_from, range_with_len}
 use Rattle.std.proofs.lemmas.List.Sums.{sum_by-cons}
+use Rattle.std.proofs.lemmas.List.Elements.{All-head, All-tail}
 use Rattle.std.proofs.lemmas.Option.{none-some, same_Some}
 
 module _ {A : Type 0} where
@@ -46,6 +47,12 @@ module _ {A : Type 0} where
   sum_plain h (x ∷ xs) k =
       omega (arith, sum_plain h xs (k + 1), sum_by-cons (λ (e : ℕ × A). h e.1) (k, x) (enumerate_from (k + 1) xs), sum_by-cons h x xs)
 
+  -- a sum that looks at the numbers alone
+  pub sum_numbers : (h : ℕ → ℕ) (xs : List A) (k : ℕ) → sum_by (λ (e : ℕ × A). h e.0) (enumerate_from k xs) ≡ sum_by h (range_with_len k (length xs))
+  sum_numbers h [] k = refl
+  sum_numbers h (x ∷ xs) k =
+      omega (arith, sum_numbers h xs (k + 1), sum_by-cons (λ (e : ℕ × A). h e.0) (k, x) (enumerate_from (k + 1) xs), sum_by-cons h k (range_with_len (k + 1) (length xs)))
+
   -- how many slots are filled
   pub count_slots : (slots : List (Option A)) (has : ℕ → Bool) (k : ℕ) → ((i n : ℕ) → k + i ≡ n → i < length slots → is_some (get_or slots i None) ≡ has n)
       → count_by is_some slots ≡ count_by has (range_with_len k (length slots))
@@ -75,3 +82,10 @@ pub filter_same : {A : Type 0} (p q : A → Bool) (xs : List A) → ((x : A) →
 filter_same p q [] same = refl
 filter_same p q (x ∷ xs) same =
     ap (λ (b : Bool). cond b (x ∷ filter p xs) (filter p xs)) (same x) ∙ ap (λ (ys : List _). cond (q x) (x ∷ ys) ys) (filter_same p q xs same)
+
+-- the same, where they are equal at each element of the list
+pub filter_same_in : {A : Type 0} (p q : A → Bool) (xs : List A) → All (λ x. p x ≡ q x) xs → filter p xs ≡ filter q xs
+filter_same_in p q [] same = refl
+filter_same_in p q (x ∷ xs) same =
+    ap (λ (b : Bool). cond b (x ∷ filter p xs) (filter p xs)) (All-head (λ y. p y ≡ q y) x xs same)
+    ∙ ap (λ (ys : List _). cond (q x) (x ∷ ys) ys) (filter_same_in p q xs (All-tail (λ y. p y ≡ q y) x xs same))
