@@ -9,7 +9,7 @@ use Rattle.command_files.specs.Printed.{Unprinted}
 use Rattle.stream_session.specs.Sources.{IsSourceFault}
 use Rattle.stream_session.specs.declared.source.SourceFault.{SourceFault}
 use Rattle.stream_session.specs.declared.source.SourceFault.TheVariants as source
-use Rattle.pet_text.specs.declared.plan_file.Repeat.{Repeat}
+use Rattle.plan_text.specs.declared.plan_file.Repeat.{Repeat}
 use Rattle.command_plan.specs.declared.checking.CheckEnd.{CheckEnd}
 use Rattle.command_plan.specs.declared.checking.CheckEnd.TheVariants.{Done, NoMemory, PlaceFault, OutFault, BadPriority, BadStream, BadPlan, PlanLong, Text, Lines, NotLeast}
 use Rattle.command_plan.specs.Certified.{AreLeast, HasPlanFile, IsCertified, IsFirstNotLeast, Lists, tables_of_files}

@@ -5,9 +5,9 @@ use Rattle.pet_base.specs.declared.limits.TheConstants.{MAX_PLAN_FILE}
 use Rattle.pet_base.specs.Seen.{Seen}
 use Rattle.stripe_plan.specs.Sizes.{Sizes}
 use Rattle.command_files.specs.Inputs.{IsFile}
-use Rattle.pet_text.specs.declared.plan_file.Repeat.{Repeat}
-use Rattle.pet_text.specs.PlanFile.{lists_of}
-use Rattle.pet_text.specs.PlanLines.{least_text}
+use Rattle.plan_text.specs.declared.plan_file.Repeat.{Repeat}
+use Rattle.plan_text.specs.PlanFile.{lists_of}
+use Rattle.plan_text.specs.PlanLines.{least_text}
 use Rattle.command_plan.specs.Least.{IsLeast}
 use Rattle.stream_session.specs.Sessions.{HasSession, tables_in}
 

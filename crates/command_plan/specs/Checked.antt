@@ -3,7 +3,7 @@ use Rattle.std.specs.Prelude.{◌≡◌, ◌≢◌, ℕ, List, [], ◌∷◌, le
 use Rattle.pet_base.specs.OutsideSeen.{OutsideSeen}
 use Rattle.command_files.specs.Printed.{Printed}
 use Rattle.command_files.specs.Uses.{IsWell, reading}
-use Rattle.pet_text.specs.PlanLines.{least_text}
+use Rattle.plan_text.specs.PlanLines.{least_text}
 use Rattle.command_plan.specs.declared.checking.CheckEnd.{CheckEnd}
 use Rattle.command_plan.specs.declared.checking.CheckEnd.TheVariants.{Done, NoMemory}
 use Rattle.command_plan.specs.SessionPlan.{session_plan}

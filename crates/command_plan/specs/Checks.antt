@@ -7,8 +7,8 @@ use Rattle.command_files.specs.Printed.{Printed, Unprinted, PrintedFront, OnlyPr
 use Rattle.command_files.specs.Uses.{Failed, reading}
 use Rattle.stream_session.specs.Sources.{IsSourceFault}
 use Rattle.stream_session.specs.declared.source.SourceFault.TheVariants as source
-use Rattle.pet_text.specs.declared.plan_file.Repeat.{Repeat}
-use Rattle.pet_text.specs.PlanFile.{lists_of}
+use Rattle.plan_text.specs.declared.plan_file.Repeat.{Repeat}
+use Rattle.plan_text.specs.PlanFile.{lists_of}
 use Rattle.command_plan.specs.declared.checking.CheckEnd.{CheckEnd}
 use Rattle.command_plan.specs.declared.checking.CheckEnd.TheVariants.{Done, NoMemory, PlaceFault, OutFault, BadPriority, BadStream, BadPlan, PlanLong, Text, Lines, NotLeast}
 use Rattle.command_plan.specs.Certified.{HasPlanFile, Lists, IsCertified, IsFirstNotLeast, certified_text, tables_of_files}

@@ -5,8 +5,8 @@ ghost use Rattle.std.specs.List.{list_any};
 ghost use Rattle.command_plan.specs.Least.{IsLeast, lengths_in, listed_words, starts_by, has_empty};
 
 use pet_base::NoMemory;
-use pet_text::Repeat;
 use plan_cert::check;
+use plan_text::Repeat;
 use std::alloc::Global;
 use stripe_plan::Table;
 

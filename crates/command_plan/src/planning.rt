@@ -4,7 +4,7 @@ ghost use Rattle.pet_base.specs.declared.limits.TheConstants.{MAX_GROUPS};
 ghost use Rattle.pet_base.specs.Lent.{seen, AreSame};
 ghost use Rattle.pet_base.specs.Seen.{Seen};
 ghost use Rattle.stream_session.specs.Sources.{IsSourceFault};
-ghost use Rattle.pet_text.specs.PlanText.{plan_text};
+ghost use Rattle.plan_text.specs.PlanText.{plan_text};
 ghost use Rattle.stream_session.specs.Sessions.{HasSession};
 ghost use Rattle.command_plan.specs.SessionPlan.{session_plan};
 ghost use Rattle.command_plan.specs.Planned.{PlansSession};
@@ -12,7 +12,7 @@ ghost use Rattle.command_plan.specs.Plans.{Plans};
 
 use mpeg_scan::Scan;
 use pet_base::{Failed, Link, NoMemory, Outside, Place, Sink};
-use pet_text::plan_text;
+use plan_text::plan_text;
 use priority_file::PriorityFault;
 use std::alloc::Global;
 use std::sync::ledger::Ledger;

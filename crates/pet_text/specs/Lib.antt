@@ -1,8 +1,5 @@
 pub mod Words
+pub mod WrittenFiles
 pub mod Forms
 pub mod Lines
-pub mod PlanLines
-pub mod PlanFile
-pub mod PlanText
-pub mod LayerLines
 pub mod laws

@@ -5,10 +5,12 @@ use Rattle.mpeg_scan.specs.declared.refusal.Scan.{Scan}
 use Rattle.mpeg_scan.specs.declared.refusal.Scan.TheVariants as scan
 use Rattle.priority_file.specs.declared.fault.PriorityFault.{PriorityFault}
 use Rattle.priority_file.specs.declared.fault.PriorityFault.TheVariants as priority
+use Rattle.store_merge.specs.declared.fault.StoreKind.{StoreKind}
+use Rattle.store_merge.specs.declared.fault.StoreKind.TheVariants as store
 use Rattle.pet_text.specs.declared.status.PlanKind.{PlanKind}
 use Rattle.pet_text.specs.declared.status.PlanKind.TheVariants as plan
 use Rattle.pet_text.specs.declared.status.Status.{Status}
-use Rattle.pet_text.specs.declared.status.Status.TheVariants.{Done, Usage, NoMemory, PlaceFault, OutFault, BadStream, BadPriority, BadPlan, Incomplete, TurnsSpent, NotLeast, Changed}
+use Rattle.pet_text.specs.declared.status.Status.TheVariants.{Done, Usage, NoMemory, PlaceFault, OutFault, BadStream, BadPriority, BadPlan, BadStore, OtherSession, Clash, Incomplete, TurnsSpent, NotLeast, Changed, Full}
 
 abbrev pub code_of : Status → ℕ
 code_of Done = 0
@@ -19,10 +21,14 @@ code_of OutFault = 5
 code_of (BadStream fault) = 6
 code_of (BadPriority fault) = 7
 code_of (BadPlan kind number) = 8
+code_of (BadStore which at kind) = 9
+code_of OtherSession = 10
+code_of (Clash group number) = 11
 code_of Incomplete = 12
 code_of TurnsSpent = 13
 code_of (NotLeast group) = 16
 code_of (Changed group first second) = 17
+code_of (Full group) = 19
 
 -- the kind of a stream's refusal, its offset, and for a picture's type the type; want of memory is a status of its own
 abbrev pub scan_text : Scan → List ℕ
@@ -60,6 +66,18 @@ plan_kind_text plan.PlanLong = codes "PlanLong"
 plan_kind_text plan.Text = codes "Text"
 plan_kind_text plan.Lines = codes "Lines"
 
+-- the kind of a store's refusal
+abbrev pub store_kind_text : StoreKind → List ℕ
+store_kind_text store.Cut = codes "Cut"
+store_kind_text store.Magic = codes "Magic"
+store_kind_text store.Frame = codes "Frame"
+store_kind_text store.Session = codes "Session"
+store_kind_text store.Order = codes "Order"
+store_kind_text store.Clash = codes "Clash"
+store_kind_text store.Full = codes "Full"
+store_kind_text store.Rest = codes "Rest"
+store_kind_text store.Tag = codes "Tag"
+
 -- the line that tells of a status; a command that is done has none, and after a fault of the output nothing is printed
 abbrev pub fault_text : Status → List ℕ
 fault_text Done = []
@@ -70,11 +88,20 @@ fault_text OutFault = []
 fault_text (BadStream fault) = codes "fault stream " ++ scan_text fault ++ codes "\n"
 fault_text (BadPriority fault) = codes "fault priority " ++ priority_text fault ++ codes "\n"
 fault_text (BadPlan kind number) = codes "fault plan " ++ plan_kind_text kind ++ codes " " ++ decimal number ++ codes "\n"
+fault_text (BadStore which at kind) =
+    codes "fault store " ++ decimal which ++ codes " " ++ store_kind_text kind ++ codes " " ++ decimal at ++ codes "\n"
+fault_text OtherSession = codes "fault session\n"
+fault_text (Clash group number) = codes "fault clash " ++ decimal group ++ codes " " ++ decimal number ++ codes "\n"
 fault_text Incomplete = codes "fault incomplete\n"
 fault_text TurnsSpent = codes "fault turns\n"
 fault_text (NotLeast group) = codes "fault least " ++ decimal group ++ codes "\n"
 fault_text (Changed group first second) = codes "fault changed " ++ decimal group ++ codes "\n"
+fault_text (Full group) = codes "fault full " ++ decimal group ++ codes "\n"
 
 -- how many datagrams were read, how many packets are kept, and how many layers were shown
 abbrev pub receive_text : ℕ → ℕ → ℕ → List ℕ
 receive_text read kept shown = codes "read " ++ decimal read ++ codes " kept " ++ decimal kept ++ codes " shown " ++ decimal shown ++ codes "\n"
+
+-- how many datagrams of two stores the merged store has
+abbrev pub merged_text : ℕ → List ℕ
+merged_text datagrams = codes "merged " ++ decimal datagrams ++ codes "\n"

@@ -5,7 +5,7 @@ use Rattle.std.specs.Str.{bytes_eq}
 use Rattle.std.specs.declared.alloc.Global.{Global}
 use Rattle.pet_text.specs.declared.words.End.TheVariants.{File}
 use Rattle.pet_text.specs.declared.words.Command.{Command}
-use Rattle.pet_text.specs.declared.words.Command.TheVariants.{Plan, Check, Send, Receive}
+use Rattle.pet_text.specs.declared.words.Command.TheVariants.{Plan, Check, Send, Receive, Merge}
 
 -- the texts of the words
 abbrev pub texts_of : List (String Global) → List (List ℕ)
@@ -61,13 +61,23 @@ send_of stream priority (Some to) =
     then Some (Send stream priority (File to))
     else None
 
--- `receive FROM SESSION LAYERS`: a file that is read, a session number, and another file that is written
-abbrev pub receive_of : Option (List ℕ) → Option (List ℕ) → List ℕ → Option Command
-receive_of None session layers = None
-receive_of (Some from) None layers = None
-receive_of (Some from) (Some session) layers =
-    if is_name layers && not (bytes_eq from layers)
-    then Some (Receive (File from) session layers)
+-- a file that is read and two that are written: of these each differs from both others
+abbrev pub receive_files : List ℕ → List ℕ → List ℕ → Bool
+receive_files from layers store =
+    is_name layers && (is_name store && (not (bytes_eq from layers) && (not (bytes_eq from store) && not (bytes_eq layers store))))
+
+-- `receive FROM SESSION LAYERS STORE`: a file that is read, a session number, and two other files that are written
+abbrev pub receive_of : Option (List ℕ) → Option (List ℕ) → List ℕ → List ℕ → Option Command
+receive_of None session layers store = None
+receive_of (Some from) None layers store = None
+receive_of (Some from) (Some session) layers store =
+    if receive_files from layers store then Some (Receive (File from) session layers store) else None
+
+-- `merge STORE STORE OUT`: two files that are read, maybe one and the same, and another file that is written
+abbrev pub merge_of : List ℕ → List ℕ → List ℕ → Option Command
+merge_of first second out =
+    if is_name first && (is_name second && (is_name out && (not (bytes_eq out first) && not (bytes_eq out second))))
+    then Some (Merge first second out)
     else None
 
 -- the command of the words, where they have the form of one
@@ -76,6 +86,8 @@ command_of (word ∷ first ∷ second ∷ []) = if bytes_eq word (codes "plan") 
 command_of (word ∷ first ∷ second ∷ third ∷ []) =
     if bytes_eq word (codes "check") then check_of first second third
     else if bytes_eq word (codes "send") then send_of first second (file_of third)
-    else if bytes_eq word (codes "receive") then receive_of (file_of first) (session_of second) third
+    else if bytes_eq word (codes "merge") then merge_of first second third
     else None
+command_of (word ∷ first ∷ second ∷ third ∷ fourth ∷ []) =
+    if bytes_eq word (codes "receive") then receive_of (file_of first) (session_of second) third fourth else None
 command_of _ = None

@@ -1,10 +1,2 @@
-pub mod NumberLaws
-pub mod RowLaws
-pub mod ReadingLaws
-pub mod TableLaws
-pub mod PlanFileLaws
-pub mod RowCountLaws
-pub mod PlanRowLaws
-pub mod PlanLengthLaws
 pub mod WordLaws
-pub mod LayerLineLaws
+pub mod WrittenFileLaws

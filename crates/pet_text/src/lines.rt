@@ -1,6 +1,6 @@
 //! The printed lines.
 ghost use Rattle.std.specs.Prelude.{◌≡◌, ◌++◌, OnOk, OnErr};
-ghost use Rattle.pet_text.specs.Lines.{receive_text};
+ghost use Rattle.pet_text.specs.Lines.{receive_text, merged_text};
 
 use pet_base::NoMemory;
 use std::alloc::Global;
@@ -18,6 +18,16 @@ pub fn receive_line(
     ensures err { OnErr result (into.new.items ≡ into.old.items) }
 {
     let line = format!(in alloc; "read {read} kept {kept} shown {shown}\n")?;
+    into.extend_from_slice(line.as_bytes())?;
+    Ok(())
+}
+
+/// Appends the line of `merge`: how many datagrams the merged store has. After a refusal `into` is as before.
+pub fn merged_line(alloc: Global, datagrams: u32, into: &mut Vec<u8>) -> Result<(), NoMemory>
+    ensures ok { OnOk result (into.new.items ≡ into.old.items ++ merged_text datagrams) }
+    ensures err { OnErr result (into.new.items ≡ into.old.items) }
+{
+    let line = format!(in alloc; "merged {datagrams}\n")?;
     into.extend_from_slice(line.as_bytes())?;
     Ok(())
 }

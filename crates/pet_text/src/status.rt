@@ -2,14 +2,15 @@
 ghost use Rattle.std.specs.Prelude.{◌≡◌, ◌+◌, ◌≤◌, [], ◌++◌, length, codes, decimal};
 ghost use Rattle.arrayvec.specs.ArrayVec.{array_vec_len};
 ghost use Rattle.mpeg_scan.specs.declared.refusal.Scan.TheVariants.{PictureType};
-ghost use Rattle.pet_text.specs.declared.status.Status.TheVariants.{BadStream, BadPriority, BadPlan};
-ghost use Rattle.pet_text.specs.Lines.{code_of, scan_text, priority_text, plan_kind_text, fault_text};
+ghost use Rattle.pet_text.specs.declared.status.Status.TheVariants.{BadStream, BadPriority, BadPlan, BadStore, Clash};
+ghost use Rattle.pet_text.specs.Lines.{code_of, scan_text, priority_text, plan_kind_text, store_kind_text, fault_text};
 
 use crate::append::{append_byte, append_number, append_text};
 use arrayvec::ArrayVec;
 use mpeg_scan::Scan;
 use pet_base::MAX_STREAM;
 use priority_file::PriorityFault;
+use store_merge::StoreKind;
 use stream_session::GroupMark;
 
 /// Why a stream has no plan, or a plan file is refused. Each kind comes with a number.
@@ -68,6 +69,12 @@ pub enum Status {
     BadPriority(PriorityFault),
     /// There is no plan, or the plan file is refused; the number is what the kind says.
     BadPlan(PlanKind, u64),
+    /// A store is refused: the first or the second, as 1 or 2; the place of the byte, counted from 0; and the kind.
+    BadStore(u8, u64, StoreKind),
+    /// A store is of another session.
+    OtherSession,
+    /// The packet of this group and number contradicts others of its session.
+    Clash(u32, u16),
     /// The input ended before every layer was shown.
     Incomplete,
     /// The input has 16,777,216 datagrams or more.
@@ -76,10 +83,12 @@ pub enum Status {
     NotLeast(u32),
     /// The stream changed while it was sent: this group, the first such, and its marks in the first pass and in the second.
     Changed(u32, GroupMark, GroupMark),
+    /// With this group the groups would cost more than the limit.
+    Full(u32),
 }
 
 impl Status {
-    /// The exit status of the program, from 0 to 17.
+    /// The exit status of the program, from 0 to 19.
     pub fn code(&self) -> u8
         ensures { result ≡ code_of self.now }
     {
@@ -92,10 +101,14 @@ impl Status {
             Status::BadStream(_) => 6,
             Status::BadPriority(_) => 7,
             Status::BadPlan(_, _) => 8,
+            Status::BadStore(_, _, _) => 9,
+            Status::OtherSession => 10,
+            Status::Clash(_, _) => 11,
             Status::Incomplete => 12,
             Status::TurnsSpent => 13,
             Status::NotLeast(_) => 16,
             Status::Changed(_, _, _) => 17,
+            Status::Full(_) => 19,
         }
     }
 }
@@ -114,10 +127,14 @@ pub fn fault_line(status: &Status, into: &mut ArrayVec<u8, 64>)
         Status::BadStream(fault) => stream_fault(fault, into),
         Status::BadPriority(fault) => priority_fault(fault, into),
         Status::BadPlan(kind, number) => plan_fault(*kind, *number, into),
+        Status::BadStore(which, at, kind) => store_fault(*which, *at, *kind, into),
+        Status::OtherSession => append_text("fault session\n", into),
+        Status::Clash(group, number) => clash_fault(*group, *number, into),
         Status::Incomplete => append_text("fault incomplete\n", into),
         Status::TurnsSpent => append_text("fault turns\n", into),
         Status::NotLeast(group) => group_fault("fault least ", *group, into),
         Status::Changed(group, _, _) => group_fault("fault changed ", *group, into),
+        Status::Full(group) => group_fault("fault full ", *group, into),
     }
 }
 
@@ -211,6 +228,50 @@ fn plan_fault(kind: PlanKind, number: u64, into: &mut ArrayVec<u8, 64>)
     append_text(kind.name(), into);
     append_text(" ", into);
     append_number(number, into);
+    append_text("\n", into);
+}
+
+/// The line of a refused store.
+fn store_fault(which: u8, at: u64, kind: StoreKind, into: &mut ArrayVec<u8, 64>)
+    requires { into.old.items ≡ [] }
+    ensures { into.new.items ≡ fault_text (BadStore which at kind) }
+{
+    append_text("fault store ", into);
+    append_byte(which, into);
+    append_text(" ", into);
+    append_text(store_name(kind), into);
+    append_text(" ", into);
+    append_number(at, into);
+    append_text("\n", into);
+}
+
+/// The name that a fault line gives the refusal of a store.
+fn store_name(kind: StoreKind) -> &'static str
+    ensures text { result.now ≡ store_kind_text kind }
+    ensures len { length result.now ≤ 7 }
+{
+    match kind {
+        StoreKind::Cut => "Cut",
+        StoreKind::Magic => "Magic",
+        StoreKind::Frame => "Frame",
+        StoreKind::Session => "Session",
+        StoreKind::Order => "Order",
+        StoreKind::Clash => "Clash",
+        StoreKind::Full => "Full",
+        StoreKind::Rest => "Rest",
+        StoreKind::Tag => "Tag",
+    }
+}
+
+/// The line of a packet that contradicts others.
+fn clash_fault(group: u32, number: u16, into: &mut ArrayVec<u8, 64>)
+    requires { into.old.items ≡ [] }
+    ensures { into.new.items ≡ fault_text (Clash group number) }
+{
+    append_text("fault clash ", into);
+    append_number(u64::from(group), into);
+    append_text(" ", into);
+    append_number(u64::from(number), into);
     append_text("\n", into);
 }
 

@@ -4,8 +4,8 @@ use mpeg_scan::Scan;
 use priority_file::PriorityFault;
 use std::alloc::{AllocError, Global};
 use std::test::Fail;
+use store_merge::StoreKind;
 use stream_session::GroupMark;
-use stripe_plan::LayerSize;
 
 const SESSION: &str = "0001020304050607";
 
@@ -20,7 +20,12 @@ fn words(alloc: Global, texts: &[&str]) -> Result<Vec<String>, AllocError> {
 /// What a command is called, and the names that it has, in the order of its words.
 fn names_of(command: &Command) -> [&str; 4] {
     match command {
-        Command::Receive { from, layers, .. } => ["receive", file_of(from), layers.as_str(), ""],
+        Command::Receive {
+            from,
+            layers,
+            store,
+            ..
+        } => ["receive", file_of(from), layers.as_str(), store.as_str()],
         Command::Plan { stream, priority } => ["plan", stream.as_str(), priority.as_str(), ""],
         Command::Check {
             stream,
@@ -32,6 +37,9 @@ fn names_of(command: &Command) -> [&str; 4] {
             priority,
             to,
         } => ["send", stream.as_str(), priority.as_str(), file_of(to)],
+        Command::Merge { first, second, out } => {
+            ["merge", first.as_str(), second.as_str(), out.as_str()]
+        }
     }
 }
 
@@ -52,15 +60,22 @@ fn session_of(command: &Command) -> Option<[u8; 8]> {
 fn reads_the_words_of_each_command(rt: HostRuntime) -> Result<(), Fail> {
     let alloc = rt.alloc();
     let session = Some([0, 1, 2, 3, 4, 5, 6, 7]);
-    let rows: [(&[&str], [&str; 4], Option<[u8; 8]>); 4] = [
+    let rows: [(&[&str], [&str; 4], Option<[u8; 8]>); 7] = [
         (
-            &["receive", "file:a", SESSION, "b"],
-            ["receive", "a", "b", ""],
+            &["receive", "file:a", SESSION, "b", "c"],
+            ["receive", "a", "b", "c"],
             session,
+        ),
+        (
+            &["receive", "file:a", "0123456789abcdef", "l", "t"],
+            ["receive", "a", "l", "t"],
+            Some([0x01, 0x23, 0x45, 0x67, 0x89, 0xab, 0xcd, 0xef]),
         ),
         (&["plan", "s", "f"], ["plan", "s", "f", ""], None),
         (&["check", "s", "f", "p"], ["check", "s", "f", "p"], None),
         (&["send", "s", "f", "file:d"], ["send", "s", "f", "d"], None),
+        (&["merge", "a", "b", "c"], ["merge", "a", "b", "c"], None),
+        (&["merge", "a", "a", "c"], ["merge", "a", "a", "c"], None),
     ];
     for (texts, names, session) in rows {
         let command = read_words(alloc, &words(alloc, texts)?).expect(&rt, "a command");
@@ -73,12 +88,26 @@ fn reads_the_words_of_each_command(rt: HostRuntime) -> Result<(), Fail> {
 #[test]
 fn refuses_other_words(rt: HostRuntime) -> Result<(), Fail> {
     let alloc = rt.alloc();
-    let cases: [&[&str]; 13] = [
+    let cases: [&[&str]; 27] = [
         &[],
         &["plan", "s"],
-        &["receive", "file:a", "0123", "l"],
-        &["receive", "file:a", "A5AC9461B03BCF36", "l"],
-        &["receive", "file:", "a5ac9461b03bcf36", "l"],
+        &["receive", "file:a", "0123", "l", "t"],
+        &["receive", "file:a", "A5AC9461B03BCF36", "l", "t"],
+        &["receive", "file:", "a5ac9461b03bcf36", "l", "t"],
+        &["receive", "file:a", SESSION, "l"],
+        &["receive", "file:a", SESSION, "", "t"],
+        &["receive", "file:a", SESSION, "l", ""],
+        &["receive", "file:a", SESSION, "l", "l"],
+        &["receive", "file:a", SESSION, "a", "t"],
+        &["receive", "file:a", SESSION, "l", "a"],
+        &["receive", "file:a", SESSION, "l", "t", "u"],
+        &["merge", "a", "b"],
+        &["merge", "a", "b", "a"],
+        &["merge", "a", "b", "b"],
+        &["merge", "", "b", "c"],
+        &["merge", "a", "", "c"],
+        &["merge", "a", "b", ""],
+        &["merge", "a", "b", "c", "d"],
         &["plan", "s", ""],
         &["PLAN", "s", "f"],
         &["send", "s", "f"],
@@ -96,13 +125,17 @@ fn refuses_other_words(rt: HostRuntime) -> Result<(), Fail> {
 }
 
 #[test]
-fn prints_the_line_of_receive(rt: HostRuntime) -> Result<(), Fail> {
+fn prints_the_lines_of_receive_and_merge(rt: HostRuntime) -> Result<(), Fail> {
     let alloc = rt.alloc();
     let mut text = Vec::new(alloc);
     receive_line(alloc, 3, 2, 1, &mut text)
         .ok()
         .ok_or("memory")?;
-    assert_eq!(rt; text.as_slice(), b"read 3 kept 2 shown 1\n".as_slice());
+    merged_line(alloc, 7, &mut text).ok().ok_or("memory")?;
+    assert_eq!(rt;
+        text.as_slice(),
+        b"read 3 kept 2 shown 1\nmerged 7\n".as_slice()
+    );
     Ok(())
 }
 
@@ -136,8 +169,21 @@ fn prints_the_fault_lines(rt: HostRuntime) -> Result<(), Fail> {
             8,
             "fault plan TooManyGroups 65535\n",
         ),
+        (
+            Status::BadStore(1, 24, StoreKind::Cut),
+            9,
+            "fault store 1 Cut 24\n",
+        ),
+        (
+            Status::BadStore(2, 18_446_744_073_709_551_615, StoreKind::Session),
+            9,
+            "fault store 2 Session 18446744073709551615\n",
+        ),
+        (Status::OtherSession, 10, "fault session\n"),
+        (Status::Clash(3, 65_535), 11, "fault clash 3 65535\n"),
         (Status::NotLeast(0), 16, "fault least 0\n"),
         (Status::Changed(0, first, second), 17, "fault changed 0\n"),
+        (Status::Full(4_294_967_295), 19, "fault full 4294967295\n"),
     ];
     for case in cases.as_slice() {
         let mut line: ArrayVec<u8, 64> = ArrayVec::new();
@@ -145,33 +191,5 @@ fn prints_the_fault_lines(rt: HostRuntime) -> Result<(), Fail> {
         assert_eq!(rt; line.as_slice(), case.2.as_bytes());
         assert_eq!(rt; case.0.code(), case.1);
     }
-    Ok(())
-}
-
-#[test]
-fn prints_the_lines_of_plan_check_and_send(rt: HostRuntime) -> Result<(), Fail> {
-    let alloc = rt.alloc();
-    let session = [0xa5, 0xac, 0x94, 0x61, 0xb0, 0x3b, 0xcf, 0x36];
-    let size = LayerSize {
-        length: 46,
-        need: 2,
-    };
-    let mut text = Vec::new(alloc);
-    plan_session_line(alloc, &session, 1, 6, &mut text)
-        .ok()
-        .ok_or("memory")?;
-    plan_group_line(alloc, 0, 35, 15, 16, 89, &mut text)
-        .ok()
-        .ok_or("memory")?;
-    plan_layer_line(alloc, 0, "base", &size, 2, &mut text)
-        .ok()
-        .ok_or("memory")?;
-    least_line(alloc, 1, &mut text).ok().ok_or("memory")?;
-    send_line(alloc, &session, 1, 6, &mut text)
-        .ok()
-        .ok_or("memory")?;
-    let lines =
-        b"session a5ac9461b03bcf36 groups 1 packets 6\ngroup 0 words 35 stripes 15 bound 16 datagram 89\nlayer 0 base bytes 46 need 2 count 2\nleast 1\nsession a5ac9461b03bcf36 groups 1 datagrams 6\n";
-    assert_eq!(rt; text.as_slice(), lines.as_slice());
     Ok(())
 }

@@ -1,6 +1,6 @@
 //! The command words.
 ghost use Rattle.std.specs.Prelude.{◌≡◌, ◌↔◌, [], ◌∷◌, Err, None, Some, IfOk, option_map, option_copied};
-ghost use Rattle.pet_text.specs.Words.{texts_of, file_of, session_of, plan_of, check_of, send_of, receive_of, command_of};
+ghost use Rattle.pet_text.specs.Words.{texts_of, file_of, session_of, plan_of, check_of, send_of, receive_files, receive_of, merge_of, command_of};
 ghost use Rattle.pet_text.specs.Forms.{receive_command};
 
 use crate::name::Name;
@@ -42,7 +42,7 @@ pub enum Command {
         /// Where the datagrams go to.
         to: End,
     },
-    /// Reads the datagrams of a session, and writes its layers as they are shown.
+    /// Reads the datagrams of a session, writes its layers as they are shown, and keeps its packets in a store.
     Receive {
         /// Where the datagrams come from.
         from: End,
@@ -50,6 +50,17 @@ pub enum Command {
         session: [u8; 8],
         /// The file that the layers are written to.
         layers: Name,
+        /// The file of the store, which differs from that of the layers.
+        store: Name,
+    },
+    /// Merges two stores of one session, which may be one file, into the store of all packets of both.
+    Merge {
+        /// The file of the first store.
+        first: Name,
+        /// The file of the second store.
+        second: Name,
+        /// The file that the merged store is written to, which differs from both.
+        out: Name,
     },
 }
 
@@ -88,6 +99,16 @@ pub fn read_words(alloc: Global, words: &[String]) -> Result<Command, WordsFault
                 third.as_str(),
             )
         }
+        [word, first, second, third, fourth] => {
+            read_four(
+                alloc,
+                word.as_str(),
+                first.as_str(),
+                second.as_str(),
+                third.as_str(),
+                fourth.as_str(),
+            )
+        }
         _ => Err(WordsFault::Usage),
     }
 }
@@ -123,8 +144,30 @@ fn read_three(
         read_check_words(alloc, first, second, third)
     } else if word == "send" {
         read_send_words(alloc, first, second, third)
-    } else if word == "receive" {
-        read_receive_words(alloc, first, second, third)
+    } else if word == "merge" {
+        read_merge_words(alloc, first, second, third)
+    } else {
+        Err(WordsFault::Usage)
+    }
+}
+
+/// A command with four words behind its own.
+fn read_four(
+    alloc: Global,
+    word: &str,
+    first: &str,
+    second: &str,
+    third: &str,
+    fourth: &str,
+) -> Result<Command, WordsFault>
+    ensures usage { (result ≡ Err WordsFault.Usage)
+        ↔ (command_of (word.now ∷ first.now ∷ second.now ∷ third.now ∷ fourth.now ∷ []) ≡ None) }
+    ensures command { IfOk result (λ command.
+        command_of (word.now ∷ first.now ∷ second.now ∷ third.now ∷ fourth.now ∷ [])
+        ≡ Some command) }
+{
+    if word == "receive" {
+        read_receive_words(alloc, first, second, third, fourth)
     } else {
         Err(WordsFault::Usage)
     }
@@ -200,21 +243,25 @@ fn read_receive_words(
     from: &str,
     session: &str,
     layers: &str,
+    store: &str,
 ) -> Result<Command, WordsFault>
     ensures usage { (result ≡ Err WordsFault.Usage)
-        ↔ (receive_of (file_of from.now) (session_of session.now) layers.now ≡ None) }
+        ↔ (receive_of (file_of from.now) (session_of session.now) layers.now store.now ≡ None) }
     ensures command { IfOk result (λ command.
-        receive_of (file_of from.now) (session_of session.now) layers.now ≡ Some command) }
+        receive_of (file_of from.now) (session_of session.now) layers.now store.now
+        ≡ Some command) }
 {
-    let Some(form) = receive_words(from, session, layers) else {
+    let Some(form) = receive_words(from, session, layers, store) else {
         return Err(WordsFault::Usage);
     };
     let from = Name::new(alloc, form.from)?;
     let layers = Name::new(alloc, form.layers)?;
+    let store = Name::new(alloc, form.store)?;
     Ok(Command::Receive {
         from: End::File(from),
         session: form.session,
         layers,
+        store,
     })
 }
 
@@ -224,24 +271,59 @@ struct ReceiveWords<'a> {
     from: &'a str,
     session: [u8; 8],
     layers: &'a str,
+    store: &'a str,
 }
 
 /// What the words behind `receive` give, where they have its form.
-fn receive_words<'a>(from: &'a str, session: &str, layers: &'a str) -> Option<ReceiveWords<'a>>
+fn receive_words<'a>(
+    from: &'a str,
+    session: &str,
+    layers: &'a str,
+    store: &'a str,
+) -> Option<ReceiveWords<'a>>
     ensures { option_map receive_command result
-        ≡ receive_of (file_of from.now) (session_of session.now) layers.now }
+        ≡ receive_of (file_of from.now) (session_of session.now) layers.now store.now }
 {
     let from = file_name(from)?;
     let session = read_session(session)?;
-    if layers.is_empty() || from == layers {
-        None
-    } else {
+    if are_receive_files(from, layers, store) {
         Some(ReceiveWords {
             from,
             session,
             layers,
+            store,
         })
+    } else {
+        None
     }
+}
+
+/// Whether the two files that are written have names, each another than both others.
+fn are_receive_files(from: &str, layers: &str, store: &str) -> bool
+    ensures { result ≡ receive_files from.now layers.now store.now }
+{
+    !layers.is_empty() && !store.is_empty() && from != layers && from != store && layers != store
+}
+
+/// The words behind `merge`.
+fn read_merge_words(
+    alloc: Global,
+    first: &str,
+    second: &str,
+    out: &str,
+) -> Result<Command, WordsFault>
+    ensures usage { (result ≡ Err WordsFault.Usage)
+        ↔ (merge_of first.now second.now out.now ≡ None) }
+    ensures command { IfOk result (λ command. merge_of first.now second.now out.now
+        ≡ Some command) }
+{
+    if first.is_empty() || second.is_empty() || out.is_empty() || out == first || out == second {
+        return Err(WordsFault::Usage);
+    }
+    let first = Name::new(alloc, first)?;
+    let second = Name::new(alloc, second)?;
+    let out = Name::new(alloc, out)?;
+    Ok(Command::Merge { first, second, out })
 }
 
 /// The name behind `file:`.

@@ -12,10 +12,10 @@ use Rattle.command_files.specs.laws.PrintedLaws.{append_known-twice, well_before
 use Rattle.stream_session.specs.Sources.{IsSourceFault}
 use Rattle.stream_session.specs.declared.source.SourceFault.{SourceFault}
 use Rattle.stream_session.specs.declared.source.SourceFault.TheVariants as source
-use Rattle.pet_text.specs.declared.plan_file.Repeat.{Repeat}
-use Rattle.pet_text.specs.PlanFile.{lists_of}
-use Rattle.pet_text.specs.PlanLines.{least_text}
-use Rattle.pet_text.specs.PlanText.{plan_lists}
+use Rattle.plan_text.specs.declared.plan_file.Repeat.{Repeat}
+use Rattle.plan_text.specs.PlanFile.{lists_of}
+use Rattle.plan_text.specs.PlanLines.{least_text}
+use Rattle.plan_text.specs.PlanText.{plan_lists}
 use Rattle.command_plan.specs.declared.checking.CheckEnd.{CheckEnd}
 use Rattle.command_plan.specs.declared.checking.CheckEnd.TheVariants.{Done, NoMemory, PlaceFault, OutFault, BadPriority, BadStream, BadPlan, PlanLong, Text, Lines, NotLeast}
 use Rattle.command_plan.specs.Certified.{HasPlanFile, Lists, IsFirstNotLeast, tables_of_files}

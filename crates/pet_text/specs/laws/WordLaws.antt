@@ -4,11 +4,11 @@ use Rattle.std.specs.Prelude.{codes, not, ◌&&◌}
 use Rattle.std.specs.Str.{bytes_eq}
 use Rattle.std.proofs.lemmas.Bool.{cases_Bool, cond-true, cond-false, and_parts}
 use Rattle.pet_text.specs.declared.words.End.TheVariants.{File}
-use Rattle.pet_text.specs.declared.words.Command.TheVariants.{Plan, Check, Send, Receive}
-use Rattle.pet_text.specs.Words.{is_name, plan_of, check_of, send_of, receive_of, file_of, session_of, command_of}
+use Rattle.pet_text.specs.declared.words.Command.TheVariants.{Plan, Check, Send, Receive, Merge}
+use Rattle.pet_text.specs.Words.{is_name, plan_of, check_of, send_of, receive_files, receive_of, merge_of, file_of, session_of, command_of}
 
 -- an answer that a test lets through
-if_some : {A : Type 0} (t : Bool) (x y : A) → cond t (Some x) None ≡ Some y → (t ≡ true) × (x ≡ y)
+pub if_some : {A : Type 0} (t : Bool) (x y : A) → cond t (Some x) None ≡ Some y → (t ≡ true) × (x ≡ y)
 if_some true x y e = (refl, cc)
 if_some false x y e = absurd (cc)
 
@@ -20,11 +20,15 @@ module _ (stream priority to : List ℕ) where
   not_check first second third e =
       let both = if_some (is_name first && (is_name second && is_name third)) (Check first second third) (Send stream priority (File to)) e in absurd (cc)
 
-  not_receive : (from session : Option (List ℕ)) (layers : List ℕ) → receive_of from session layers ≡ Some (Send stream priority (File to)) → ⊥
-  not_receive None session layers e = absurd (cc)
-  not_receive (Some from) None layers e = absurd (cc)
-  not_receive (Some from) (Some session) layers e =
-      let both = if_some (is_name layers && not (bytes_eq from layers)) (Receive (File from) session layers) (Send stream priority (File to)) e in absurd (cc)
+  not_receive : (from session : Option (List ℕ)) (layers store : List ℕ) → receive_of from session layers store ≡ Some (Send stream priority (File to)) → ⊥
+  not_receive None session layers store e = absurd (cc)
+  not_receive (Some from) None layers store e = absurd (cc)
+  not_receive (Some from) (Some session) layers store e =
+      let both = if_some (receive_files from layers store) (Receive (File from) session layers store) (Send stream priority (File to)) e in absurd (cc)
+
+  not_merge : (first second out : List ℕ) → merge_of first second out ≡ Some (Send stream priority (File to)) → ⊥
+  not_merge first second out e =
+      let both = if_some (is_name first && (is_name second && (is_name out && (not (bytes_eq out first) && not (bytes_eq out second))))) (Merge first second out) (Send stream priority (File to)) e in absurd (cc)
 
   not_true : (t : Bool) → not t ≡ true → t ≡ false
   not_true true e = absurd (cc)
@@ -61,15 +65,23 @@ module _ (stream priority to : List ℕ) where
       none_sent : None ≡ Some (Send stream priority (File to)) → ⊥
       none_sent e = cc
 
-      by_receive : (t : Bool) → cond t (receive_of (file_of first) (session_of second) third) None ≡ Some (Send stream priority (File to)) → bytes_eq to stream ≡ false
-      by_receive true e = absurd (not_receive (file_of first) (session_of second) third e)
-      by_receive false e = absurd (none_sent e)
+      by_merge : (t : Bool) → cond t (merge_of first second third) None ≡ Some (Send stream priority (File to)) → bytes_eq to stream ≡ false
+      by_merge true e = absurd (not_merge first second third e)
+      by_merge false e = absurd (none_sent e)
 
-      by_send : (t : Bool) → cond t (send_of first second (file_of third)) (cond (bytes_eq word (codes "receive")) (receive_of (file_of first) (session_of second) third) None) ≡ Some (Send stream priority (File to)) → bytes_eq to stream ≡ false
+      by_send : (t : Bool) → cond t (send_of first second (file_of third)) (cond (bytes_eq word (codes "merge")) (merge_of first second third) None) ≡ Some (Send stream priority (File to)) → bytes_eq to stream ≡ false
       by_send true e = of_file first second (file_of third) e
-      by_send false e = by_receive (bytes_eq word (codes "receive")) e
+      by_send false e = by_merge (bytes_eq word (codes "merge")) e
 
-      by_check : (t : Bool) → cond t (check_of first second third) (cond (bytes_eq word (codes "send")) (send_of first second (file_of third)) (cond (bytes_eq word (codes "receive")) (receive_of (file_of first) (session_of second) third) None)) ≡ Some (Send stream priority (File to)) → bytes_eq to stream ≡ false
+      by_check : (t : Bool) → cond t (check_of first second third) (cond (bytes_eq word (codes "send")) (send_of first second (file_of third)) (cond (bytes_eq word (codes "merge")) (merge_of first second third) None)) ≡ Some (Send stream priority (File to)) → bytes_eq to stream ≡ false
       by_check true e = absurd (not_check first second third e)
       by_check false e = by_send (bytes_eq word (codes "send")) e
-  send_differs (word ∷ first ∷ second ∷ third ∷ fourth ∷ words) e = absurd (cc)
+  send_differs (word ∷ first ∷ second ∷ third ∷ fourth ∷ []) e = by_receive (bytes_eq word (codes "receive")) e
+    where
+      none_sent : None ≡ Some (Send stream priority (File to)) → ⊥
+      none_sent e = cc
+
+      by_receive : (t : Bool) → cond t (receive_of (file_of first) (session_of second) third fourth) None ≡ Some (Send stream priority (File to)) → bytes_eq to stream ≡ false
+      by_receive true e = absurd (not_receive (file_of first) (session_of second) third fourth e)
+      by_receive false e = absurd (none_sent e)
+  send_differs (word ∷ first ∷ second ∷ third ∷ fourth ∷ fifth ∷ words) e = absurd (cc)

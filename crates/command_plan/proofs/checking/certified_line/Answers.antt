@@ -1,5 +1,5 @@
 use Rattle.std.proofs.Common.{ap, ◌∙◌}
-use Rattle.pet_text.specs.PlanLines.{least_text}
+use Rattle.plan_text.specs.PlanLines.{least_text}
 use Rattle.command_plan.proofs.checking.certified_line.Goals as goal
 
 pub returns-clause-line : goal.returns-clause-line

@@ -2,7 +2,7 @@ use Rattle.std.proofs.Common.{◌≡◌, ◌*◌, ◌++◌, List, ℕ, ap, sym, 
 use Rattle.std.proofs.lemmas.List.{take_all}
 use Rattle.std.proofs.lemmas.List.Sums.{sum_by_more}
 use Rattle.command_plan.specs.Least.{lengths_in, starts_by}
-use Rattle.pet_text.specs.declared.plan_file.Repeat.{Repeat}
+use Rattle.plan_text.specs.declared.plan_file.Repeat.{Repeat}
 use Rattle.command_plan.proofs.Starts.{starts_more, length-starts_by, few_stripes}
 use Rattle.command_plan.proofs.least.stripe_starts.Goals as goal
 

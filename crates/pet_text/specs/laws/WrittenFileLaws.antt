@@ -1,0 +1,75 @@
+-- What callers know of the words of any command: it writes no file that it names twice.
+use Rattle.std.proofs.Common.{◌≡◌, ℕ, Bool, true, false, cond, List, [], ◌∷◌, Option, None, Some, refl, subst}
+use Rattle.std.specs.Prelude.{codes, not, ◌&&◌}
+use Rattle.std.specs.Str.{bytes_eq}
+use Rattle.std.proofs.lemmas.Bool.{and_parts}
+use Rattle.pet_text.specs.declared.words.End.TheVariants.{File}
+use Rattle.pet_text.specs.declared.words.Command.{Command}
+use Rattle.pet_text.specs.declared.words.Command.TheVariants.{Plan, Check, Send, Receive, Merge}
+use Rattle.pet_text.specs.Words.{is_name, plan_of, check_of, send_of, receive_files, receive_of, merge_of, file_of, session_of, command_of}
+use Rattle.pet_text.specs.WrittenFiles.{writes_others}
+use Rattle.pet_text.specs.laws.WordLaws.{if_some}
+
+module _ (c : Command) where
+  by_none : None ≡ Some c → writes_others c ≡ true
+  by_none e = absurd (cc)
+
+  by_plan : (first second : List ℕ) → plan_of first second ≡ Some c → writes_others c ≡ true
+  by_plan first second e =
+      let both = if_some (is_name first && is_name second) (Plan first second) c e in
+      subst (λ (command : Command). writes_others command ≡ true) both.1 refl
+
+  by_check : (first second third : List ℕ) → check_of first second third ≡ Some c → writes_others c ≡ true
+  by_check first second third e =
+      let both = if_some (is_name first && (is_name second && is_name third)) (Check first second third) c e in
+      subst (λ (command : Command). writes_others command ≡ true) both.1 refl
+
+  by_send : (first second : List ℕ) (file : Option (List ℕ)) → send_of first second file ≡ Some c → writes_others c ≡ true
+  by_send first second None e = by_none e
+  by_send first second (Some to) e =
+      let differ : Bool = not (bytes_eq to first) && not (bytes_eq to second) in
+      let both = if_some (is_name first && (is_name second && differ)) (Send first second (File to)) c e in
+      let behind = and_parts (is_name first) (is_name second && differ) both.0 in
+      let tests = and_parts (is_name second) differ behind.1 in
+      subst (λ (command : Command). writes_others command ≡ true) both.1 tests.1
+
+  by_receive : (from session : Option (List ℕ)) (layers store : List ℕ) → receive_of from session layers store ≡ Some c → writes_others c ≡ true
+  by_receive None session layers store e = by_none e
+  by_receive (Some from) None layers store e = by_none e
+  by_receive (Some from) (Some session) layers store e =
+      let differ : Bool = not (bytes_eq from layers) && (not (bytes_eq from store) && not (bytes_eq layers store)) in
+      let both = if_some (receive_files from layers store) (Receive (File from) session layers store) c e in
+      let behind = and_parts (is_name layers) (is_name store && differ) both.0 in
+      let tests = and_parts (is_name store) differ behind.1 in
+      subst (λ (command : Command). writes_others command ≡ true) both.1 tests.1
+
+  by_merge : (first second out : List ℕ) → merge_of first second out ≡ Some c → writes_others c ≡ true
+  by_merge first second out e =
+      let differ : Bool = not (bytes_eq out first) && not (bytes_eq out second) in
+      let both = if_some (is_name first && (is_name second && (is_name out && differ))) (Merge first second out) c e in
+      let behind = and_parts (is_name first) (is_name second && (is_name out && differ)) both.0 in
+      let further = and_parts (is_name second) (is_name out && differ) behind.1 in
+      let tests = and_parts (is_name out) differ further.1 in
+      subst (λ (command : Command). writes_others command ≡ true) both.1 tests.1
+
+  one_of : (t : Bool) (answer others : Option Command) → (answer ≡ Some c → writes_others c ≡ true) → (others ≡ Some c → writes_others c ≡ true) → cond t answer others ≡ Some c → writes_others c ≡ true
+  one_of true answer others met unmet e = met e
+  one_of false answer others met unmet e = unmet e
+
+  pub written_differ : (words : List (List ℕ)) → command_of words ≡ Some c → writes_others c ≡ true
+  written_differ [] e = by_none e
+  written_differ (word ∷ []) e = by_none e
+  written_differ (word ∷ first ∷ []) e = by_none e
+  written_differ (word ∷ first ∷ second ∷ []) e =
+      one_of (bytes_eq word (codes "plan")) (plan_of first second) None (by_plan first second) by_none e
+  written_differ (word ∷ first ∷ second ∷ third ∷ []) e =
+      one_of (bytes_eq word (codes "check")) (check_of first second third) (cond (bytes_eq word (codes "send")) (send_of first second (file_of third)) (cond (bytes_eq word (codes "merge")) (merge_of first second third) None))
+      (by_check first second third)
+      (one_of (bytes_eq word (codes "send")) (send_of first second (file_of third)) (cond (bytes_eq word (codes "merge")) (merge_of first second third) None)
+      (by_send first second (file_of third))
+      (one_of (bytes_eq word (codes "merge")) (merge_of first second third) None (by_merge first second third) by_none))
+      e
+  written_differ (word ∷ first ∷ second ∷ third ∷ fourth ∷ []) e =
+      one_of (bytes_eq word (codes "receive")) (receive_of (file_of first) (session_of second) third fourth) None
+      (by_receive (file_of first) (session_of second) third fourth) by_none e
+  written_differ (word ∷ first ∷ second ∷ third ∷ fourth ∷ fifth ∷ words) e = by_none e

@@ -1,0 +1,5 @@
+pub mod PlanLines
+pub mod PlanFile
+pub mod PlanText
+pub mod LayerLines
+pub mod laws

@@ -1,0 +1,9 @@
+pub mod NumberLaws
+pub mod RowLaws
+pub mod ReadingLaws
+pub mod TableLaws
+pub mod PlanFileLaws
+pub mod RowCountLaws
+pub mod PlanRowLaws
+pub mod PlanLengthLaws
+pub mod LayerLineLaws
