@@ -13,7 +13,7 @@ use Rattle.stream_session.specs.declared.source.Source.{Source}
 use Rattle.stream_session.specs.Marks.{marks_of}
 use Rattle.stream_session.specs.Number.{session_number}
 use Rattle.stream_session.specs.Sources.{IsSource}
-use Rattle.pet_text.specs.PlanLines.{send_text}
+use Rattle.plan_text.specs.PlanLines.{send_text}
 use Rattle.command_files.specs.Inputs.{IsFile}
 use Rattle.command_files.specs.Wrote.{File, Wrote, with_files}
 use Rattle.command_files.specs.laws.WroteLaws.{Wrote-as_front}

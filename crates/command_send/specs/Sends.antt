@@ -9,7 +9,7 @@ use Rattle.stream_session.specs.Marks.{marks_of}
 use Rattle.stream_session.specs.Number.{session_number}
 use Rattle.stream_session.specs.Sources.{IsOfSource, IsSourceFault}
 use Rattle.stream_session.specs.declared.source.SourceFault.TheVariants as source
-use Rattle.pet_text.specs.PlanLines.{send_text}
+use Rattle.plan_text.specs.PlanLines.{send_text}
 use Rattle.command_files.specs.Printed.{Printed, Unprinted, PrintedFront}
 use Rattle.command_files.specs.Uses.{writing}
 use Rattle.command_files.specs.Wrote.{File, Wrote}

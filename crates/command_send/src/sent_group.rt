@@ -20,7 +20,7 @@ use layer_split::{GroupCut, message};
 use packet_frame::Header;
 use pet_base::{MAX_LAYERS, NoMemory, Place, Steps, Stop};
 use pet_encode::Encoder;
-use pet_field::Gf16Plain;
+use pet_tables::Gf16Tables;
 use priority_file::Priority;
 use session_packets::put_group;
 use std::alloc::Global;
@@ -150,19 +150,17 @@ fn put_packets<P: Place, L: Ledger>(
     ensures cost { steps.new ≤ steps.old + cost_at
         (slice_get found.now.source.tables.items number) }
 {
-    let field = Gf16Plain;
-    let encoder = encoder_of(alloc, &field, found, number, group)?;
+    let encoder = encoder_of(alloc, found, number, group)?;
     put_group(alloc, place, &encoder, steps)
 }
 
 /// The encoder of the group under this number, whose table is the first pass's.
 fn encoder_of<'f>(
     alloc: Global,
-    field: &'f Gf16Plain,
-    found: &FirstPass,
+    found: &'f FirstPass,
     number: u32,
     group: &Group,
-) -> Result<Encoder<'f, Gf16Plain>, NoMemory>
+) -> Result<Encoder<'f, Gf16Tables>, NoMemory>
     requires there { slice_get found.now.source.tables.items number
         ≡ Some (table_of found.now.source.priority group.now.cut) }
     requires whole { IsWhole (length found.now.source.priority.layers) group.now }
@@ -176,5 +174,5 @@ fn encoder_of<'f>(
         group: number,
         table: found.source.tables[number as usize].clone()?,
     };
-    Encoder::new(alloc, field, header, &bytes)
+    Encoder::new(alloc, &found.field, header, &bytes)
 }

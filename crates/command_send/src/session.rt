@@ -4,7 +4,7 @@ ghost use Rattle.std.specs.List.{sum_by};
 ghost use Rattle.std.specs.Str.{bytes_eq};
 ghost use Rattle.pet_base.specs.Seen.{Seen, KeepsOutput, HasBlame};
 ghost use Rattle.stream_session.specs.Sources.{IsSourceFault};
-ghost use Rattle.pet_text.specs.PlanLines.{send_text};
+ghost use Rattle.plan_text.specs.PlanLines.{send_text};
 ghost use Rattle.command_send.specs.Sends.{Costs, HasPackets, LeavesFront, sent_line_text};
 ghost use Rattle.command_send.specs.SendParts.{IsReadFrom, IsReopened, IsLeftEmpty, IsOfReopened, IsSendFault, SessionSent, SessionLeft, SessionStops};
 ghost use Rattle.command_send.specs.Sending.{words_cost};
@@ -14,7 +14,8 @@ use crate::fault::SendFault;
 use crate::first::FirstPass;
 use crate::second::send_groups;
 use pet_base::{Failed, NoMemory, Place, Steps};
-use pet_text::send_line;
+use pet_tables::Gf16Tables;
+use plan_text::send_line;
 use std::alloc::Global;
 use std::sync::ledger::Ledger;
 use stream_session::{SourceFault, read_marked};
@@ -57,10 +58,14 @@ pub(crate) fn read_first<P: Place>(
     ensures cause { IfErr result (IsSourceFault (P.seen place.old) (P.seen place.new) stream.now
         priority.now) }
 {
+    let Ok(field) = Gf16Tables::new(alloc) else {
+        return Err(SourceFault::NoMemory);
+    };
     let marked = read_marked(alloc, stream, priority, place)?;
     Ok(FirstPass {
         source: marked.source,
         marks: marked.marks,
+        field,
     })
 }
 
