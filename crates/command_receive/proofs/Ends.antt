@@ -26,7 +26,7 @@ line_printed totals line before after fb fa OutFault is same printed = absurd is
 false_true : {P : Type 0} (b : Bool) → b ≡ false → b ≡ true → P
 false_true b p q = cc
 
-module _ (from session layers : List ℕ) (before after : OutsideSeen) (r : Reads from session layers before.place after.place before.steps after.steps) (totals : Totals) (are : AreTotals session r.read totals) where
+module _ (from session layers store : List ℕ) (before after : OutsideSeen) (r : Reads from session layers store before.place after.place before.steps after.steps) (totals : Totals) (are : AreTotals session r.read totals) where
   line_is : line_of totals ≡ numbers_text session r.read
   line_is =
       ap (λ (n : ℕ). receive_text n totals.kept totals.shown) are.many
@@ -37,7 +37,7 @@ module _ (from session layers : List ℕ) (before after : OutsideSeen) (r : Read
   below apart = omega (arith, r.few, are.many, apart)
 
   -- the end, after all was read
-  pub ends_read : (end : ReceiveEnd) → EndsWith totals before.written after.written before.out_faults after.out_faults end → EndsReceive from session layers before after end
+  pub ends_read : (end : ReceiveEnd) → EndsWith totals before.written after.written before.out_faults after.out_faults end → EndsReceive from session layers store before after end
   ends_read Done ends = (r, below ends.0.0, are.complete.0 ends.0.1, ends.1 ∙ ap (append_known before.written) line_is)
   ends_read Incomplete ends =
       (r, below ends.0.0, λ is. false_true totals.complete ends.0.1 (are.complete.1 is), ends.1 ∙ ap (append_known before.written) line_is)
@@ -46,5 +46,5 @@ module _ (from session layers : List ℕ) (before after : OutsideSeen) (r : Read
     r,
     record { count = ends.0.0; printed = ends.0.1 ∙ ap (λ (t : List ℕ). append_known before.written (take ends.0.0 t)) line_is; rose = ends.1 },
   )
-  ends_read NoMemory ends = (reads_leaves from session layers before.steps after.steps before.place after.place r, ends)
+  ends_read NoMemory ends = (reads_leaves from session layers store before.steps after.steps before.place after.place r, ends)
   ends_read PlaceFault ends = absurd ends

@@ -21,7 +21,7 @@ pub enum ReceiveEnd {
     NoMemory,
     /// A file could not be read or written.
     PlaceFault,
-    /// The line of the numbers could not be printed. LAYERS is whole.
+    /// The line of the numbers could not be printed. LAYERS and STORE are whole.
     OutFault,
     /// The input has ended, and some layer is not shown. The line of the numbers was printed.
     Incomplete,
@@ -29,22 +29,31 @@ pub enum ReceiveEnd {
     TurnsSpent,
 }
 
-/// Reads the datagrams of FROM, and writes the layers of the session to LAYERS as they are shown; then prints the line of the
-/// numbers. A failure of the output leaves LAYERS whole.
+/// Reads the datagrams of FROM, and writes the layers of the session to LAYERS as they are shown; then writes the store of all
+/// packets that it has kept to STORE, and prints the line of the numbers. A failure of the output leaves both files whole.
 pub fn receive<P: Place, K: Link, S: Sink, L: Ledger>(
     alloc: Global,
     from: &str,
     session: [u8; 8],
     layers: &str,
+    store: &str,
     outside: &mut Outside<P, K, S, L>,
 ) -> ReceiveEnd
-    ensures receives { Receives from.now session layers.now (seen outside.old)
+    ensures receives { Receives from.now session layers.now store.now (seen outside.old)
         (seen outside.new) result }
-    ensures completes { CompletesReceive from.now session layers.now (seen outside.old)
+    ensures completes { CompletesReceive from.now session layers.now store.now (seen outside.old)
         (seen outside.new) result }
     ensures same { AreSame outside.old outside.new }
 {
-    match read_files(alloc, from, session, layers, outside.place, outside.steps) {
+    match read_files(
+        alloc,
+        from,
+        session,
+        layers,
+        store,
+        outside.place,
+        outside.steps,
+    ) {
         Ok(totals) => print_numbers(alloc, totals, outside.out),
         Err(Stop::NoMemory) => ReceiveEnd::NoMemory,
         Err(Stop::Failed) => ReceiveEnd::PlaceFault,

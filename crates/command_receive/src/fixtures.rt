@@ -1,4 +1,4 @@
-//! What the tests share: packets and records of layers that were made outside.
+//! What the tests share: packets, records of layers and tags of stores that were made outside.
 use std::alloc::{AllocError, Global};
 
 /// A packet of another session.
@@ -59,6 +59,47 @@ pub(crate) const EXAMPLE_2: [u8; 24] = [
     0x00, 0x00, 0x00, 0x00, 0x02, 0x00, 0x00, 0x00, 0x0F, 0x00, 0x00, 0x01, 0x00, 0x00, 0x18, 0x66,
     0x00, 0x00, 0x01, 0x00, 0x00, 0x18, 0x77, 0x77,
 ];
+
+/// The tags of stores: of packets 0 and 1, of the packets of the words, of no packet of their session, of the whole example session,
+/// and of its packets 2 and 5.
+pub(crate) const FIRST_TAG: [u8; 16] = [
+    0xD7, 0xF2, 0x6A, 0x75, 0xD6, 0xB6, 0x25, 0x18, 0x20, 0x0C, 0x1B, 0x34, 0x39, 0x6B, 0x4A, 0xEA,
+];
+
+pub(crate) const WORDS_TAG: [u8; 16] = [
+    0x24, 0x8B, 0x06, 0xA9, 0x5B, 0x27, 0xD5, 0x66, 0x44, 0x43, 0x26, 0xFA, 0x4C, 0x4C, 0x08, 0x36,
+];
+
+pub(crate) const NOTHING_TAG: [u8; 16] = [
+    0x00, 0xB5, 0x1C, 0x1E, 0x18, 0xF6, 0x71, 0x99, 0xA7, 0x56, 0x5F, 0x1C, 0x0E, 0x54, 0x74, 0x04,
+];
+
+pub(crate) const EXAMPLE_TAG: [u8; 16] = [
+    0x2B, 0x37, 0xBD, 0x5E, 0xDC, 0xAA, 0x9B, 0xE4, 0x63, 0x58, 0xD8, 0x67, 0x17, 0x7C, 0x77, 0xD2,
+];
+
+pub(crate) const TWO_AND_FIVE_TAG: [u8; 16] = [
+    0x4F, 0xFE, 0x1B, 0x34, 0x05, 0xC1, 0xD8, 0xC8, 0xA2, 0x62, 0x56, 0xD3, 0xBA, 0x20, 0x34, 0x1F,
+];
+
+/// A store of this session number, of so many packets, with these entries and this tag.
+pub(crate) fn store_of(
+    alloc: Global,
+    session: &[u8; 8],
+    count: u8,
+    entries: &[&[u8]],
+    tag: &[u8; 16],
+) -> Result<Vec<u8>, AllocError> {
+    let mut bytes = Vec::new(alloc);
+    bytes.extend_from_slice(b"PTS2")?;
+    bytes.extend_from_slice(session)?;
+    bytes.extend_from_slice(&[0, 0, 0, count])?;
+    for entry in entries {
+        bytes.extend_from_slice(*entry)?;
+    }
+    bytes.extend_from_slice(tag)?;
+    Ok(bytes)
+}
 
 /// These pieces on end.
 pub(crate) fn joined(alloc: Global, pieces: &[&[u8]]) -> Result<Vec<u8>, AllocError> {

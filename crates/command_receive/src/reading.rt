@@ -1,4 +1,4 @@
-//! Reading the datagrams of a file, and writing the layers that they show.
+//! Reading the datagrams of a file, and writing the layers that they show and the store of what is kept.
 ghost use Rattle.std.specs.Prelude.{◌≡◌, ◌⊎◌, ℕ, ◌+◌, ◌≤◌, List, [], ◌∷◌, length, true, vec_len, OnOk, OnErr, IfOk, IfErr};
 ghost use Rattle.pet_base.specs.declared.limits.TheConstants.{MAX_ENTRY};
 ghost use Rattle.pet_base.specs.declared.place.Side.TheVariants.{Read, Written};
@@ -22,10 +22,11 @@ use met_packets::put_shown;
 use pet_base::{
     Entry, Failed, MAX_DATAGRAMS, MAX_ENTRY, MAX_SESSION, Place, Steps, Stop, next_entry,
 };
-use pet_field::Gf16Plain;
 use pet_receive::{Receiver, Verdict, group_of};
+use pet_tables::Gf16Tables;
 use std::alloc::{AllocError, Global};
 use std::sync::ledger::Ledger;
+use store_merge::write_store_file;
 
 /// What a reading comes to.
 #[derive(Clone, Copy)]
@@ -40,27 +41,29 @@ pub(crate) struct Totals {
     pub(crate) complete: bool,
 }
 
-/// Reads the datagrams of the one file, and writes the layers that they show to the other.
+/// Reads the datagrams of a file, writes the layers that they show to LAYERS, and then the store of what is kept to STORE.
 pub(crate) fn read_files<P: Place, L: Ledger>(
     alloc: Global,
     from: &str,
     session: [u8; 8],
     layers: &str,
+    store: &str,
     place: &mut P,
     steps: &mut Steps<L>,
 ) -> Result<Totals, Stop>
-    ensures done { IfOk result (λ totals. (r : Reads from.now session layers.now (P.seen place.old)
+    ensures done { IfOk result (λ totals. (r : Reads from.now session layers.now store.now (P.seen place.old)
         (P.seen place.new) steps.old steps.new) × AreTotals session r.read totals) }
-    ensures front { OnErr result (LeavesFront from.now session layers.now (P.seen place.old)
+    ensures front { OnErr result (LeavesFront from.now session layers.now store.now (P.seen place.old)
         (P.seen place.new)) }
-    ensures cause { IfErr result (Licensed (HasFailed (reading from.now ∷ writing layers.now ∷ [])
+    ensures cause { IfErr result (Licensed (HasFailed (reading from.now ∷ writing layers.now ∷ writing store.now ∷ [])
         (P.seen place.old) (P.seen place.new))) }
 {
     let mut buffer = room(alloc)?;
+    let field = Gf16Tables::new(alloc)?;
     open(from, layers, place)?;
-    let field = Gf16Plain;
     let mut receiver = Receiver::new(alloc, &field, session, MAX_SESSION);
     let read = receive_all(place, &mut receiver, &mut buffer, steps)?;
+    write_store_file(alloc, &receiver, store, place)?;
     Ok(Totals {
         read,
         kept: receiver.kept(),
@@ -93,7 +96,7 @@ fn open<P: Place>(from: &str, layers: &str, place: &mut P) -> Result<(), Failed>
 /// 16,777,216.
 fn receive_all<P: Place, L: Ledger>(
     place: &mut P,
-    receiver: &mut Receiver<'_, Gf16Plain>,
+    receiver: &mut Receiver<'_, Gf16Tables>,
     buffer: &mut [u8],
     steps: &mut Steps<L>,
 ) -> Result<u32, Stop>
@@ -124,7 +127,7 @@ fn receive_all<P: Place, L: Ledger>(
 /// Hands a datagram to the receiver, and puts the layers that it shows.
 fn receive_one<P: Place, L: Ledger>(
     place: &mut P,
-    receiver: &mut Receiver<'_, Gf16Plain>,
+    receiver: &mut Receiver<'_, Gf16Tables>,
     arrival: u32,
     datagram: &[u8],
     steps: &mut Steps<L>,

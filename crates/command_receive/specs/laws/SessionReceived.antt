@@ -12,10 +12,13 @@ use Rattle.command_files.specs.Printed.{Printed}
 use Rattle.command_files.specs.Wrote.{with_files}
 use Rattle.pet_encode.specs.Session.{Session}
 use Rattle.pet_receive.specs.ShownBytes.{IsComplete, shown_in_all}
+use Rattle.pet_receive.specs.Union.{frames_in}
 use Rattle.pet_text.specs.Lines.{receive_text}
 use Rattle.pet_field.specs.Gf16.{gf16_coding}
 use Rattle.met_packets.specs.Kept.{kept_of}
 use Rattle.met_packets.specs.Met.{met_in, all_shown, count_met, layers_text}
+use Rattle.met_packets.specs.MetStore.{session_store}
+use Rattle.met_packets.specs.laws.FramesAreMet.{kept_frames}
 use Rattle.met_packets.specs.laws.AllDatagrams.{follows_all, text_is}
 use Rattle.met_packets.specs.laws.CountsAreMet.{kept_is, shown_is, complete_is}
 use Rattle.met_packets.specs.laws.DatagramMore.{made, IsPlain}
@@ -23,13 +26,15 @@ use Rattle.met_packets.specs.laws.FewestStripesLaws.{all_carry_fewest}
 use Rattle.met_packets.specs.laws.KeptIsMet.{Follows}
 use Rattle.command_receive.specs.declared.command.ReceiveEnd.{ReceiveEnd}
 use Rattle.command_receive.specs.declared.command.ReceiveEnd.TheVariants.{Done, NoMemory, PlaceFault, OutFault, Incomplete, TurnsSpent}
-use Rattle.command_receive.specs.Receives.{HasFile, AreRead, layers_file, Reads, EndsReceive, Receives, numbers_text}
+use Rattle.store_merge.specs.Files.{HasFile}
+use Rattle.store_merge.specs.Store.{store_of, store_text}
+use Rattle.command_receive.specs.Receives.{AreRead, layers_file, kept_file, Reads, EndsReceive, Receives, numbers_text}
 use Rattle.command_receive.specs.ReceivesSession.{HasPacketsOf, CanReceive, ReceivesSession, CompletesReceive}
 
 same_some : (x y : List ℕ) → Some x ≡ Some y → x ≡ y
 same_some x y e = cc
 
-module _ (s : Session) (from layers : List ℕ) (files : Files) (bytes : List ℕ) (before after : OutsideSeen) (given : HasPacketsOf s from files bytes before.place) where
+module _ (s : Session) (from layers store : List ℕ) (files : Files) (bytes : List ℕ) (before after : OutsideSeen) (given : HasPacketsOf s from files bytes before.place) where
   -- the datagrams of FROM are those that were read
   all_read : (read : List (List ℕ)) → HasFile before.place.files from (AreRead read) → (datagrams bytes ≡ read) × (length read < MAX_DATAGRAMS)
   all_read read input =
@@ -40,7 +45,7 @@ module _ (s : Session) (from layers : List ℕ) (files : Files) (bytes : List �
         few,
       )
 
-  module _ (r : Reads from s.number layers before.place after.place before.steps after.steps) where
+  module _ (r : Reads from s.number layers store before.place after.place before.steps after.steps) where
     read_is : (datagrams bytes ≡ r.read) × (length r.read < MAX_DATAGRAMS)
     read_is = all_read r.read r.input
 
@@ -58,16 +63,19 @@ module _ (s : Session) (from layers : List ℕ) (files : Files) (bytes : List �
 
     -- what was read and printed is what the session defines
     pub session_received : (end : ReceiveEnd) → end ≡ cond (all_shown s (met_in s.number r.read)) Done Incomplete → Printed (numbers_text s.number r.read) before after
-        → ReceivesSession s layers files (datagrams bytes) before after end
+        → ReceivesSession s layers store files (datagrams bytes) before after end
     session_received end ended printed =
         let pairs = met_in s.number r.read in
         let kept = kept_of s.number r.read in
+        let stored : store_text kept ≡ session_store s r.read =
+        ap (λ (n : List ℕ). store_of n (frames_in kept)) follows.session ∙ ap (store_of s.number) (kept_frames gf16_coding s (λ a. a < 65536) r.read given.session given.fits plain) in
         let text : r.text ≡ layers_text s r.read = text_is (λ a. a < 65536) gf16_coding s MAX_SESSION given.session given.fits r.read r.text plain r.is_text in
-        subst (λ (l : List (List ℕ)). ReceivesSession s layers files l before after end) (sym read_is.0)
+        subst (λ (l : List (List ℕ)). ReceivesSession s layers store files l before after end) (sym read_is.0)
         (record {
-          file =
-              r.file ∙ ap (λ (o : Option Files). option_map (with_files (layers_file layers r.text ∷ [])) o) given.told
-              ∙ ap (λ (t : List ℕ). Some (with_file layers t files)) text;
+          written =
+              r.files ∙ ap (λ (o : Option Files). option_map (with_files (layers_file layers r.text ∷ kept_file store s.number r.read ∷ [])) o) given.told
+              ∙ ap (λ (t : List ℕ). Some (with_file store (store_text kept) (with_file layers t files))) text
+              ∙ ap (λ (t : List ℕ). Some (with_file store t (with_file layers (layers_text s r.read) files))) stored;
           ended = ended;
           printed =
               printed
@@ -77,8 +85,8 @@ module _ (s : Session) (from layers : List ℕ) (files : Files) (bytes : List �
         })
 
   -- by the end
-  pub received : (end whole : ReceiveEnd) → whole ≡ end → CanReceive s from layers files bytes before after whole → EndsReceive from s.number layers before after end
-      → ReceivesSession s layers files (datagrams bytes) before after end
+  pub received : (end whole : ReceiveEnd) → whole ≡ end → CanReceive s from layers store files bytes before after whole → EndsReceive from s.number layers store before after end
+      → ReceivesSession s layers store files (datagrams bytes) before after end
   received Done whole is can ends =
       session_received ends.0 Done (ap (λ (b : Bool). cond b Done Incomplete) (sym ((shown_where ends.0).0 ends.2))) ends.3
   received Incomplete whole is can ends =
@@ -90,7 +98,7 @@ module _ (s : Session) (from layers : List ℕ) (files : Files) (bytes : List �
   received PlaceFault whole is can ends = absurd (can.well.place ends.0)
 
 -- the headline follows from what `receive` does
-pub completes_receive : (from session layers : List ℕ) (before after : OutsideSeen) (end : ReceiveEnd) → Receives from session layers before after end → CompletesReceive from session layers before after end
-completes_receive from session layers before after end receives s files bytes is can =
-    received s from layers files bytes before after can.given end end refl can
-    (subst (λ (n : List ℕ). EndsReceive from n layers before after end) is receives.ends)
+pub completes_receive : (from session layers store : List ℕ) (before after : OutsideSeen) (end : ReceiveEnd) → Receives from session layers store before after end → CompletesReceive from session layers store before after end
+completes_receive from session layers store before after end receives s files bytes is can =
+    received s from layers store files bytes before after can.given end end refl can
+    (subst (λ (n : List ℕ). EndsReceive from n layers store before after end) is receives.ends)

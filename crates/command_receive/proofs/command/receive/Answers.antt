@@ -9,8 +9,8 @@ returns-in-Ok-clause-receives g c =
     record {
       link = refl;
       later = c.print_numbers.ensures.later;
-      ends = ends_read c.args.from.now c.args.session c.args.layers.now _ _ done.0 c.in-Ok.totals done.1 c.print_numbers.result c.print_numbers.ensures.ends;
+      ends = ends_read c.args.from.now c.args.session c.args.layers.now c.args.store.now _ _ done.0 c.in-Ok.totals done.1 c.print_numbers.result c.print_numbers.ensures.ends;
     }
 
 pub returns-in-Ok-clause-completes : goal.returns-in-Ok-clause-completes
-returns-in-Ok-clause-completes g c = completes_receive c.args.from.now c.args.session c.args.layers.now _ _ c.print_numbers.result (returns-in-Ok-clause-receives g c)
+returns-in-Ok-clause-completes g c = completes_receive c.args.from.now c.args.session c.args.layers.now c.args.store.now _ _ c.print_numbers.result (returns-in-Ok-clause-receives g c)
