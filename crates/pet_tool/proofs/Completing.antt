@@ -20,18 +20,21 @@ use Rattle.command_receive.specs.Receives.{Receives}
 use Rattle.command_receive.specs.ReceivesSession.{HasPacketsOf}
 use Rattle.command_receive.specs.laws.LineLaws.{can_receive_before, received_with_line}
 use Rattle.command_receive.specs.laws.SessionReceived.{completes_receive}
+use Rattle.command_merge.specs.Merges.{Merges}
+use Rattle.command_merge.specs.laws.MergeLineLaws.{can_merge_before, merged_with_line}
+use Rattle.command_merge.specs.laws.SessionMerged.{completes_merge}
 use Rattle.command_send.specs.Sends.{Sends}
 use Rattle.command_send.specs.laws.EndLaws.{sends_session, sent_before_line}
 use Rattle.pet_text.specs.declared.status.Status.{Status}
 use Rattle.pet_text.specs.declared.status.Status.TheVariants.{Done, Incomplete}
 use Rattle.pet_text.specs.declared.words.Command.{Command}
-use Rattle.pet_text.specs.declared.words.Command.TheVariants.{Plan, Check, Send, Receive}
+use Rattle.pet_text.specs.declared.words.Command.TheVariants.{Plan, Check, Send, Receive, Merge}
 use Rattle.pet_text.specs.declared.words.End.TheVariants.{File}
 use Rattle.pet_text.specs.Lines.{fault_text}
-use Rattle.pet_tool.specs.Completes.{Completes, CompletesPlan, CompletesCheck, CompletesSend}
+use Rattle.pet_tool.specs.Completes.{Completes, CompletesPlan, CompletesCheck, CompletesSend, CompletesMerge}
 use Rattle.pet_tool.specs.Does.{Does, Runs}
 use Rattle.pet_tool.specs.Headline.{Headline, HasWhatWasSent, ReceivesWhatWasSent}
-use Rattle.pet_tool.specs.Statuses.{status_of_plan, status_of_check, status_of_send, status_of_receive}
+use Rattle.pet_tool.specs.Statuses.{status_of_plan, status_of_check, status_of_send, status_of_receive, status_of_merge}
 use Rattle.pet_tool.specs.Undisturbed.{EndsWith}
 
 -- the lines and then that of the status which the end has
@@ -62,13 +65,13 @@ shown_status : (all : Bool) → status_of_receive (if all then receive.Done else
 shown_status true = refl
 shown_status false = refl
 
-headline : (from session layers : List ℕ) (before after : OutsideSeen) (status : Status) → Runs (Receives from session layers) status_of_receive before after status → Headline from session layers before after status
-headline from session layers before after status runs = λ s files bytes is calm given.
-    let can = can_receive_before s from layers files bytes (fault_text status) before runs.between after runs.end runs.line (record { memory = λ none. calm.memory (runs.ended ∙ ap status_of_receive none); well = calm.well; given = given }) in
-    let received = completes_receive from session layers before runs.between runs.end runs.did s files bytes is can in
-    let lined = received_with_line s from layers files bytes (fault_text status) before runs.between after runs.end runs.line (datagrams bytes) calm.well runs.did.later received in
+headline : (from session layers store : List ℕ) (before after : OutsideSeen) (status : Status) → Runs (Receives from session layers store) status_of_receive before after status → Headline from session layers store before after status
+headline from session layers store before after status runs = λ s files bytes is calm given.
+    let can = can_receive_before s from layers store files bytes (fault_text status) before runs.between after runs.end runs.line (record { memory = λ none. calm.memory (runs.ended ∙ ap status_of_receive none); well = calm.well; given = given }) in
+    let received = completes_receive from session layers store before runs.between runs.end runs.did s files bytes is can in
+    let lined = received_with_line s from layers store files bytes (fault_text status) before runs.between after runs.end runs.line (datagrams bytes) calm.well runs.did.later received in
     record {
-      file = lined.0;
+      written = lined.0;
       ends = ends_with _ status _ before after (runs.ended ∙ ap status_of_receive received.ended ∙ shown_status _) lined.1;
       fewest = received.fewest;
     }
@@ -87,15 +90,23 @@ sent_given p b from files bytes old sent =
           (All-contains (IsItsDatagram (session_of p b)) (datagrams (datagrams_text (session_of p b))) _ (sent_are_packets (session_of p b) session) (sent.sent k d lt)).packet;
     }
 
-received_sent : (from session layers : List ℕ) (before after : OutsideSeen) (status : Status) → Headline from session layers before after status → ReceivesWhatWasSent from session layers before after status
-received_sent from session layers before after status meets = λ p b files bytes is calm sent.
+received_sent : (from session layers store : List ℕ) (before after : OutsideSeen) (status : Status) → Headline from session layers store before after status → ReceivesWhatWasSent from session layers store before after status
+received_sent from session layers store before after status meets = λ p b files bytes is calm sent.
     meets (session_of p b) files bytes is calm (sent_given p b from files bytes before.place sent)
+
+merge_completes : (first second out : List ℕ) (before after : OutsideSeen) (status : Status) → Runs (Merges first second out) status_of_merge before after status → CompletesMerge first second out before after status
+merge_completes first second out before after status runs = λ s files a b calm given.
+    let can = can_merge_before s first second out files a b (fault_text status) before runs.between after runs.end runs.line (record { memory = λ none. calm.memory (runs.ended ∙ ap status_of_merge none); well = calm.well; given = given }) in
+    let merged = completes_merge first second out before runs.between runs.end runs.did s files a b can in
+    let lined = merged_with_line s first second out files a b (fault_text status) before runs.between after runs.end runs.line calm.well runs.did.later merged in
+    (lined.0, ends_with Done status _ before after (runs.ended ∙ ap status_of_merge merged.ended) lined.1)
 
 pub completes : (command : Option Command) (before after : OutsideSeen) (status : Status) → Does command before after status → Completes command before after status
 completes None before after status does = tt
 completes (Some (Plan stream priority)) before after status runs = plan_completes stream priority before after status runs
 completes (Some (Check stream priority plan)) before after status runs = check_completes stream priority plan before after status runs
 completes (Some (Send stream priority (File to))) before after status runs = send_completes stream priority to before after status runs
-completes (Some (Receive (File from) session layers)) before after status runs =
-    let meets = headline from session layers before after status runs in
-    record { headline = meets; of_send = received_sent from session layers before after status meets }
+completes (Some (Receive (File from) session layers store)) before after status runs =
+    let meets = headline from session layers store before after status runs in
+    record { headline = meets; of_send = received_sent from session layers store before after status meets }
+completes (Some (Merge first second out)) before after status runs = merge_completes first second out before after status runs

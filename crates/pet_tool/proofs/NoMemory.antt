@@ -7,10 +7,11 @@ use Rattle.command_plan.specs.declared.planning.PlanEnd.TheVariants as plan
 use Rattle.command_plan.specs.declared.checking.CheckEnd.TheVariants as check
 use Rattle.command_send.specs.declared.command.SendEnd.TheVariants as send
 use Rattle.command_receive.specs.declared.command.ReceiveEnd.TheVariants as receive
+use Rattle.command_merge.specs.declared.command.MergeEnd.TheVariants as merge
 use Rattle.pet_text.specs.declared.status.Status.{Status}
 use Rattle.pet_text.specs.declared.status.Status.TheVariants.{NoMemory}
 use Rattle.pet_text.specs.declared.words.Command.{Command}
-use Rattle.pet_text.specs.declared.words.Command.TheVariants.{Plan, Check, Send, Receive}
+use Rattle.pet_text.specs.declared.words.Command.TheVariants.{Plan, Check, Send, Receive, Merge}
 use Rattle.pet_text.specs.declared.words.End.TheVariants.{File}
 use Rattle.pet_text.specs.Lines.{fault_text}
 use Rattle.pet_tool.specs.Does.{Does}
@@ -38,9 +39,16 @@ module _ (before after : OutsideSeen) (line : PrintsLine (fault_text NoMemory) b
     ended = refl;
     line = line;
   }
-  no_memory (Receive (File from) session layers) = record {
+  no_memory (Receive (File from) session layers store) = record {
     between = before;
     end = receive.NoMemory;
+    did = record { link = refl; later = omega arith; ends = (inl refl, refl) };
+    ended = refl;
+    line = line;
+  }
+  no_memory (Merge first second out) = record {
+    between = before;
+    end = merge.NoMemory;
     did = record { link = refl; later = omega arith; ends = (inl refl, refl) };
     ended = refl;
     line = line;

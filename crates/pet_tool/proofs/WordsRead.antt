@@ -2,7 +2,7 @@
 use Rattle.std.proofs.Common.{◌≡◌, ℕ, false, List, Some, sym, ap, subst, ◌∙◌}
 use Rattle.std.specs.Str.{bytes_eq}
 use Rattle.pet_text.specs.declared.words.Command.{Command}
-use Rattle.pet_text.specs.declared.words.Command.TheVariants.{Send, Receive}
+use Rattle.pet_text.specs.declared.words.Command.TheVariants.{Send}
 use Rattle.pet_text.specs.declared.words.End.{End}
 use Rattle.pet_text.specs.declared.words.End.TheVariants.{File}
 use Rattle.pet_text.specs.Words.{command_of}
@@ -17,6 +17,3 @@ differs_in words command stream priority name to end words_are is name_is end_is
 
 pub sends_as : (command : Command) (stream priority one other to : List ℕ) (end : End) → command ≡ Send stream priority end → one ≡ stream → other ≡ priority → end ≡ File to → Send one other (File to) ≡ command
 sends_as command stream priority one other to end is one_is other_is end_is = cc
-
-pub receives_as : (command : Command) (session from layers one : List ℕ) (end : End) → command ≡ Receive end session layers → one ≡ layers → end ≡ File from → Receive (File from) session one ≡ command
-receives_as command session from layers one end is one_is end_is = cc

@@ -1,17 +1,22 @@
 -- When each command is done, and what it then does; for `receive` this is the headline. This project's own.
-use Rattle.std.specs.Prelude.{◌≡◌, ℕ, List, [], ◌∷◌, length, Option, None, Some}
+use Rattle.std.specs.Prelude.{◌≡◌, ℕ, List, [], ◌∷◌, ◌++◌, length, Option, None, Some}
 use Rattle.pet_base.specs.OutsideSeen.{OutsideSeen}
 use Rattle.command_files.specs.Uses.{reading, writing}
 use Rattle.command_files.specs.Wrote.{Wrote}
+use Rattle.pet_base.specs.Seen.{Files, with_file}
+use Rattle.pet_encode.specs.Session.{Session}
+use Rattle.met_packets.specs.Met.{Pair}
+use Rattle.met_packets.specs.MetStore.{pairs_store}
+use Rattle.command_merge.specs.MergesSession.{HasStoresOf, session_line}
 use Rattle.stream_session.specs.Sessions.{IsGiven, tables_in}
 use Rattle.command_plan.specs.SessionPlan.{session_plan}
 use Rattle.command_send.specs.Sends.{packets_file, sent_line_text}
+use Rattle.plan_text.specs.PlanLines.{least_text}
 use Rattle.pet_text.specs.declared.status.Status.{Status}
 use Rattle.pet_text.specs.declared.status.Status.TheVariants.{Done}
 use Rattle.pet_text.specs.declared.words.Command.{Command}
-use Rattle.pet_text.specs.declared.words.Command.TheVariants.{Plan, Check, Send, Receive}
+use Rattle.pet_text.specs.declared.words.Command.TheVariants.{Plan, Check, Send, Receive, Merge}
 use Rattle.pet_text.specs.declared.words.End.TheVariants.{File}
-use Rattle.pet_text.specs.PlanLines.{least_text}
 use Rattle.pet_tool.specs.Headline.{MeetsHeadline}
 use Rattle.pet_tool.specs.Undisturbed.{IsUndisturbed, EndsWith}
 
@@ -34,10 +39,17 @@ CompletesSend stream priority to before after status =
     (p b : List ℕ) → IsUndisturbed (reading stream ∷ reading priority ∷ writing to ∷ []) before after status → IsGiven before.place stream priority p b
     → Wrote (packets_file to p b ∷ []) None before.place after.place × EndsWith Done (sent_line_text p b) before after status
 
+-- two stores of one session are merged into the store of the packets that the one or the other has
+abbrev pub CompletesMerge : List ℕ → List ℕ → List ℕ → OutsideSeen → OutsideSeen → Status → Type 0
+CompletesMerge first second out before after status =
+    (s : Session) (files : Files) (a b : List Pair) → IsUndisturbed (reading first ∷ reading second ∷ writing out ∷ []) before after status → HasStoresOf s first second files a b before.place
+    → (after.place.files ≡ Some (with_file out (pairs_store s (a ++ b)) files)) × EndsWith Done (session_line s (a ++ b)) before after status
+
 -- a case for each form of words; of words of no form nothing is owed here
 abbrev pub Completes : Option Command → OutsideSeen → OutsideSeen → Status → Type 0
 Completes None before after status = Unit {0}
 Completes (Some (Plan stream priority)) before after status = CompletesPlan stream priority before after status
 Completes (Some (Check stream priority plan)) before after status = CompletesCheck stream priority plan before after status
 Completes (Some (Send stream priority (File to))) before after status = CompletesSend stream priority to before after status
-Completes (Some (Receive (File from) session layers)) before after status = MeetsHeadline from session layers before after status
+Completes (Some (Receive (File from) session layers store)) before after status = MeetsHeadline from session layers store before after status
+Completes (Some (Merge first second out)) before after status = CompletesMerge first second out before after status

@@ -2,6 +2,7 @@
 use Rattle.std.specs.Prelude.{◌≡◌, Option, None, Some}
 use Rattle.pet_base.specs.OutsideSeen.{OutsideSeen}
 use Rattle.command_files.specs.Printed.{PrintsLine}
+use Rattle.command_merge.specs.Merges.{Merges}
 use Rattle.command_plan.specs.Checks.{Checks}
 use Rattle.command_plan.specs.Plans.{Plans}
 use Rattle.command_receive.specs.Receives.{Receives}
@@ -9,10 +10,10 @@ use Rattle.command_send.specs.Sends.{Sends}
 use Rattle.pet_text.specs.declared.status.Status.{Status}
 use Rattle.pet_text.specs.declared.status.Status.TheVariants.{Usage}
 use Rattle.pet_text.specs.declared.words.Command.{Command}
-use Rattle.pet_text.specs.declared.words.Command.TheVariants.{Plan, Check, Send, Receive}
+use Rattle.pet_text.specs.declared.words.Command.TheVariants.{Plan, Check, Send, Receive, Merge}
 use Rattle.pet_text.specs.declared.words.End.TheVariants.{File}
 use Rattle.pet_text.specs.Lines.{fault_text}
-use Rattle.pet_tool.specs.Statuses.{status_of_plan, status_of_check, status_of_send, status_of_receive}
+use Rattle.pet_tool.specs.Statuses.{status_of_plan, status_of_check, status_of_send, status_of_receive, status_of_merge}
 
 -- A command did what it does at one of its ends, and then the line of that end's status was printed.
 pub record Runs {End : Type 0} (Did : OutsideSeen → OutsideSeen → End → Type 0) (status_of : End → Status) (before after : OutsideSeen) (status : Status) : Type 0 where
@@ -33,4 +34,5 @@ Does None before after status = Refuses before after status
 Does (Some (Plan stream priority)) before after status = Runs (Plans stream priority) status_of_plan before after status
 Does (Some (Check stream priority plan)) before after status = Runs (Checks stream priority plan) status_of_check before after status
 Does (Some (Send stream priority (File to))) before after status = Runs (Sends stream priority to) status_of_send before after status
-Does (Some (Receive (File from) session layers)) before after status = Runs (Receives from session layers) status_of_receive before after status
+Does (Some (Receive (File from) session layers store)) before after status = Runs (Receives from session layers store) status_of_receive before after status
+Does (Some (Merge first second out)) before after status = Runs (Merges first second out) status_of_merge before after status

@@ -10,9 +10,11 @@ use Rattle.command_send.specs.declared.command.SendEnd.{SendEnd}
 use Rattle.command_send.specs.declared.command.SendEnd.TheVariants as send
 use Rattle.command_receive.specs.declared.command.ReceiveEnd.{ReceiveEnd}
 use Rattle.command_receive.specs.declared.command.ReceiveEnd.TheVariants as receive
+use Rattle.command_merge.specs.declared.command.MergeEnd.{MergeEnd}
+use Rattle.command_merge.specs.declared.command.MergeEnd.TheVariants as merge
 use Rattle.pet_text.specs.declared.status.PlanKind.TheVariants as kind
 use Rattle.pet_text.specs.declared.status.Status.{Status}
-use Rattle.pet_text.specs.declared.status.Status.TheVariants.{Done, NoMemory, PlaceFault, OutFault, BadStream, BadPriority, BadPlan, Incomplete, TurnsSpent, NotLeast, Changed}
+use Rattle.pet_text.specs.declared.status.Status.TheVariants.{Done, NoMemory, PlaceFault, OutFault, BadStream, BadPriority, BadPlan, BadStore, OtherSession, Clash, Incomplete, TurnsSpent, NotLeast, Changed, Full}
 
 -- of a session's refusal
 abbrev pub status_of_session : SessionFault → Status
@@ -61,3 +63,15 @@ status_of_receive receive.PlaceFault = PlaceFault
 status_of_receive receive.OutFault = OutFault
 status_of_receive receive.Incomplete = Incomplete
 status_of_receive receive.TurnsSpent = TurnsSpent
+
+-- a store is told by its place among the words
+abbrev pub status_of_merge : MergeEnd → Status
+status_of_merge merge.Done = Done
+status_of_merge merge.NoMemory = NoMemory
+status_of_merge merge.PlaceFault = PlaceFault
+status_of_merge merge.OutFault = OutFault
+status_of_merge (merge.BadFirst at kind) = BadStore 1 at kind
+status_of_merge (merge.BadSecond at kind) = BadStore 2 at kind
+status_of_merge merge.OtherSession = OtherSession
+status_of_merge (merge.Clash group number) = Clash group number
+status_of_merge (merge.Full group) = Full group

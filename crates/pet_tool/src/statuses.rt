@@ -1,7 +1,8 @@
 //! The status of each end of each command.
 ghost use Rattle.std.specs.Prelude.{◌≡◌, ◌≢◌};
-ghost use Rattle.pet_tool.specs.Statuses.{status_of_plan, status_of_check, status_of_send, status_of_receive, status_of_session};
+ghost use Rattle.pet_tool.specs.Statuses.{status_of_plan, status_of_check, status_of_send, status_of_receive, status_of_merge, status_of_session};
 
+use command_merge::MergeEnd;
 use command_plan::{CheckEnd, PlanEnd};
 use command_receive::ReceiveEnd;
 use command_send::SendEnd;
@@ -74,6 +75,24 @@ pub(crate) fn receive_status(end: &ReceiveEnd) -> Status
         ReceiveEnd::OutFault => Status::OutFault,
         ReceiveEnd::Incomplete => Status::Incomplete,
         ReceiveEnd::TurnsSpent => Status::TurnsSpent,
+    }
+}
+
+/// The status of each end of `merge`.
+pub(crate) fn merge_status(end: &MergeEnd) -> Status
+    ensures status { result ≡ status_of_merge end.now }
+    ensures known { result ≢ Status.Usage }
+{
+    match end {
+        MergeEnd::Done => Status::Done,
+        MergeEnd::NoMemory => Status::NoMemory,
+        MergeEnd::PlaceFault => Status::PlaceFault,
+        MergeEnd::OutFault => Status::OutFault,
+        MergeEnd::BadFirst(at, kind) => Status::BadStore(1, *at, *kind),
+        MergeEnd::BadSecond(at, kind) => Status::BadStore(2, *at, *kind),
+        MergeEnd::OtherSession => Status::OtherSession,
+        MergeEnd::Clash(group, number) => Status::Clash(*group, *number),
+        MergeEnd::Full(group) => Status::Full(*group),
     }
 }
 

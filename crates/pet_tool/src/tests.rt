@@ -7,11 +7,12 @@ use pet_base::MemorySink;
 use pet_text::{PlanKind, Status};
 use priority_file::PriorityFault;
 use std::test::Fail;
+use store_merge::StoreKind;
 
 #[test]
 fn refuses_words_of_no_form(rt: HostRuntime) -> Result<(), Fail> {
     let alloc = rt.alloc();
-    let rows: [&[&str]; 13] = [
+    let rows: [&[&str]; 18] = [
         &[],
         &["plan", "s"],
         &["plan", "s", ""],
@@ -21,10 +22,15 @@ fn refuses_words_of_no_form(rt: HostRuntime) -> Result<(), Fail> {
         &["send", "s", "f", "file:s"],
         &["send", "s", "f", "file:f"],
         &["send", "s", "f", "file:"],
-        &["receive", "file:a", "0123", "l"],
-        &["receive", "a", "0001020304050607", "l"],
-        &["receive", "file:a", "0001020304050607", "a"],
-        &["receive", "file:a", "000102030405060G", "l"],
+        &["receive", "file:a", "0123", "l", "t"],
+        &["receive", "a", "0001020304050607", "l", "t"],
+        &["receive", "file:a", "0001020304050607", "a", "t"],
+        &["receive", "file:a", "0001020304050607", "l", "a"],
+        &["receive", "file:a", "0001020304050607", "l", "l"],
+        &["receive", "file:a", "0001020304050607", "l"],
+        &["receive", "file:a", "000102030405060G", "l", "t"],
+        &["merge", "a", "b", "a"],
+        &["merge", "a", "b", "b"],
     ];
     for words in rows {
         let mut place = place_of(alloc, &STREAM, PRIORITIES, "")?;
@@ -40,19 +46,22 @@ fn ends_with_the_status_and_its_line(rt: HostRuntime) -> Result<(), Fail> {
     let plan: [&str; 3] = ["plan", "s", "f"];
     let check: [&str; 4] = ["check", "s", "f", "p"];
     let send: [&str; 4] = ["send", "s", "f", "file:d"];
-    let receive: [&str; 4] = ["receive", "file:p", "0001020304050607", "l"];
-    let missing: [&str; 4] = ["receive", "file:a", "0001020304050607", "l"];
+    let receive: [&str; 5] = ["receive", "file:p", "0001020304050607", "l", "t"];
+    let missing: [&str; 5] = ["receive", "file:a", "0001020304050607", "l", "t"];
+    let merge: [&str; 4] = ["merge", "p", "p", "o"];
+    let cut = Status::BadStore(1, 0, StoreKind::Cut);
     let least = "fault least 0\n";
     let sent = "session a5ac9461b03bcf36 groups 1 datagrams 6\n";
     let nothing = "read 0 kept 0 shown 0\nfault incomplete\n";
     let text = Status::BadPlan(PlanKind::Text, 1);
     let lines = Status::BadPlan(PlanKind::Lines, 0);
-    let rows: [(&[&str], &str, Status, u8, &str); 9] = [
+    let rows: [(&[&str], &str, Status, u8, &str); 10] = [
         (&plan, PLAN, Status::Done, 0, PLAN),
         (&check, PLAN, Status::Done, 0, "least 1\n"),
         (&send, PLAN, Status::Done, 0, sent),
         (&receive, "", Status::Incomplete, 12, nothing),
         (&missing, "", Status::PlaceFault, 3, "fault place\n"),
+        (&merge, "", cut, 9, "fault store 1 Cut 0\n"),
         (&check, "lengths 2x012\n", text, 8, "fault plan Text 1\n"),
         (&check, "", lines, 8, "fault plan Lines 0\n"),
         (&check, "lengths 2x12\n", Status::NotLeast(0), 16, least),
@@ -127,10 +136,15 @@ fn receives_what_was_sent(rt: HostRuntime) -> Result<(), Fail> {
     let sent = "session 895ad4c0a13de41c groups 2 datagrams 12\n";
     let send = ["send", "s", "f", "file:d"];
     assert!(rt; ends(alloc, &send, &mut place, Status::Done, sent)?);
-    let receive = ["receive", "file:d", "895ad4c0a13de41c", "l"];
+    let receive = ["receive", "file:d", "895ad4c0a13de41c", "l", "t"];
     let received = "read 12 kept 12 shown 6\n";
     assert!(rt; ends(alloc, &receive, &mut place, Status::Done, received)?);
     assert_eq!(rt; place.bytes_of("l").map(|bytes| bytes.len()), Some(118));
+    // the store's entries are those of the datagram file, which has all packets in order
+    assert_eq!(rt; place.bytes_of("t").map(|bytes| bytes.len()), Some(884));
+    let merge = ["merge", "t", "t", "o"];
+    assert!(rt; ends(alloc, &merge, &mut place, Status::Done, "merged 12\n")?);
+    assert_eq!(rt; place.bytes_of("o"), place.bytes_of("t"));
     Ok(())
 }
 
@@ -140,7 +154,7 @@ fn prints_nothing_behind_a_failure_of_the_output(rt: HostRuntime) -> Result<(), 
     let rows: [(&[&str], Status, u8); 3] = [
         (&["plan", "s", "f"], Status::OutFault, 5),
         (
-            &["receive", "file:p", "0001020304050607", "l"],
+            &["receive", "file:p", "0001020304050607", "l", "t"],
             Status::OutFault,
             5,
         ),

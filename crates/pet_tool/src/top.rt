@@ -4,6 +4,7 @@ ghost use Rattle.std.specs.Str.{bytes_eq};
 ghost use Rattle.pet_base.specs.OutsideSeen.{outside_seen};
 ghost use Rattle.pet_base.specs.Lent.{seen, AreSame};
 ghost use Rattle.command_files.specs.Printed.{PrintsLine};
+ghost use Rattle.command_merge.specs.Merges.{Merges};
 ghost use Rattle.command_plan.specs.Checks.{Checks};
 ghost use Rattle.command_plan.specs.Plans.{Plans};
 ghost use Rattle.command_receive.specs.Receives.{Receives};
@@ -12,10 +13,11 @@ ghost use Rattle.pet_text.specs.Words.{texts_of, command_of};
 ghost use Rattle.pet_text.specs.Lines.{fault_text};
 ghost use Rattle.pet_tool.specs.Completes.{Completes};
 ghost use Rattle.pet_tool.specs.Does.{Does, Runs};
-ghost use Rattle.pet_tool.specs.Statuses.{status_of_plan, status_of_check, status_of_send, status_of_receive};
+ghost use Rattle.pet_tool.specs.Statuses.{status_of_plan, status_of_check, status_of_send, status_of_receive, status_of_merge};
 
-use crate::statuses::{check_status, plan_status, receive_status, send_status};
+use crate::statuses::{check_status, merge_status, plan_status, receive_status, send_status};
 use arrayvec::ArrayVec;
+use command_merge::merge;
 use command_plan::{check, plan};
 use command_receive::receive;
 use command_send::send;
@@ -114,7 +116,22 @@ fn run_command<P: Place, K: Link, S: Sink, L: Ledger>(
             from,
             session,
             layers,
-        } => run_receive(alloc, file_name(from), *session, layers.as_str(), outside),
+            store,
+        } => run_receive(
+            alloc,
+            file_name(from),
+            *session,
+            layers.as_str(),
+            store.as_str(),
+            outside,
+        ),
+        Command::Merge { first, second, out } => run_merge(
+            alloc,
+            first.as_str(),
+            second.as_str(),
+            out.as_str(),
+            outside,
+        ),
     }
 }
 
@@ -184,15 +201,33 @@ fn run_receive<P: Place, K: Link, S: Sink, L: Ledger>(
     from: &str,
     session: [u8; 8],
     layers: &str,
+    store: &str,
     outside: &mut Outside<P, K, S, L>,
 ) -> Status
-    ensures does { Runs (Receives from.now session layers.now) status_of_receive (seen outside.old)
+    ensures does { Runs (Receives from.now session layers.now store.now) status_of_receive
+        (seen outside.old) (seen outside.new) result }
+    ensures known { result ≢ Status.Usage }
+    ensures same { AreSame outside.old outside.new }
+{
+    let end = receive(alloc, from, session, layers, store, outside);
+    tell(receive_status(&end), outside)
+}
+
+/// Runs `merge`, and prints the line of its status.
+fn run_merge<P: Place, K: Link, S: Sink, L: Ledger>(
+    alloc: Global,
+    first: &str,
+    second: &str,
+    out: &str,
+    outside: &mut Outside<P, K, S, L>,
+) -> Status
+    ensures does { Runs (Merges first.now second.now out.now) status_of_merge (seen outside.old)
         (seen outside.new) result }
     ensures known { result ≢ Status.Usage }
     ensures same { AreSame outside.old outside.new }
 {
-    let end = receive(alloc, from, session, layers, outside);
-    tell(receive_status(&end), outside)
+    let end = merge(alloc, first, second, out, outside);
+    tell(merge_status(&end), outside)
 }
 
 /// Prints the line that tells of the status, where it has one. A failure of the output does not change the status.

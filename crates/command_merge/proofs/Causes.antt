@@ -1,0 +1,89 @@
+-- Why the command ends so, by the step that failed.
+use Rattle.std.proofs.Common.{◌≡◌, ◌≢◌, ◌⊎◌, ℕ, ◌≤◌, List, [], ◌∷◌, Option, None, Some, sym, ap, subst, ◌∙◌, arith, inl, inr, Result, Ok, Err}
+use Rattle.std.specs.Prelude.{IfErr, IsErrAnd}
+use Rattle.pet_base.specs.Seen.{Seen, Files, Blame, HadFault}
+use Rattle.pet_base.specs.declared.faults.Stop.{Stop}
+use Rattle.pet_base.specs.declared.faults.Stop.TheVariants as stop
+use Rattle.command_files.specs.Inputs.{Licensed}
+use Rattle.command_files.specs.Uses.{writing, Failed}
+use Rattle.command_files.specs.Wrote.{Wrote}
+use Rattle.command_files.specs.laws.WroteLaws.{Wrote-nothing, Wrote-then}
+use Rattle.pet_receive.specs.KeptSet.{KeptSet, kept_in_all}
+use Rattle.pet_receive.specs.Union.{union, absorb_fault}
+use Rattle.pet_receive.specs.declared.union.Absorb.{Absorb}
+use Rattle.pet_receive.specs.declared.union.Absorb.TheVariants as absorb
+use Rattle.store_merge.specs.Files.{HasStore, HasBadStore, store_file}
+use Rattle.store_merge.specs.declared.fault.BadStore.TheVariants.{At}
+use Rattle.command_merge.specs.Ends.{absorb_end, stop_end, IsFirstEnd, IsSecondEnd}
+use Rattle.command_merge.specs.Merges.{HasStores, CanJoin, IsCause, WritesUnion, union_of}
+use Rattle.command_merge.specs.declared.command.MergeEnd.{MergeEnd}
+use Rattle.command_merge.specs.declared.command.MergeEnd.TheVariants.{Done, NoMemory, PlaceFault, OutFault, BadFirst, BadSecond, OtherSession, Clash, Full}
+
+-- what the command ends with is what a step's error stands for
+pub end_is : {T : Type 0} (P : MergeEnd → Type 0) (result : Result T MergeEnd) (end : MergeEnd) → IsErrAnd result (λ e. e ≡ end) → P end → IfErr result P
+end_is P (Ok x) end is p = tt
+end_is P (Err e) end is p = subst P (sym is) p
+
+-- a fault since a later time is one since an earlier
+later_fault : (P : Blame → Type 0) (old mid new : Seen) → old.faults ≤ mid.faults → HadFault mid new P → HadFault old new P
+later_fault P old mid new later had = record { rose = omega (arith, later, had.rose); blame = had.blame }
+
+-- the first store was not read
+pub first_failed : (first second out : List ℕ) (old new : Seen) (end : MergeEnd) → IsFirstEnd old new first end → new.files ≡ old.files → IsCause first second out old new end
+first_failed first second out old new NoMemory is same = inl same
+first_failed first second out old new PlaceFault is same = (inl is, inl same)
+first_failed first second out old new (BadFirst at kind) is same = (is, same)
+first_failed first second out old new Done is same = absurd is
+first_failed first second out old new OutFault is same = absurd is
+first_failed first second out old new (BadSecond at kind) is same = absurd is
+first_failed first second out old new OtherSession is same = absurd is
+first_failed first second out old new (Clash group number) is same = absurd is
+first_failed first second out old new (Full group) is same = absurd is
+
+-- the second was not
+pub second_failed : (first second out : List ℕ) (old mid new : Seen) (a : KeptSet) (end : MergeEnd) → HasStore old.files first a → old.faults ≤ mid.faults → mid.files ≡ old.files → IsSecondEnd mid new second end
+    → new.files ≡ mid.files → IsCause first second out old new end
+second_failed first second out old mid new a NoMemory has later before is same = inl (same ∙ before)
+second_failed first second out old mid new a PlaceFault has later before is same = (inr (inl ((a, has), later_fault _ old mid new later is)), inl (same ∙ before))
+second_failed first second out old mid new a (BadSecond at kind) has later before is same =
+    ((a, has), subst (λ (files : Option Files). HasBadStore files second (At at kind)) before is, same ∙ before)
+second_failed first second out old mid new a Done has later before is same = absurd is
+second_failed first second out old mid new a OutFault has later before is same = absurd is
+second_failed first second out old mid new a (BadFirst at kind) has later before is same = absurd is
+second_failed first second out old mid new a OtherSession has later before is same = absurd is
+second_failed first second out old mid new a (Clash group number) has later before is same = absurd is
+second_failed first second out old mid new a (Full group) has later before is same = absurd is
+
+-- both were read
+abbrev pub stores_of : (first second : List ℕ) (old mid : Seen) (a b : KeptSet) → HasStore old.files first a → mid.files ≡ old.files → HasStore mid.files second b → HasStores first second old
+stores_of first second old mid a b has before there = record { a = a; b = b; first_is = has; second_is = subst (λ (files : Option Files). HasStore files second b) before there }
+
+-- they cannot be joined
+pub not_joined : (first second out : List ℕ) (old new : Seen) (s : HasStores first second old) (fault : Absorb) → new.files ≡ old.files → (fault ≢ absorb.NoMemory → absorb_fault s.a s.b ≡ Some fault)
+    → IsCause first second out old new (absorb_end fault)
+not_joined first second out old new s absorb.OtherSession same is = (s, is (λ e. cc), same)
+not_joined first second out old new s (absorb.Clash group number) same is = (s, is (λ e. cc), same)
+not_joined first second out old new s (absorb.Full group) same is = (s, is (λ e. cc), same)
+not_joined first second out old new s absorb.NoMemory same is = inl same
+
+-- OUT was not written
+module _ (first second out : List ℕ) (old mid new : Seen) (c : CanJoin first second old) (set : KeptSet) (is : set ≡ union c.stores.a c.stores.b) (before : mid.files ≡ old.files) where
+  pub not_written : (s : Stop) → old.faults ≤ mid.faults → (new.files ≡ mid.files) ⊎ Wrote [] (Some (store_file out set)) mid new → Licensed (Failed (writing out ∷ []) mid new) s → IsCause first second out old new (stop_end s)
+  not_written stop.NoMemory later (inl same) cause = inl (same ∙ before)
+  not_written stop.NoMemory later (inr front) cause =
+      inr (c, subst (λ (t : KeptSet). Wrote [] (Some (store_file out t)) old new) is (Wrote-then [] [] (Some (store_file out set)) old mid new (Wrote-nothing old mid before) front))
+  not_written stop.Failed later (inl same) cause = (inr (inr (c, later_fault _ old mid new later cause)), inl (same ∙ before))
+  not_written stop.Failed later (inr front) cause = (
+    inr (inr (c, later_fault _ old mid new later cause)),
+    inr (c, subst (λ (t : KeptSet). Wrote [] (Some (store_file out t)) old new) is (Wrote-then [] [] (Some (store_file out set)) old mid new (Wrote-nothing old mid before) front)),
+  )
+
+  -- it was, and so many packets are in it
+  pub written : (n : ℕ) → n ≡ kept_in_all set → Wrote (store_file out set ∷ []) None mid new → (w : WritesUnion first second out old new) × (n ≡ kept_in_all (union_of w.joins))
+  written n many w = (
+    record {
+      joins = c;
+      file = subst (λ (t : KeptSet). Wrote (store_file out t ∷ []) None old new) is (Wrote-then [] (store_file out set ∷ []) None old mid new (Wrote-nothing old mid before) w);
+    },
+    many ∙ ap kept_in_all is,
+  )

@@ -1,0 +1,39 @@
+use Rattle.std.proofs.Common.{◌∙◌, arith}
+use Rattle.command_merge.proofs.Causes.{end_is, stores_of, not_joined, not_written, written}
+use Rattle.command_merge.specs.Merges.{CanJoin, IsCause}
+use Rattle.command_merge.proofs.files.merge_files.Goals as goal
+
+pub returns-in_err-absorb-clause-cause : goal.returns-in_err-absorb-clause-cause
+returns-in_err-absorb-clause-cause g c =
+    let old = g.P.Place.seen c.args.place.now in
+    let mid = g.P.Place.seen c.read_first.new.place in
+    let new = g.P.Place.seen c.read_second.new.place in
+    let before = c.read_first.ensures.others.files in
+    let stores = stores_of c.args.first.now c.args.second.now old mid _ _ c.in_ok-union.ensures.read before c.in_ok-other.ensures.read in
+    let fault = c.in_err-absorb.field-0.0 in
+    end_is (IsCause c.args.first.now c.args.second.now c.args.out.now old new) c.from_residual-in_err-absorb.result _ c.from_residual-in_err-absorb.ensures.1
+    (not_joined c.args.first.now c.args.second.now c.args.out.now old new stores fault (c.read_second.ensures.others.files ∙ before) c.in_err-absorb.ensures.refused)
+
+pub returns-in_err-write_store_file-clause-cause : goal.returns-in_err-write_store_file-clause-cause
+returns-in_err-write_store_file-clause-cause g c =
+    let old = g.P.Place.seen c.args.place.now in
+    let mid = g.P.Place.seen c.read_first.new.place in
+    let read = g.P.Place.seen c.read_second.new.place in
+    let new = g.P.Place.seen c.write_store_file.new.place in
+    let before = c.read_first.ensures.others.files in
+    let stores = stores_of c.args.first.now c.args.second.now old mid _ _ c.in_ok-union.ensures.read before c.in_ok-other.ensures.read in
+    let joins : CanJoin c.args.first.now c.args.second.now old = record { stores = stores; fits = c.in_ok-absorb.ensures.joined } in
+    end_is (IsCause c.args.first.now c.args.second.now c.args.out.now old new) c.from_residual-in_err-write_store_file.result _ c.from_residual-in_err-write_store_file.ensures.1
+    (not_written c.args.first.now c.args.second.now c.args.out.now old read new joins _ c.in_ok-absorb.ensures.kept (c.read_second.ensures.others.files ∙ before) c.in_err-write_store_file.field-0.0
+    (omega (arith, c.read_first.ensures.later, c.read_second.ensures.later)) c.in_err-write_store_file.ensures.front c.in_err-write_store_file.ensures.cause)
+
+pub returns-clause-done : goal.returns-clause-done
+returns-clause-done g c =
+    let old = g.P.Place.seen c.args.place.now in
+    let mid = g.P.Place.seen c.read_first.new.place in
+    let read = g.P.Place.seen c.read_second.new.place in
+    let new = g.P.Place.seen c.write_store_file.new.place in
+    let before = c.read_first.ensures.others.files in
+    let stores = stores_of c.args.first.now c.args.second.now old mid _ _ c.in_ok-union.ensures.read before c.in_ok-other.ensures.read in
+    let joins : CanJoin c.args.first.now c.args.second.now old = record { stores = stores; fits = c.in_ok-absorb.ensures.joined } in
+    written c.args.first.now c.args.second.now c.args.out.now old read new joins _ c.in_ok-absorb.ensures.kept (c.read_second.ensures.others.files ∙ before) c.kept.result c.kept.ensures c.in_ok-write_store_file.ensures.written

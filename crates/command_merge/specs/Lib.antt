@@ -1,0 +1,5 @@
+pub mod Merges
+pub mod MergesSession
+pub mod Ends
+pub mod Line
+pub mod laws

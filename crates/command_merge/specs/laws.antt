@@ -1,0 +1,2 @@
+pub mod MergeLineLaws
+pub mod SessionMerged

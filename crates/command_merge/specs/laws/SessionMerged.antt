@@ -1,0 +1,171 @@
+-- Stores of one session are merged, from what each end tells.
+use Rattle.std.proofs.Common.{◌≡◌, ℕ, ◌≤◌, Bool, List, [], ◌∷◌, ◌++◌, length, Option, None, Some, Result, Ok, Err, refl, sym, ap, subst, ◌∙◌, inl, inr}
+use Rattle.std.specs.Prelude.{option_map, IfSome, if◌then◌else◌}
+use Rattle.std.specs.Io.KnownBytes.{append_known}
+use Rattle.std.proofs.lemmas.Bool.{le-ltb}
+use Rattle.pet_base.specs.declared.limits.TheConstants.{MAX_SESSION, MAX_STORE}
+use Rattle.pet_base.specs.OutsideSeen.{OutsideSeen}
+use Rattle.pet_base.specs.Seen.{Seen, Files, Blame, HadFault, with_file}
+use Rattle.command_files.specs.Printed.{Printed}
+use Rattle.command_files.specs.Uses.{reading, writing, Failed}
+use Rattle.command_files.specs.Wrote.{with_files}
+use Rattle.pet_encode.specs.Session.{Session, IsSession, Fits}
+use Rattle.pet_field.specs.Gf16.{gf16_coding}
+use Rattle.packet_frame.specs.Frame.{Fields}
+use Rattle.pet_receive.specs.KeptSet.{KeptSet, cost_kept, kept_in_all}
+use Rattle.pet_receive.specs.laws.FramesLaws.{frames_many}
+use Rattle.pet_receive.specs.Union.{union, absorb_fault, frames_in}
+use Rattle.pet_receive.specs.declared.union.Absorb.{Absorb}
+use Rattle.pet_receive.specs.declared.union.Absorb.TheVariants as absorb
+use Rattle.store_merge.specs.Files.{HasStore, HasBadStore, store_in, store_file}
+use Rattle.store_merge.specs.Refusals.{read_text}
+use Rattle.store_merge.specs.Store.{store_of, store_text}
+use Rattle.store_merge.specs.laws.LengthLaws.{store_fits}
+use Rattle.store_merge.specs.laws.WrittenLaws.{written_is_read}
+use Rattle.store_merge.specs.declared.fault.StoreKind.TheVariants.{Cut}
+use Rattle.store_merge.specs.declared.fault.BadStore.{BadStore}
+use Rattle.store_merge.specs.declared.fault.BadStore.TheVariants.{At}
+use Rattle.met_packets.specs.Gf16.{met_frames}
+use Rattle.met_packets.specs.Met.{Pair}
+use Rattle.met_packets.specs.MetStore.{pairs_store}
+use Rattle.met_packets.specs.laws.SetOfPairs.{IsMetSet, its_frames, store_exists, met_sets_fit, met_sets_join}
+use Rattle.pet_text.specs.Lines.{merged_text}
+use Rattle.command_merge.specs.Merges.{HasStores, FailedInTurn, WritesUnion, union_of, EndsMerge, Merges}
+use Rattle.command_merge.specs.MergesSession.{HasStoresOf, CanMerge, MergesSession, CompletesMerge}
+use Rattle.command_merge.specs.declared.command.MergeEnd.{MergeEnd}
+use Rattle.command_merge.specs.declared.command.MergeEnd.TheVariants.{Done, NoMemory, PlaceFault, OutFault, BadFirst, BadSecond, OtherSession, Clash, Full}
+
+same_some : (x y : List ℕ) → Some x ≡ Some y → x ≡ y
+same_some x y e = cc
+
+abbrev good : KeptSet → Result KeptSet BadStore
+good set = Ok set
+
+abbrev bad : BadStore → Result KeptSet BadStore
+bad fault = Err fault
+
+same_ok : (a b : KeptSet) → good a ≡ Ok b → a ≡ b
+same_ok a b e = cc
+
+-- the store of some packets of a session is read as a set that has exactly these
+pub record IsStoreOf (s : Session) (pairs : List Pair) (set : KeptSet) : Type 0 where
+  pub is_met : IsMetSet gf16_coding s MAX_SESSION pairs set
+  pub read : store_in (pairs_store s pairs) ≡ Ok set
+
+-- the store of what is kept, by the packets
+text_is : (s : Session) (pairs : List Pair) (set : KeptSet) → IsMetSet gf16_coding s MAX_SESSION pairs set → store_text set ≡ pairs_store s pairs
+text_is s pairs set is = ap (λ (n : List ℕ). store_of n (frames_in set)) is.session ∙ ap (store_of s.number) (its_frames gf16_coding s MAX_SESSION pairs set is)
+
+within : (text : List ℕ) → length text ≤ MAX_STORE → store_in text ≡ read_text MAX_SESSION text
+unfolding store_in
+within text le = ap (λ (b : Bool). if b then Err (At MAX_STORE Cut) else read_text MAX_SESSION text) (le-ltb MAX_STORE (length text) le)
+
+store_is : (s : Session) (pairs : List Pair) → IsSession 2 s → Fits s MAX_SESSION → (set : KeptSet) × IsStoreOf s pairs set
+store_is s pairs session fits =
+    let there = store_exists s MAX_SESSION pairs session fits in
+    let set = there.0 in
+    let is = there.1 in
+    let text = text_is s pairs set is in
+    let most : set.limit ≡ MAX_SESSION = is.limit_is in
+    let cost = subst (λ (l : ℕ). cost_kept set ≤ l) most is.sound.within in
+    let number : length set.session ≡ 8 = ap (λ (n : List ℕ). length n) is.session ∙ session.number in
+    let read = written_is_read set MAX_SESSION is.sound number cost ∙ ap (λ (l : ℕ). Ok (record set { limit = l })) (sym most) in (
+      set,
+      record {
+        is_met = is;
+        read = ap store_in (sym text) ∙ within (store_text set) (store_fits set is.sound number cost) ∙ read;
+      },
+    )
+
+-- it is all that the file can be a store of
+read_so : (s : Session) (files : Files) (told : Option Files) (name : List ℕ) (pairs : List Pair) (set other : KeptSet) → told ≡ Some files → files name ≡ Some (pairs_store s pairs) → IsStoreOf s pairs set → HasStore told name other
+    → other ≡ set
+read_so s files told name pairs set other is found store has =
+    let at = subst (λ (o : Option Files). HasStore o name other) is has in
+    same_ok other set (sym at.2 ∙ ap store_in (same_some at.0 (pairs_store s pairs) (sym at.1 ∙ found)) ∙ store.read)
+
+no_ok : {P : Type 0} (set : KeptSet) (fault : BadStore) → bad fault ≡ Ok set → P
+no_ok set fault e = cc
+
+-- and it is not refused
+not_refused : {P : Type 0} (s : Session) (files : Files) (told : Option Files) (name : List ℕ) (pairs : List Pair) (set : KeptSet) (fault : BadStore) → told ≡ Some files → files name ≡ Some (pairs_store s pairs) → IsStoreOf s pairs set
+    → HasBadStore told name fault → P
+not_refused s files told name pairs set fault is found store has =
+    let at = subst (λ (o : Option Files). HasBadStore o name fault) is has in
+    no_ok set fault (sym at.2 ∙ ap store_in (same_some at.0 (pairs_store s pairs) (sym at.1 ∙ found)) ∙ store.read)
+
+wider : (blame : Blame) {P : Blame → Type 0} → ((b : Blame) → b ≡ blame → P b) → (old new : Seen) → Failed (blame ∷ []) old new → HadFault old new P
+wider blame {P} to old new f = record { rose = f.rose; blame = by new.blamed f.blame }
+  where
+    by : (o : Option Blame) → IfSome o (λ b. b ≡ blame) → IfSome o P
+    by None is = tt
+    by (Some b) is = to b is
+
+-- a fault of one of the files in its turn is a fault of the command's
+in_turn : (first second out : List ℕ) (old new : Seen) → FailedInTurn first second out old new → Failed (reading first ∷ reading second ∷ writing out ∷ []) old new
+in_turn first second out old new (inl f) = wider (reading first) (λ b is. inl is) old new f
+in_turn first second out old new (inr (inl f)) = wider (reading second) (λ b is. inr (inl is)) old new f.1
+in_turn first second out old new (inr (inr f)) = wider (writing out) (λ b is. inr (inr is)) old new f.1
+
+none_some : {P : Type 0} (fault : Absorb) → None ≡ Some fault → P
+none_some fault e = cc
+
+module _ (s : Session) (first second out : List ℕ) (files : Files) (a b : List Pair) (before after : OutsideSeen) (given : HasStoresOf s first second files a b before.place) where
+  one : (set : KeptSet) × IsStoreOf s a set
+  one = store_is s a given.session given.fits
+
+  other : (set : KeptSet) × IsStoreOf s b set
+  other = store_is s b given.session given.fits
+
+  joined : absorb_fault one.0 other.0 ≡ None
+  joined = met_sets_fit gf16_coding s MAX_SESSION MAX_SESSION a b one.0 other.0 one.1.is_met other.1.is_met given.fits
+
+  together : IsMetSet gf16_coding s MAX_SESSION (a ++ b) (union one.0 other.0)
+  together = met_sets_join gf16_coding s MAX_SESSION MAX_SESSION a b one.0 other.0 one.1.is_met other.1.is_met given.fits
+
+  first_so : (st : HasStores first second before.place) → st.a ≡ one.0
+  first_so st = read_so s files before.place.files first a one.0 st.a given.told given.first_is one.1 st.first_is
+
+  second_so : (st : HasStores first second before.place) → st.b ≡ other.0
+  second_so st = read_so s files before.place.files second b other.0 st.b given.told given.second_is other.1 st.second_is
+
+  union_so : (st : HasStores first second before.place) → union st.a st.b ≡ union one.0 other.0
+  union_so st = ap (λ (x : KeptSet). union x st.b) (first_so st) ∙ ap (union one.0) (second_so st)
+
+  joins : (st : HasStores first second before.place) → absorb_fault st.a st.b ≡ None
+  joins st = ap (λ (x : KeptSet). absorb_fault x st.b) (first_so st) ∙ ap (absorb_fault one.0) (second_so st) ∙ joined
+
+  not_joined : {P : Type 0} (st : HasStores first second before.place) (fault : Absorb) → absorb_fault st.a st.b ≡ Some fault → P
+  not_joined st fault is = none_some fault (sym (joins st) ∙ is)
+
+  -- what was written and printed
+  session_merged : (w : WritesUnion first second out before.place after.place) → Printed (merged_text (kept_in_all (union_of w.joins))) before after → MergesSession s out files (a ++ b) before after Done
+  session_merged w printed =
+      let u = union one.0 other.0 in
+      let text : store_text (union_of w.joins) ≡ pairs_store s (a ++ b) = ap store_text (union_so w.joins.stores) ∙ text_is s (a ++ b) u together in
+      let many : kept_in_all (union_of w.joins) ≡ length (met_frames s (a ++ b)) =
+      ap kept_in_all (union_so w.joins.stores) ∙ sym (frames_many u)
+      ∙ ap (λ (l : List Fields). length l) (its_frames gf16_coding s MAX_SESSION (a ++ b) u together) in
+      record {
+        file =
+            w.file ∙ ap (λ (o : Option Files). option_map (with_files (store_file out (union_of w.joins) ∷ [])) o) given.told
+            ∙ ap (λ (t : List ℕ). Some (with_file out t files)) text;
+        ended = refl;
+        printed = printed ∙ ap (λ (n : ℕ). append_known before.written (merged_text n)) many;
+      }
+
+  -- by the end
+  pub ends_merged : (end whole : MergeEnd) → whole ≡ end → CanMerge s first second out files a b before after whole → EndsMerge first second out before after end → MergesSession s out files (a ++ b) before after end
+  ends_merged Done whole is can ends = session_merged ends.0 ends.1
+  ends_merged OutFault whole is can ends = absurd (can.well.out ends.1.rose)
+  ends_merged NoMemory whole is can ends = absurd (can.memory is)
+  ends_merged PlaceFault whole is can ends = absurd (can.well.place (in_turn first second out before.place after.place ends.0.0))
+  ends_merged (BadFirst at kind) whole is can ends = not_refused s files before.place.files first a one.0 (At at kind) given.told given.first_is one.1 ends.0.0
+  ends_merged (BadSecond at kind) whole is can ends = not_refused s files before.place.files second b other.0 (At at kind) given.told given.second_is other.1 ends.0.1
+  ends_merged OtherSession whole is can ends = not_joined ends.0.0 absorb.OtherSession ends.0.1
+  ends_merged (Clash group number) whole is can ends = not_joined ends.0.0 (absorb.Clash group number) ends.0.1
+  ends_merged (Full group) whole is can ends = not_joined ends.0.0 (absorb.Full group) ends.0.1
+
+-- stores of one session are merged, by what `merge` does
+pub completes_merge : (first second out : List ℕ) (before after : OutsideSeen) (end : MergeEnd) → Merges first second out before after end → CompletesMerge first second out before after end
+completes_merge first second out before after end merges = λ s files a b can. ends_merged s first second out files a b before after can.given end end refl can merges.ends
