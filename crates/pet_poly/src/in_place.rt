@@ -8,7 +8,7 @@ use pet_field::Field;
 use std::sync::ledger::Ledger;
 
 /// Multiplies a monic polynomial by X - x. Its lower coefficients are the first `degree` places; those of the product
-/// are then the first `degree + 1`, and the other places stay. It counts at most `degree` steps.
+/// are then the first `degree + 1`, and the other places stay. It counts `degree` steps.
 pub fn times_linear<F: Field, L: Ledger>(
     f: &F,
     low: &mut [F::Elem],
@@ -27,7 +27,7 @@ pub fn times_linear<F: Field, L: Ledger>(
         value_monic F.coding.ops (take (degree + 1) low.new) y
         ≡ F.coding.ops.times (F.coding.ops.minus y x)
         (value_monic F.coding.ops (take degree low.old) y) }
-    ensures cost { steps.new ≤ steps.old + degree }
+    ensures cost { steps.new ≡ steps.old + degree }
 {
     let mut before = f.zero();
     for i in 0..degree {
@@ -38,7 +38,7 @@ pub fn times_linear<F: Field, L: Ledger>(
     low[degree] = f.sub(before, x);
 }
 
-/// Adds `by` times the other list, place by place; places past the other list stay. It counts at most one step for each
+/// Adds `by` times the other list, place by place; places past the other list stay. It counts one step for each
 /// place of the other list.
 pub fn add_scaled<F: Field, L: Ledger>(
     f: &F,
@@ -58,7 +58,7 @@ pub fn add_scaled<F: Field, L: Ledger>(
         value F.coding.ops into.new y
         ≡ F.coding.ops.plus (value F.coding.ops into.old y)
         (F.coding.ops.times by (value F.coding.ops other.now y)) }
-    ensures cost { steps.new ≤ steps.old + length other.now }
+    ensures cost { steps.new ≡ steps.old + length other.now }
 {
     for i in 0..other.len() {
         into[i] = f.add(into[i], f.mul(by, other[i], steps));

@@ -1,0 +1,33 @@
+use Rattle.std.proofs.Common.{◌≡◌, ◌<◌, length, get_or, ap, ◌∙◌, arith}
+use Rattle.std.proofs.lemmas.List.{length-set, get_or-set_other, get_or_default}
+use Rattle.pet_rows.proofs.AnyField.{filled, all_from}
+use Rattle.pet_rows.proofs.rows.Rows.scale.Goals as goal
+
+pub loop-c-preserved : goal.loop-c-preserved
+loop-c-preserved g c =
+    let o = g.Self.Field.coding.ops in
+    let z = o.nought in
+    let old = c.args.row.now in
+    let row = c.loop-c.row in
+    let n = c.loop-c.c in
+    let e = c.index-row-c.result in
+    let x = c.element-factor.result in
+    let read : e ≡ get_or old n z = c.index-row-c.is ∙ get_or_default row n e z (omega (arith, c.loop-c.invariant.long)) ∙ c.loop-c.invariant.rest n (omega arith) in
+    record {
+      long = length-set row n c.mul.result ∙ c.loop-c.invariant.long;
+      done =
+          filled (λ k. o.times x (get_or old k z)) z row n c.mul.result (omega (arith, c.loop-c.invariant.long)) c.loop-c.invariant.done
+          (c.mul.ensures.product ∙ ap (o.times x) read);
+      rest = λ k l. get_or-set_other row n k c.mul.result z (λ q. absurd (omega arith)) ∙ c.loop-c.invariant.rest k (omega arith);
+      cost = omega (arith, c.mul.ensures.cost, c.loop-c.invariant.cost);
+    }
+
+pub returns-clause-elements : goal.returns-clause-elements
+returns-clause-elements g c =
+    let F = g.Self.Field in
+    let hx : F.is_element c.element-factor.result = rw c.element-factor.ensures c.requires.factor in
+    all_from F.is_element F.coding.ops.nought c.loop-c.row
+    (λ k l.
+    let m : k < length c.args.row.now = omega (arith, c.loop-c.invariant.long) in
+    rw (c.loop-c.invariant.done k (omega arith))
+    (g.met.Self.Field.lawful.field.times_is c.element-factor.result (get_or c.args.row.now k F.coding.ops.nought) hx (c.requires.elements k F.coding.ops.nought m)))
