@@ -2,4 +2,3 @@ mod Layers
 mod Results
 mod Rows
 mod Tables
-mod Written

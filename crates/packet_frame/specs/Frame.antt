@@ -45,9 +45,13 @@ head_text t f =
     t.mark ++ f.session ++ to_be_bytes w32 f.groups ++ to_be_bytes w32 f.group ++ to_be_bytes w16 f.packets ++ to_be_bytes w16 f.number
     ++ (length f.layers ∷ [])
 
+-- all that is before the payload
+abbrev pub text_before_payload : Format → Fields → List ℕ
+text_before_payload t f = head_text t f ++ flat_map layer_text f.layers
+
 -- all that is before the tag
 abbrev pub text_before_tag : Format → Fields → List ℕ
-text_before_tag t f = head_text t f ++ flat_map layer_text f.layers ++ f.payload
+text_before_tag t f = text_before_payload t f ++ f.payload
 
 -- the bytes of a frame
 unfoldable pub text_in : Format → Fields → List ℕ

@@ -3,7 +3,8 @@
 //! A frame is a session number, the number of groups, a group with its table, a packet's number and a payload of one
 //! word for each stripe of the table's plan. It has one text, which ends with a tag by SHA-256. `read_frame` accepts
 //! exactly the texts of frames and answers the first refusal of other bytes; `write_frame` appends the text of a
-//! frame, which is read back as that frame.
+//! frame, which is read back as that frame. Where the payload is made in its place, `begin_frame` appends what is before it,
+//! and `end_frame` the tag.
 //!
 //! A format of frames is a value, `Format`: `read_text` and `write_text` are the one reader and the one writer of every
 //! format, and the calls above are instances. `read_old_frame` reads the frames of the first version.
@@ -25,7 +26,7 @@ pub use old::{OldFrame, read_old_frame};
 pub use parts::{Head, Parts};
 pub use read::read_frame;
 pub use text::read_text;
-pub use write::{write_frame, write_text};
+pub use write::{begin_frame, end_frame, write_frame, write_text};
 
 #[cfg(test)]
 mod tests;

@@ -1,18 +1,21 @@
 //! A frame to its bytes.
-ghost use Rattle.std.specs.Prelude.{◌≡◌, ◌+◌, ◌-◌, ◌*◌, ◌<◌, ◌≤◌, [], ◌++◌, length, take, drop, OnOk, OnErr, vec_len, vec_capacity};
+ghost use Rattle.std.specs.Prelude.{◌≡◌, ℕ, ◌+◌, ◌-◌, ◌*◌, ◌<◌, ◌≤◌, List, [], ◌++◌, length, take, drop, OnOk, OnErr, vec_len, vec_capacity};
 ghost use Rattle.std.specs.List.{flat_map};
 ghost use Rattle.packet_frame.specs.Format.{IsFormat};
-ghost use Rattle.packet_frame.specs.Frame.{IsFrame, IsFrameIn, text, text_in, tag_of, layer_text, head_text, payload_length_of};
+ghost use Rattle.packet_frame.specs.Frame.{IsFrame, IsFrameIn, text, text_in, text_before_payload, tag_of, layer_text, head_text, payload_length_of};
 ghost use Rattle.packet_frame.specs.Refusals.{ReadsAs};
 ghost use Rattle.packet_frame.specs.Reading.{fields_by};
 ghost use Rattle.packet_frame.specs.View.{fields_with};
+ghost use Rattle.packet_frame.specs.declared.format.TheConstants.{FORMAT};
 
 use crate::format::{FORMAT, Format};
 use crate::frame::Header;
 use crate::parts::{HEAD, Head, LAYER};
-use pet_base::{HEAD_LENGTH, LAYER_LENGTH, MAX_GROUPS, MAX_LAYERS, NoMemory};
+use pet_base::{
+    HEAD_LENGTH, LAYER_LENGTH, MAX_DATAGRAM, MAX_GROUPS, MAX_LAYERS, NoMemory, TAG_LENGTH,
+};
 use sha2::{Digest, Sha256};
-use stripe_plan::LayerSize;
+use stripe_plan::{LayerSize, stripes};
 
 /// Appends the text of a frame. The room is taken before the first byte.
 pub fn write_frame(
@@ -46,6 +49,43 @@ pub fn write_frame(
     write_text(&FORMAT, &head, layers, payload, into)
 }
 
+/// Begins the text of a frame: appends all that is before its payload. The room for the whole text is taken before the
+/// first byte.
+pub fn begin_frame(header: &Header, number: u16, into: &mut Vec<u8>) -> Result<(), NoMemory>
+    requires groups { header.now.groups ≤ MAX_GROUPS }
+    requires group { header.now.group < header.now.groups }
+    requires number { number < header.now.table.packets }
+    ensures ok { OnOk result (into.new.items ≡ into.old.items
+        ++ text_before_payload FORMAT (fields_with header.now number [])) }
+    ensures err { OnErr result (into.new.items ≡ into.old.items) }
+    ensures room { OnOk result (vec_len into.new + payload_length_of header.now.table.layers
+        + TAG_LENGTH ≤ vec_capacity into.new) }
+
+    // With any payload of this length it is a frame.
+    ensures ranges { (payload : List ℕ)
+        → length payload ≡ payload_length_of header.now.table.layers
+        → IsFrame (fields_with header.now number payload) }
+{
+    let head = Head {
+        session: header.session,
+        groups: header.groups,
+        group: header.group,
+        packets: header.table.packets(),
+        number,
+    };
+    let payload = 2 * stripes(&header.table) as usize;
+    begin_text(&FORMAT, &head, header.table.layers(), payload, into)
+}
+
+/// Ends the text of a frame that begins at `start`: appends its tag, for which there is room.
+pub fn end_frame(start: usize, into: &mut Vec<u8>)
+    requires start { start ≤ vec_len into.old }
+    requires room { vec_len into.old + TAG_LENGTH ≤ vec_capacity into.old }
+    ensures { into.new.items ≡ into.old.items ++ tag_of FORMAT (drop start into.old.items) }
+{
+    append_tag(&FORMAT, start, into);
+}
+
 /// Appends the text of a frame of a format. The room is taken before the first byte.
 pub fn write_text(
     format: &Format,
@@ -60,12 +100,33 @@ pub fn write_text(
         ++ text_in format.now (fields_by head.now layers.now payload.now)) }
     ensures err { OnErr result (into.new.items ≡ into.old.items) }
 {
-    into.reserve(HEAD + LAYER * layers.len() + payload.len() + format.tag)?;
     let start = into.len();
-    append_head(format, head, layers, into);
-    append_layers(layers, into);
+    begin_text(format, head, layers, payload.len(), into)?;
     append(payload, into);
     append_tag(format, start, into);
+    Ok(())
+}
+
+/// Appends all that is before a payload of so many bytes. The room for the whole text is taken before the first byte.
+fn begin_text(
+    format: &Format,
+    head: &Head,
+    layers: &[LayerSize],
+    payload: usize,
+    into: &mut Vec<u8>,
+) -> Result<(), NoMemory>
+    requires format { IsFormat format.now }
+    requires few { length layers.now ≤ MAX_LAYERS }
+    requires narrow { payload ≤ MAX_DATAGRAM }
+    ensures ok { OnOk result (into.new.items ≡ into.old.items
+        ++ text_before_payload format.now (fields_by head.now layers.now [])) }
+    ensures err { OnErr result (into.new.items ≡ into.old.items) }
+    ensures room { OnOk result (vec_len into.new + payload + format.now.tag
+        ≤ vec_capacity into.new) }
+{
+    into.reserve(HEAD + LAYER * layers.len() + payload + format.tag)?;
+    append_head(format, head, layers, into);
+    append_layers(layers, into);
     Ok(())
 }
 

@@ -1,15 +1,23 @@
 -- The message, its words, and the payload that they make.
-use Rattle.std.proofs.Common.{◌≡◌, ℕ, ◌+◌, ◌*◌, ◌<◌, List, [], ◌∷◌, All, length, flat_map, sym, ap, subst, ◌∙◌, arith, length-append}
+use Rattle.std.proofs.Common.{◌≡◌, ℕ, ◌+◌, ◌*◌, ◌<◌, List, [], ◌∷◌, All, length, take, drop, flat_map, sym, ap, subst, ◌∙◌, arith, refl, length-append}
+use Rattle.std.proofs.lemmas.List.{length-map}
 use Rattle.std.proofs.lemmas.List.Elements.{All-nil, All-head, All-tail, All-append}
 use Rattle.pet_field.specs.Field.{Coding, IsCoding}
 use Rattle.pet_poly.specs.Rows.{words}
 use Rattle.pet_poly.specs.laws.RowLaws.{length-words, words_are, spellings_of_words}
-use Rattle.stripe_plan.specs.Layers.{plan_stripes}
+use Rattle.pet_rows.specs.Blocks.{columns_of, lengths_of, size_of, stripes_of}
+use Rattle.pet_rows.specs.declared.blocks.Block.{Block}
+use Rattle.stripe_plan.specs.Layers.{needs_of, plan_ends, plan_stripes, stripes_from}
+use Rattle.stripe_plan.specs.laws.StripeLaws.{plan_partition}
+use Rattle.stripe_plan.proofs.PlanLemmas.{plan_ends_plan}
 use Rattle.packet_frame.specs.Frame.{payload_length_of}
 use Rattle.packet_frame.specs.declared.frame.Header.{Header}
-use Rattle.pet_encode.specs.Payload.{payload_at}
+use Rattle.pet_encode.specs.Payload.{cut_in_stripes, payload_at}
 use Rattle.pet_encode.specs.laws.PayloadLaws.{length-values, payload_of_words, stripe_count}
-use Rattle.pet_encode.specs.Stored.{IsStored, values_of}
+use Rattle.pet_encode.specs.Stored.{IsStored, values_of, words_in}
+use Rattle.pet_encode.proofs.Columns.{length-on_end, All-on_end, cut_again}
+use Rattle.pet_rows.specs.laws.BlockLaws.{column_lengths, columns_are, elements_of_columns, stripes_of_row}
+use Rattle.pet_rows.specs.laws.StripeLaws.{stripes_are as stripes_by_are}
 
 module _ {E : Type 0} (P : E → Type 0) (count : ℕ) (c : Coding E) (laws : IsCoding P count c) where
   -- a row is written in `width` bytes an element
@@ -39,13 +47,48 @@ module _ {E : Type 0} (P : E → Type 0) (count : ℕ) (c : Coding E) (laws : Is
   pub row_message : (n : ℕ) (message : List ℕ) (row : List E) → row ≡ words c.spelt c.width n message → length message ≡ n * c.width → All (λ b. b < 256) message → flat_map c.spelling row ≡ message
   row_message n message row e whole bytes = ap (flat_map c.spelling) e ∙ spellings_of_words P c.width c.spelt c.spelling laws.spellings n message whole bytes
 
-  module _ (header : Header) (row : List E) (kept : IsStored P count c header row) (x : E) (hx : P x)
-      (payload : List ℕ) (is : payload ≡ values_of c row x (plan_stripes header.table.layers)) where
-    -- the values along the stripes are the payload of the message
-    pub payload_is : payload ≡ payload_at c header.table.layers (flat_map c.spelling row) x
-    payload_is = is ∙ sym (payload_of_words P count c laws header.table.layers row x kept.elements kept.whole)
+  -- elements that were laid out are elements
+  pub laid_elements : (blocks : List Block) (row laid : List E) → columns_of c.ops.nought blocks laid ≡ stripes_of blocks row → length laid ≡ size_of blocks → All P row → All P laid
+  laid_elements blocks row laid is whole h =
+      elements_of_columns P c.ops.nought blocks laid whole (subst (All (All P)) (sym is) (stripes_by_are P (lengths_of blocks) row h))
 
-    pub payload_length : length payload ≡ payload_length_of header.table.layers
-    payload_length =
-        ap length is ∙ length-values P count c laws row x (plan_stripes header.table.layers) kept.elements hx
-        ∙ ap (λ k. k * length (plan_stripes header.table.layers)) kept.width ∙ ap (◌*◌ 2) (stripe_count header.table.layers)
+  -- and their columns on end are the row
+  pub laid_row : (blocks : List Block) (row laid : List E) → columns_of c.ops.nought blocks laid ≡ stripes_of blocks row → length row ≡ size_of blocks → words_in c blocks laid ≡ row
+  laid_row blocks row laid is whole = ap (flat_map (λ s. s)) is ∙ stripes_of_row blocks row whole
+
+  module _ (header : Header) (blocks : List Block) (laid : List E) (kept : IsStored P count c header blocks laid) where
+    -- the stripes
+    abbrev pub stripes : List (List E)
+    stripes = columns_of c.ops.nought blocks laid
+
+    pub are : All (All P) stripes
+    are = columns_are P c.ops.nought blocks laid (omega (arith, kept.whole)) kept.elements
+
+    -- the words of the message are elements
+    pub words_are_elements : All P (words_in c blocks laid)
+    words_are_elements = All-on_end P stripes are
+
+    -- as many as the layers have
+    pub words_are_whole : length (words_in c blocks laid) ≡ length (needs_of header.table.layers)
+    words_are_whole = length-on_end c.ops.nought blocks laid ∙ kept.size
+
+    -- the columns are the plan's stripes
+    pub stripes_are : cut_in_stripes header.table.layers (words_in c blocks laid) ≡ stripes
+    unfolding stripes_from
+    stripes_are =
+        cut_again (needs_of header.table.layers) (words_in c blocks laid) stripes 0 (plan_ends header.table.layers)
+        (plan_partition (needs_of header.table.layers) 0 (plan_ends header.table.layers) (plan_ends_plan header.table.layers kept.table.needed))
+        refl (column_lengths c.ops.nought blocks laid ∙ kept.lengths)
+
+    module _ (x : E) (hx : P x) (payload : List ℕ) (is : payload ≡ values_of c stripes x) where
+      -- their values are the payload of the message
+      pub payload_is : payload ≡ payload_at c header.table.layers (flat_map c.spelling (words_in c blocks laid)) x
+      payload_is =
+          is ∙ ap (λ ss. values_of c ss x) (sym stripes_are)
+          ∙ sym (payload_of_words P count c laws header.table.layers (words_in c blocks laid) x words_are_elements words_are_whole)
+
+      pub payload_length : length payload ≡ payload_length_of header.table.layers
+      payload_length =
+          ap length is ∙ length-values P count c laws stripes x are hx
+          ∙ ap (λ k. k * length stripes) kept.width
+          ∙ ap (◌*◌ 2) (ap length (sym stripes_are) ∙ length-map (plan_stripes header.table.layers) (λ s. take s.1 (drop s.0 (words_in c blocks laid))) ∙ stripe_count header.table.layers)

@@ -6,39 +6,44 @@ ghost use Rattle.pet_encode.specs.Session.{Session, IsMessage, IsPacketOf};
 ghost use Rattle.stripe_plan.specs.Layers.{needs_of};
 ghost use Rattle.stripe_plan.specs.Sizes.{IsTable};
 
-use crate::values::{elements, payload};
-use packet_frame::{Header, write_frame};
+use crate::laid::{laid_out, plan_blocks};
+use crate::values::{append_elements, elements, stripe_values};
+use packet_frame::{Header, begin_frame, end_frame};
 use pet_base::{MAX_GROUPS, MAX_PACKETS, NoMemory, Steps};
-use pet_field::Field;
+use pet_rows::{Block, Rows};
 use std::alloc::Global;
 use std::marker::Model;
 use std::sync::ledger::Ledger;
+use stripe_plan::stripes;
 
 /// What makes the packets of one group.
 #[derive(Drop)]
-pub struct Encoder<'f, F: Field> {
+pub struct Encoder<'f, F: Rows> {
     field: &'f F,
     header: Header,
-    /// The words of the message.
-    row: Vec<F::Elem>,
+    /// The stripes of the plan in blocks.
+    blocks: Vec<Block>,
+    /// The words of the message, one block after another.
+    laid: Vec<F::Elem>,
 }
 
-impl<'f, F: Field> Model for Encoder<'f, F> {
+impl<'f, F: Rows> Model for Encoder<'f, F> {
     ghost use Rattle.std.specs.List.{flat_map};
     ghost use Rattle.pet_encode.specs.Encoding.{Encoding};
-    ghost use Rattle.pet_encode.specs.Stored.{IsStored};
+    ghost use Rattle.pet_encode.specs.Stored.{IsStored, words_in};
 
     ghost Value = { Encoding };
 
     ghost view = { λ e. record {
       header = e.header;
-      message = flat_map F.coding.spelling e.row.items;
+      message = flat_map F.coding.spelling (words_in F.coding e.blocks.items e.laid.items);
     } };
 
-    ghost invariant = { λ e. IsStored F.is_element F.COUNT F.coding e.header e.row.items };
+    ghost invariant = { λ e. IsStored F.is_element F.COUNT F.coding e.header e.blocks.items
+        e.laid.items };
 }
 
-impl<'f, F: Field> Encoder<'f, F> {
+impl<'f, F: Rows> Encoder<'f, F> {
     /// The encoder of the group of this header, whose message has two bytes for each word of the table. The elements of
     /// the field are written in two bytes, and it has a point for each of `MAX_PACKETS` numbers. It fails only for want
     /// of memory.
@@ -57,16 +62,19 @@ impl<'f, F: Field> Encoder<'f, F> {
         ensures header { IfOk result (λ e. e.header ≡ header) }
         ensures message { IfOk result (λ e. e.message ≡ message.now) }
     {
+        let plan = plan_blocks(alloc, &header.table)?;
         let row = elements(alloc, f, message, header.table.words())?;
+        let laid = laid_out(alloc, &plan, &row)?;
         Ok(Encoder {
             field: f,
             header,
-            row,
+            blocks: plan,
+            laid,
         })
     }
 
-    /// Appends the frame of the packet `number`, which is below the table's packets. It counts at most one step for
-    /// each word of the table. Where it finds no memory, `into` is as before.
+    /// Appends the frame of the packet `number`, which is below the table's packets. It counts one step for each word of
+    /// the table. Where it finds no memory, `into` is as before, and at most so many are counted.
     pub fn packet<L: Ledger>(
         &self,
         number: u16,
@@ -78,16 +86,23 @@ impl<'f, F: Field> Encoder<'f, F> {
             ≡ into.old.items ++ text (frame_of F.coding self.now number)) }
         ensures err { OnErr result (into.new.items ≡ into.old.items) }
         ensures cost { steps.new ≤ steps.old + length (needs_of self.now.header.table.layers) }
+        ensures counted { OnOk result (steps.new
+            ≡ steps.old + length (needs_of self.now.header.table.layers)) }
 
         // The frame is in its ranges, and is a packet of each session that has this group.
         ensures ranges { OnOk result (IsFrame (frame_of F.coding self.now number)) }
         ensures session { (s : Session) → IsGroupOf s self.now
             → IsPacketOf F.coding s (frame_of F.coding self.now number) }
     {
+        let alloc = *self.laid.allocator();
+        let count = stripes(&self.header.table) as usize;
         let x = self.field.point(u32::from(number));
-        let alloc = *self.row.allocator();
-        let payload = payload(alloc, self.field, &self.header.table, &self.row, x, steps)?;
-        write_frame(&self.header, number, &payload, into)
+        let values = stripe_values(alloc, self.field, &self.blocks, &self.laid, count, x, steps)?;
+        let start = into.len();
+        begin_frame(&self.header, number, into)?;
+        append_elements(self.field, &values, into);
+        end_frame(start, into);
+        Ok(())
     }
 
     /// What the packets share.
