@@ -1,117 +1,157 @@
 //! One more point for all the stripes of a progressive state.
-ghost use Rattle.std.specs.Prelude.{◌≡◌, ◌≢◌, ◌+◌, ◌*◌, ◌<◌, ◌≤◌, ◌++◌, length, take, drop, All, map, cond, nat_lt};
+ghost use Rattle.std.specs.Prelude.{◌≡◌, ◌≢◌, ℕ, ◌+◌, ◌*◌, ◌-◌, ◌<◌, ◌≤◌, ◌++◌, length, take, drop, All, map};
 ghost use Rattle.pet_poly.specs.Value.{value_monic};
 ghost use Rattle.pet_poly.specs.InPlace.{linear_product};
-ghost use Rattle.pet_interp.specs.Progressive.{longer_than, step_bound};
 ghost use Rattle.pet_poly.specs.Rows.{words};
-ghost use Rattle.pet_interp.specs.Pieces.{pieces, IsRising};
-ghost use Rattle.pet_interp.specs.Lifted.{lifted, lifted_all, IsLifted};
+ghost use Rattle.pet_interp.specs.Progressive.{longer_than, step_bound};
+ghost use Rattle.pet_interp.specs.Blocks.{IsBlock, stripes_in};
+ghost use Rattle.pet_interp.specs.Lifted.{begun_all, grown, grown_to, IsLifted};
 
+use crate::block::StripeBlock;
 use pet_base::Steps;
 use pet_field::Field;
-use pet_poly::{add_scaled, eval, eval_monic, times_linear};
+use pet_poly::{eval_monic, times_linear};
+use pet_rows::Rows;
 use std::sync::ledger::Ledger;
 
 /// Lifts the stripes and moves the product on, if a stripe is longer than the number of points that were met.
-pub(crate) fn advance<F: Field, L: Ledger>(
+pub(crate) fn advance<F: Rows, L: Ledger>(
     f: &F,
-    ends: &[usize],
-    places: &mut [F::Elem],
+    blocks: &mut [StripeBlock<F>],
     product: &mut [F::Elem],
+    factors: &mut [F::Factor],
     met: usize,
     x: F::Elem,
     values: &[u8],
     steps: &mut Steps<L>,
 )
-    requires rising { IsRising 0 ends.now (length places.old) }
-    requires elements { All F.is_element places.old }
+    requires blocks { (room : ℕ) × All (IsBlock F.is_element met room) blocks.old }
     requires products { All F.is_element product.old }
+    requires some { 0 < length product.old → 0 < length factors.old }
     requires point { F.is_element x }
-    requires width { length values.now ≡ length ends.now * F.coding.width }
+    requires width { length values.now ≡ length (stripes_in blocks.old) * F.coding.width }
     requires weight { met < length product.old
         → value_monic F.coding.ops (take met product.old) x ≢ F.coding.ops.nought }
-    ensures elements { All F.is_element places.new }
+    ensures blocks { (room : ℕ) → All (IsBlock F.is_element met room) blocks.old
+        → All (IsBlock F.is_element met room) blocks.new }
     ensures products { All F.is_element product.new }
     ensures lifted { met < length product.old
         → IsLifted F.is_element F.coding.ops (take met product.old) x
-        (words F.coding.spelt F.coding.width (length ends.now) values.now)
-        (pieces 0 ends.now places.old) (pieces 0 ends.now places.new) }
+        (words F.coding.spelt F.coding.width (length (stripes_in blocks.old)) values.now)
+        (stripes_in blocks.old) (stripes_in blocks.new) }
     ensures product { met < length product.old
         → product.new ≡ linear_product F.coding.ops x (take met product.old)
         ++ drop (met + 1) product.old }
-    ensures same { length product.old ≤ met → (places.new ≡ places.old)
+    ensures same { length product.old ≤ met → (stripes_in blocks.new ≡ stripes_in blocks.old)
         × (product.new ≡ product.old) }
-    ensures cost { steps.new ≤ steps.old + step_bound met
-        (map length (pieces 0 ends.now places.old)) }
+    ensures cost { steps.new ≤ steps.old + step_bound met (map length (stripes_in blocks.old)) }
 {
     if met < product.len() {
         let weight = eval_monic(f, &product[..met], x, steps);
         let inverse = f.inv(weight, steps);
-        lift_all(f, ends, places, &product[..met], x, inverse, values, steps);
+        let point = f.prepare(x);
+        let by = f.prepare(inverse);
+        begin(f, blocks, met, &point, &by, values, steps);
+        add_product(f, blocks, &product[..met], factors, steps);
         times_linear(f, product, met, x, steps);
     }
 }
 
-/// Lifts each stripe by its own value.
-fn lift_all<F: Field, L: Ledger>(
+/// Puts the multiple of the product that each stripe lacks to its value into the stripe's place `met`.
+fn begin<F: Rows, L: Ledger>(
     f: &F,
-    ends: &[usize],
-    places: &mut [F::Elem],
-    product: &[F::Elem],
-    x: F::Elem,
-    inverse: F::Elem,
+    blocks: &mut [StripeBlock<F>],
+    met: usize,
+    x: &F::Factor,
+    inverse: &F::Factor,
     values: &[u8],
     steps: &mut Steps<L>,
 )
-    requires rising { IsRising 0 ends.now (length places.old) }
-    requires elements { All F.is_element places.old }
-    requires products { All F.is_element product.now }
-    requires point { F.is_element x }
-    requires inverse { F.is_element inverse }
-    requires width { length values.now ≡ length ends.now * F.coding.width }
-    ensures places { pieces 0 ends.now places.new
-        ≡ lifted_all F.coding.ops product.now x inverse (pieces 0 ends.now places.old)
-        (words F.coding.spelt F.coding.width (length ends.now) values.now) }
-    ensures elements { All F.is_element places.new }
-    ensures cost { steps.new ≤ steps.old + longer_than (length product.now)
-        (map length (pieces 0 ends.now places.old)) * (2 * length product.now + 1) }
+    requires blocks { (room : ℕ) × All (IsBlock F.is_element met room) blocks.old }
+    requires point { F.is_element (F.element_of x.now) }
+    requires inverse { F.is_element (F.element_of inverse.now) }
+    requires width { length values.now ≡ length (stripes_in blocks.old) * F.coding.width }
+    ensures blocks { (room : ℕ) → All (IsBlock F.is_element met room) blocks.old
+        → All (IsBlock F.is_element met room) blocks.new }
+    ensures stripes { stripes_in blocks.new ≡ begun_all F.coding.ops met (F.element_of x.now) (F.element_of inverse.now)
+        (stripes_in blocks.old) (words F.coding.spelt F.coding.width (length (stripes_in blocks.old)) values.now) }
+    ensures cost { steps.new ≤ steps.old + longer_than met (map length (stripes_in blocks.old)) * (met + 1) }
 {
-    let mut start = 0;
     let mut at = 0;
-    for i in 0..ends.len() {
-        let end = ends[i];
-        let y = f.read(&values[at..at + F::WIDTH]);
-        lift(f, &mut places[start..end], product, x, inverse, y, steps);
-        start = end;
-        at += F::WIDTH;
+    for i in 0..blocks.len() {
+        let end = at + blocks[i].width() * F::WIDTH;
+        blocks[i].begin(f, met, x, inverse, &values[at..end], steps);
+        at = end;
     }
 }
 
-/// Adds the multiple of the product that makes the stripe meet one more point, if the stripe is longer than the product.
-fn lift<F: Field, L: Ledger>(
+/// Adds the multiples of the product, by as many of its coefficients at once as there are factors.
+fn add_product<F: Rows, L: Ledger>(
     f: &F,
-    places: &mut [F::Elem],
+    blocks: &mut [StripeBlock<F>],
     product: &[F::Elem],
-    x: F::Elem,
-    inverse: F::Elem,
-    y: F::Elem,
+    factors: &mut [F::Factor],
     steps: &mut Steps<L>,
 )
-    requires elements { All F.is_element places.old }
+    requires blocks { (room : ℕ) × All (IsBlock F.is_element (length product.now) room) blocks.old }
     requires products { All F.is_element product.now }
-    requires point { F.is_element x }
-    requires inverse { F.is_element inverse }
-    requires value { F.is_element y }
-    ensures places { places.new ≡ lifted F.coding.ops product.now x inverse places.old y }
-    ensures elements { All F.is_element places.new }
-    ensures cost { steps.new ≤ steps.old + cond (nat_lt (length product.now) (length places.old)) 1
-        0 * (2 * length product.now + 1) }
+    requires some { 0 < length product.now → 0 < length factors.old }
+    ensures blocks { (room : ℕ) → All (IsBlock F.is_element (length product.now) room) blocks.old
+        → All (IsBlock F.is_element (length product.now) room) blocks.new }
+    ensures stripes { stripes_in blocks.new ≡ map (grown_to F.coding.ops (length product.now) product.now) (stripes_in blocks.old) }
+    ensures cost { steps.new ≤ steps.old + longer_than (length product.now) (map length (stripes_in blocks.old)) * length product.now }
 {
     let met = product.len();
-    if met < places.len() {
-        let value = eval(f, &places[..met], x, steps);
-        let by = f.mul(f.sub(y, value), inverse, steps);
-        add_scaled(f, &mut places[..met], product, by, steps);
-        places[met] = by;
+    let mut from = 0;
+    while from < met {
+        let count = (met - from).min(factors.len());
+        prepare(f, &product[from..from + count], &mut factors[..count]);
+        add_part(f, blocks, met, from, &factors[..count], steps);
+        from += count;
+    }
+}
+
+/// Prepares a factor for each element.
+fn prepare<F: Rows>(f: &F, elements: &[F::Elem], factors: &mut [F::Factor])
+    requires long { length elements.now ≡ length factors.old }
+    requires elements { All F.is_element elements.now }
+    ensures { map F.element_of factors.new ≡ elements.now }
+{
+    for i in 0..elements.len() {
+        factors[i] = f.prepare(elements[i]);
+    }
+}
+
+/// Adds to the places from `from` on the multiples of these factors.
+fn add_part<F: Rows, L: Ledger>(
+    f: &F,
+    blocks: &mut [StripeBlock<F>],
+    met: usize,
+    from: usize,
+    factors: &[F::Factor],
+    steps: &mut Steps<L>,
+)
+    requires blocks { (room : ℕ) × All (IsBlock F.is_element met room) blocks.old }
+    requires room { from + length factors.now ≤ met }
+    requires factors { All F.is_element (map F.element_of factors.now) }
+    ensures blocks { (room : ℕ) → All (IsBlock F.is_element met room) blocks.old
+        → All (IsBlock F.is_element met room) blocks.new }
+    ensures stripes { stripes_in blocks.new ≡ map (grown F.coding.ops met from (map F.element_of factors.now)) (stripes_in blocks.old) }
+    ensures cost { steps.new ≤ steps.old + longer_than met (map length (stripes_in blocks.old)) * length factors.now }
+{
+    for i in 0..blocks.len() {
+        blocks[i].add_multiples(f, met, from, factors, steps);
+    }
+}
+
+/// Turns the blocks back whose stripes are as long as the number of points that were met.
+pub(crate) fn turn_back<F: Rows>(blocks: &mut [StripeBlock<F>], met: usize, spare: &mut [F::Elem])
+    requires some { 0 < met }
+    requires blocks { All (IsBlock F.is_element (met - 1) (length spare.old)) blocks.old }
+    ensures blocks { All (IsBlock F.is_element met (length spare.new)) blocks.new }
+    ensures stripes { stripes_in blocks.new ≡ stripes_in blocks.old }
+{
+    for i in 0..blocks.len() {
+        blocks[i].turn_back(met, spare);
     }
 }

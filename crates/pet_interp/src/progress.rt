@@ -1,63 +1,78 @@
 //! A progressive state.
-ghost use Rattle.std.specs.Prelude.{◌≡◌, ◌≢◌, ℕ, ◌+◌, ◌*◌, ◌<◌, ◌≤◌, length, take, All, List, [], ◌∷◌, ◌++◌, slice_index, replicate, IfOk};
+ghost use Rattle.std.specs.Prelude.{◌≡◌, ◌≢◌, ℕ, ◌+◌, ◌*◌, ◌-◌, ◌<◌, ◌≤◌, length, take, All, List, [], ◌∷◌, ◌++◌, slice_index, slice_index_or, replicate, IfOk};
 ghost use Rattle.pet_interp.specs.Progressive.{StandsFor, stripe_of, lengths_of, column, step_bound};
+ghost use Rattle.pet_interp.specs.Blocks.{stripes_in, no_block};
+ghost use Rattle.pet_rows.specs.declared.blocks.TheConstants.{MAX_WIDTH};
 ghost use Rattle.pet_poly.specs.Rows.{words};
 ghost use Rattle.pet_interp.specs.Points.{GoesThrough, IsOnlyThrough};
 
-use crate::lift::advance;
+use crate::block::StripeBlock;
+use crate::copies::push_copies;
+use crate::lift::{advance, turn_back};
 use pet_base::{NoMemory, Steps};
 use pet_field::Field;
+use pet_rows::{MAX_WIDTH, Rows};
 use std::alloc::Global;
 use std::marker::Model;
 use std::sync::ledger::Ledger;
 
+/// How many factors of the product are prepared at once.
+const MOST_FACTORS: usize = 16;
+
 /// What is known of each stripe after the points that were met. No point is kept.
 #[derive(Drop)]
-pub struct Progress<'f, F: Field> {
+pub struct Progress<'f, F: Rows> {
     field: &'f F,
-    /// Where each stripe ends in `places`.
-    ends: Vec<usize>,
-    /// The places of the stripes, one after another.
-    places: Vec<F::Elem>,
+    /// The stripes, in the places that they take on end.
+    blocks: Vec<StripeBlock<F>>,
     /// As many places as the longest stripe has. The first `met` of them are the product over the points.
     product: Vec<F::Elem>,
+    /// Room for the factors that are prepared at once.
+    factors: Vec<F::Factor>,
+    /// Room for a block that is turned back.
+    spare: Vec<F::Elem>,
     met: u32,
 }
 
-impl<'f, F: Field> Model for Progress<'f, F> {
-    ghost use Rattle.std.specs.Prelude.{take};
+impl<'f, F: Rows> Model for Progress<'f, F> {
+    ghost use Rattle.std.specs.Prelude.{take, length};
     ghost use Rattle.pet_interp.specs.Progressive.{Held};
-    ghost use Rattle.pet_interp.specs.Pieces.{pieces, IsSound};
+    ghost use Rattle.pet_interp.specs.Blocks.{IsSound, stripes_in};
 
     ghost Value = { Held F.Elem };
 
-    ghost view = { λ s. record { met = s.met; stripes = pieces 0 s.ends.items s.places.items; product = take s.met s.product.items } };
+    ghost view = { λ s. record { met = s.met; stripes = stripes_in s.blocks.items; product = take s.met s.product.items } };
 
-    ghost invariant = { λ s. IsSound F.is_element s.ends.items s.places.items s.product.items };
+    ghost invariant = { λ s. IsSound F.is_element s.met (length s.factors.items) (length s.spare.items) s.blocks.items s.product.items };
 }
 
-impl<'f, F: Field> Progress<'f, F> {
+impl<'f, F: Rows> Progress<'f, F> {
     /// A state for stripes of these lengths that has met no point yet. It takes all the memory that it will need, and
     /// fails only for want of it.
     pub fn new(alloc: Global, f: &'f F, lengths: &[u16]) -> Result<Progress<'f, F>, NoMemory>
         ensures stands { IfOk result (λ p. StandsFor F.is_element F.coding.ops p []) }
         ensures lengths { IfOk result (λ p. lengths_of p ≡ lengths.now) }
     {
-        let mut ends = Vec::new(alloc);
-        let mut places = Vec::new(alloc);
+        let mut blocks = Vec::new(alloc);
         let mut product = Vec::new(alloc);
-        for length in lengths {
-            let count = usize::from(*length);
-            push_copies(&mut places, f.zero(), count)?;
-            let more = count.saturating_sub(product.len());
-            push_copies(&mut product, f.zero(), more)?;
-            ends.push(places.len())?;
+        let mut spare = Vec::new(alloc);
+        let mut at = 0;
+        while at < lengths.len() {
+            let width = run_width(lengths, at);
+            let count = usize::from(lengths[at]);
+            let block = StripeBlock::new(alloc, f, lengths[at], width)?;
+            grow(&mut product, f.zero(), count)?;
+            grow(&mut spare, f.zero(), count * width)?;
+            blocks.push(block)?;
+            at += width;
         }
+        let factors = some_factors(alloc, f, product.len())?;
         Ok(Progress {
             field: f,
-            ends,
-            places,
+            blocks,
             product,
+            factors,
+            spare,
             met: 0,
         })
     }
@@ -82,14 +97,15 @@ impl<'f, F: Field> Progress<'f, F> {
         let met = self.met as usize;
         advance(
             self.field,
-            &self.ends,
-            &mut self.places,
+            &mut self.blocks,
             &mut self.product,
+            &mut self.factors,
             met,
             x,
             values,
             steps,
         );
+        turn_back(&mut self.blocks, met + 1, &mut self.spare);
         self.met += 1;
     }
 
@@ -116,26 +132,58 @@ impl<'f, F: Field> Progress<'f, F> {
             → GoesThrough F.coding.ops common (column F.coding.ops stripe points)
             → result.now ≡ common }
     {
-        let start = start_of(&self.ends, stripe);
-        let end = self.ends[stripe];
-        &self.places[start..end]
+        let (block, place) = find(&self.blocks, stripe);
+        self.blocks[block].stripe(place)
     }
 }
 
-/// Adds so many copies.
-fn push_copies<E: Copy + Drop>(into: &mut Vec<E>, value: E, count: usize) -> Result<(), NoMemory>
-    ensures { IfOk result (λ _. into.new.items ≡ into.old.items ++ replicate count value) }
+/// How many of the lengths from `at` on are equal, but at most as many as a block has.
+fn run_width(lengths: &[u16], at: usize) -> usize
+    requires { at < length lengths.now }
+    ensures some { 0 < result }
+    ensures narrow { result ≤ MAX_WIDTH }
+    ensures inside { at + result ≤ length lengths.now }
+    ensures same { (i : ℕ) → i < result → slice_index lengths.now (at + i) ≡ slice_index lengths.now at }
 {
-    for i in 0..count {
-        into.push(value)?;
+    let mut width = 1;
+    while width < MAX_WIDTH && width < lengths.len() - at && lengths[at + width] == lengths[at] {
+        width += 1;
     }
-    Ok(())
+    width
 }
 
-/// Where a piece begins.
-fn start_of(ends: &[usize], i: usize) -> usize
-    requires { i ≤ length ends.now }
-    ensures { result ≡ slice_index (0 ∷ ends.now) i }
+/// Adds copies until there are so many elements.
+fn grow<E: Copy + Drop>(into: &mut Vec<E>, value: E, count: usize) -> Result<(), NoMemory>
+    ensures { IfOk result (λ _. into.new.items ≡ into.old.items ++ replicate (count - length into.old.items) value) }
 {
-    if i == 0 { 0 } else { ends[i - 1] }
+    let more = count.saturating_sub(into.len());
+    push_copies(into, value, more)
+}
+
+/// Room for the factors of a product of so many coefficients.
+fn some_factors<F: Rows>(alloc: Global, f: &F, count: usize) -> Result<Vec<F::Factor>, NoMemory>
+    ensures { IfOk result (λ factors. 0 < count → 0 < length factors.items) }
+{
+    let mut factors = Vec::new(alloc);
+    for i in 0..count.min(MOST_FACTORS) {
+        factors.push(f.prepare(f.zero()))?;
+    }
+    Ok(factors)
+}
+
+/// In which block a stripe stands, and at which place.
+fn find<F: Rows>(blocks: &[StripeBlock<F>], stripe: usize) -> (usize, usize)
+    requires { stripe < length (stripes_in blocks.now) }
+    ensures block { result.0 < length blocks.now }
+    ensures place { result.1 < length (slice_index_or blocks.now result.0 no_block).stripes }
+    ensures stripe { slice_index_or (slice_index_or blocks.now result.0 no_block).stripes result.1 []
+        ≡ slice_index_or (stripes_in blocks.now) stripe [] }
+{
+    let mut block = 0;
+    let mut place = stripe;
+    while place >= blocks[block].width() {
+        place -= blocks[block].width();
+        block += 1;
+    }
+    (block, place)
 }

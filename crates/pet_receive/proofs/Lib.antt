@@ -1,11 +1,4 @@
-pub mod Rows
-pub mod Cuts
-pub mod Known
-pub mod Needs
-pub mod Holding
-pub mod LayerBytes
 pub mod Received
-pub mod Agreement
 pub mod Sums
 pub mod Grown
 pub mod Accepted

@@ -1,6 +1,6 @@
 -- What a receiver of one session has kept: a finite map from the pairs of a group and a packet number to frames of one
 -- session number. This project's own.
-use Rattle.std.specs.Prelude.{◌≡◌, ℕ, ◌<◌, ◌≤◌, List, [], length, Option, None, Some, IsSome, option_map, option_and_then, unwrap_or, sum_by, replicate, slice_get}
+use Rattle.std.specs.Prelude.{◌≡◌, ℕ, ◌<◌, ◌≤◌, List, [], length, Option, Some, IsSome, option_map, option_and_then, unwrap_or, sum_by, slice_get}
 use Rattle.std.specs.Ordering.{nat_cmp}
 use Rattle.std.specs.BTreeMap.{is_at, insert_entry}
 use Rattle.std.specs.Map.{lookup, keys_of}
@@ -8,8 +8,10 @@ use Rattle.std.specs.List.Sorted.{IsStrictlySortedBy}
 use Rattle.packet_frame.specs.Frame.{Fields, IsFrame}
 use Rattle.packet_frame.specs.View.{fields_with}
 use Rattle.packet_frame.specs.declared.frame.Header.{Header}
-use Rattle.packet_set.specs.Packets.{Packets, slot_at, count_held, with_packet}
+use Rattle.packet_set.specs.Packets.{Packets, slot_at, with_packet}
 use Rattle.pet_encode.specs.Session.{cost_of}
+-- a group of which no packet is kept, and how many packets are kept of a group
+pub use Rattle.open_group.specs.OpenGroup.{no_packets, count_in}
 
 pub record KeptSet : Type 0 where
   -- the session number whose frames are kept
@@ -34,10 +36,6 @@ payload_of set group number = option_and_then (λ p. slot_at p number) (open_gro
 -- the frame is kept
 abbrev pub Keeps : KeptSet → ℕ → ℕ → Type 0
 Keeps set group number = IsSome (payload_of set group number)
-
--- how many packets are kept of an open group
-abbrev pub count_in : Packets → ℕ
-count_in p = count_held p.slots
 
 -- how many packets are kept of a group
 abbrev pub count_kept : KeptSet → ℕ → ℕ
@@ -67,10 +65,6 @@ header_of f = record {
   group = f.group;
   table = record { packets = f.packets; layers = f.layers };
 }
-
--- a group of which no packet is kept
-abbrev pub no_packets : Header → Packets
-no_packets header = record { header = header; slots = replicate header.table.packets None }
 
 -- the packets of the frame's group, the frame among them
 abbrev pub group_with : KeptSet → Fields → Packets

@@ -1,20 +1,12 @@
--- The bytes of a shown layer, by the frames that were kept. This project's own, on interpolation by polynomials.
-use Rattle.std.specs.Prelude.{◌≡◌, ℕ, ◌+◌, ◌<◌, ◌≤◌, nat_le, List, [], length, take, sum_by, count_by, slice_index_or, Some, unwrap_or, MatchOption}
+-- The layers that a kept set shows, and when it shows all of a session. This project's own.
+use Rattle.std.specs.Prelude.{ℕ, ◌<◌, nat_le, length, sum_by, count_by, unwrap_or, MatchOption}
 use Rattle.std.specs.List.{range_with_len}
-use Rattle.pet_field.specs.Field.{Coding}
-use Rattle.pet_interp.specs.Progressive.{column}
-use Rattle.pet_interp.specs.Points.{IsOnlyThrough}
-use Rattle.stripe_plan.specs.Layers.{plan_stripes, words_before, count_of}
-use Rattle.stripe_plan.specs.Counts.{Meets}
-use Rattle.packet_set.specs.Packets.{Packets, slot_at}
-use Rattle.pet_encode.specs.Payload.{stripes_in, payload_at}
-use Rattle.pet_encode.specs.Session.{IsMessage, bytes_of_layer}
+use Rattle.stripe_plan.specs.Layers.{count_of}
+use Rattle.packet_set.specs.Packets.{Packets}
 use Rattle.pet_receive.specs.KeptSet.{KeptSet, open_group, count_in, told_by}
-use Rattle.pet_receive.specs.Arrivals.{layers_of, points_of}
-
--- the layer of a group is shown
-abbrev pub IsShownIn : Packets → ℕ → Type 0
-IsShownIn p layer = (layer < length (layers_of p)) × (count_of (layers_of p) layer ≤ count_in p)
+use Rattle.pet_receive.specs.Arrivals.{layers_of}
+-- the bytes of one layer are defined with the group
+pub use Rattle.open_group.specs.ShownBytes.{IsShownIn, IsShownBytes, Agrees}
 
 -- the group is open, and the layer is shown
 abbrev pub IsShown : KeptSet → ℕ → ℕ → Type 0
@@ -36,21 +28,3 @@ groups_told set = unwrap_or (told_by set) 0
 pub record IsComplete (set : KeptSet) : Type 0 where
   pub some : 0 < length set.groups
   pub shown : (group : ℕ) → group < groups_told set → MatchOption (open_group set group) ⊥ (λ p. (layer : ℕ) → layer < length (layers_of p) → IsShownIn p layer)
-
-module _ {E : Type 0} (is_element : E → Type 0) (c : Coding E) where
-  -- The bytes of a layer by the packets of these numbers, in their order. Of a stripe of k words that has a word of the
-  -- layer, the words are the only k that have the first k packets' words for this stripe as their values.
-  pub record IsShownBytes (p : Packets) (numbers : List ℕ) (layer : ℕ) (bytes : List ℕ) : Type 0 where
-    pub message : List ℕ
-    pub is_message : IsMessage c.width (layers_of p) message
-    pub stripes : (j : ℕ) → j < length (plan_stripes (layers_of p))
-        → Meets (words_before (layers_of p) layer) (words_before (layers_of p) (layer + 1)) (slice_index_or (plan_stripes (layers_of p)) j (0, 0))
-        → IsOnlyThrough is_element c.ops
-        (column c.ops j (take (slice_index_or (plan_stripes (layers_of p)) j (0, 0)).1 (points_of c p numbers)))
-        (slice_index_or (stripes_in c (layers_of p) message) j [])
-    pub bytes_are : bytes ≡ bytes_of_layer c.width (layers_of p) message layer
-
--- each payload that is kept of the group is that of the message
-abbrev pub Agrees : {E : Type 0} → Coding E → Packets → List ℕ → Type 0
-Agrees c p message =
-    (number : ℕ) (payload : List ℕ) → slot_at p number ≡ Some payload → payload ≡ payload_at c (layers_of p) message (c.point_of number)

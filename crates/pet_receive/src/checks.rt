@@ -6,19 +6,19 @@ ghost use Rattle.pet_receive.specs.KeptSet.{cost_in};
 ghost use Rattle.pet_receive.specs.Union.{first_past};
 ghost use Rattle.pet_receive.specs.Joining.{packets_at, is_other_group, is_other_payload, clash_at, first_clash_in, clash_from, new_of, cost_beside};
 
-use crate::group::OpenGroup;
 use crate::judge::is_other;
 use crate::union::Absorb;
+use open_group::OpenGroup;
 use packet_frame::Header;
 use packet_set::PacketSet;
 use pet_encode::group_cost;
-use pet_field::Field;
+use pet_rows::Rows;
 use std::collections::BTreeMap;
 use stripe_plan::Table;
 
 /// The first packet of the other's, by group, then number, that clashes with what is kept here, where `told` is the
 /// number of groups that the packets here tell.
-pub(crate) fn find_clash<F: Field>(
+pub(crate) fn find_clash<F: Rows>(
     told: Option<u32>,
     groups: &BTreeMap<u32, OpenGroup<'_, F>>,
     others: &BTreeMap<u32, OpenGroup<'_, F>>,
@@ -35,7 +35,7 @@ pub(crate) fn find_clash<F: Field>(
 
 /// What the open groups cost with the other's that are not open here, or the first of these with which they would cost
 /// more than the limit.
-pub(crate) fn cost_with<F: Field>(
+pub(crate) fn cost_with<F: Rows>(
     groups: &BTreeMap<u32, OpenGroup<'_, F>>,
     others: &BTreeMap<u32, OpenGroup<'_, F>>,
     limit: u64,
@@ -60,7 +60,7 @@ pub(crate) fn cost_with<F: Field>(
 }
 
 /// The packets of a group, where it is open.
-pub(crate) fn packets_in<'a, F: Field>(
+pub(crate) fn packets_in<'a, F: Rows>(
     groups: &'a BTreeMap<u32, OpenGroup<'_, F>>,
     group: u32,
 ) -> Option<&'a PacketSet>

@@ -8,17 +8,17 @@ ghost use Rattle.pet_receive.specs.Arrivals.{HoldsAfter, layers_of, stripe_lengt
 ghost use Rattle.pet_receive.specs.Union.{is_new};
 ghost use Rattle.pet_receive.specs.Joining.{OpensOne, OpensAll, IsReadyAt, IsFillable, HasFilled, CanJoin, JoinsOne, JoinsAll, with_theirs};
 
-use crate::group::OpenGroup;
+use open_group::OpenGroup;
 use packet_frame::Header;
 use packet_set::PacketSet;
 use pet_base::{NoMemory, Steps};
-use pet_field::Field;
+use pet_rows::Rows;
 use std::alloc::Global;
 use std::collections::BTreeMap;
 use std::sync::ledger::Ledger;
 
 /// Opens each group of the other's that is not open here. Where memory ends, nothing has changed.
-pub(crate) fn open_all<'f, F: Field>(
+pub(crate) fn open_all<'f, F: Rows>(
     alloc: Global,
     field: &'f F,
     groups: &mut BTreeMap<u32, OpenGroup<'f, F>>,
@@ -37,7 +37,7 @@ pub(crate) fn open_all<'f, F: Field>(
 }
 
 /// Opens each group of the other's that is not open here, as far as there is memory.
-fn open_each<'f, F: Field>(
+fn open_each<'f, F: Rows>(
     alloc: Global,
     field: &'f F,
     groups: &mut BTreeMap<u32, OpenGroup<'f, F>>,
@@ -55,7 +55,7 @@ fn open_each<'f, F: Field>(
 }
 
 /// Opens a group where it is not open.
-fn open_missing<'f, F: Field>(
+fn open_missing<'f, F: Rows>(
     alloc: Global,
     field: &'f F,
     groups: &mut BTreeMap<u32, OpenGroup<'f, F>>,
@@ -76,7 +76,7 @@ fn open_missing<'f, F: Field>(
 }
 
 /// Takes out the groups that have no packet.
-fn close_empty<'f, F: Field>(groups: &mut BTreeMap<u32, OpenGroup<'f, F>>)
+fn close_empty<'f, F: Rows>(groups: &mut BTreeMap<u32, OpenGroup<'f, F>>)
     ensures { groups.new.entries
         ≡ filter (λ e. nat_lt 0 (count_in e.1.packets)) groups.old.entries }
 {
@@ -84,7 +84,7 @@ fn close_empty<'f, F: Field>(groups: &mut BTreeMap<u32, OpenGroup<'f, F>>)
 }
 
 /// Takes in the packets of all groups. It takes no memory.
-pub(crate) fn join_all<'f, F: Field, L: Ledger>(
+pub(crate) fn join_all<'f, F: Rows, L: Ledger>(
     groups: &mut BTreeMap<u32, OpenGroup<'f, F>>,
     others: &BTreeMap<u32, OpenGroup<'f, F>>,
     steps: &mut Steps<L>,
@@ -101,7 +101,7 @@ pub(crate) fn join_all<'f, F: Field, L: Ledger>(
 }
 
 /// Takes in the packets of one group, which is open.
-fn join_at<'f, F: Field, L: Ledger>(
+fn join_at<'f, F: Rows, L: Ledger>(
     groups: &mut BTreeMap<u32, OpenGroup<'f, F>>,
     group: u32,
     theirs: &PacketSet,
@@ -119,7 +119,7 @@ fn join_at<'f, F: Field, L: Ledger>(
 }
 
 /// Takes in the packets of an open group.
-fn join_open<'f, F: Field, L: Ledger>(
+fn join_open<'f, F: Rows, L: Ledger>(
     mine: &mut OpenGroup<'f, F>,
     theirs: &PacketSet,
     steps: &mut Steps<L>,
@@ -135,7 +135,7 @@ fn join_open<'f, F: Field, L: Ledger>(
 }
 
 /// Takes in the packet of one number, where it is kept there and not here.
-fn join_number<'f, F: Field, L: Ledger>(
+fn join_number<'f, F: Rows, L: Ledger>(
     mine: &mut OpenGroup<'f, F>,
     theirs: &PacketSet,
     number: u16,

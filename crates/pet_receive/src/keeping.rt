@@ -13,17 +13,17 @@ ghost use Rattle.pet_receive.specs.KeptSet.{no_packets, count_in};
 ghost use Rattle.pet_receive.specs.Arrivals.{GroupState, HoldsAfter, stripe_lengths};
 ghost use Rattle.pet_receive.specs.Receiving.{IsReadyFor, HasGrown};
 
-use crate::group::OpenGroup;
+use open_group::OpenGroup;
 use packet_frame::{Frame, Header};
 use pet_base::{NoMemory, Steps};
 use pet_encode::group_cost;
-use pet_field::Field;
+use pet_rows::Rows;
 use std::alloc::Global;
 use std::collections::BTreeMap;
 use std::sync::ledger::Ledger;
 
 /// Keeps a frame, whose group is opened where it is not open, and answers by how much the cost of the open groups rises.
-pub(crate) fn keep_frame<'f, F: Field, L: Ledger>(
+pub(crate) fn keep_frame<'f, F: Rows, L: Ledger>(
     alloc: Global,
     field: &'f F,
     groups: &mut BTreeMap<u32, OpenGroup<'f, F>>,
@@ -57,7 +57,7 @@ pub(crate) fn keep_frame<'f, F: Field, L: Ledger>(
 }
 
 /// Opens the group of a header, which is not open.
-fn open_group<'f, F: Field>(
+fn open_group<'f, F: Rows>(
     alloc: Global,
     field: &'f F,
     groups: &mut BTreeMap<u32, OpenGroup<'f, F>>,
@@ -75,7 +75,7 @@ fn open_group<'f, F: Field>(
 }
 
 /// Keeps a frame of an open group. It takes no memory.
-fn keep_in<'f, F: Field, L: Ledger>(
+fn keep_in<'f, F: Rows, L: Ledger>(
     groups: &mut BTreeMap<u32, OpenGroup<'f, F>>,
     frame: &Frame<'_>,
     steps: &mut Steps<L>,

@@ -10,7 +10,6 @@
 
 mod checks;
 mod datagram;
-mod group;
 mod joining;
 mod judge;
 mod keeping;
@@ -19,13 +18,14 @@ mod shown;
 mod totals;
 mod union;
 mod verdict;
-mod write;
 
 pub use datagram::{group_of, number_of};
 pub use receiver::Receiver;
 pub use union::Absorb;
 pub use verdict::{LayerSet, Verdict};
 
+#[cfg(test)]
+mod fixtures;
 #[cfg(test)]
 mod tests;
 #[cfg(test)]

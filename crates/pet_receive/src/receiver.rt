@@ -15,7 +15,6 @@ ghost use Rattle.pet_receive.specs.Union.{union, absorb_fault, new_pairs, shown_
 ghost use Rattle.pet_receive.specs.ShownBytes.{IsShown, IsShownBytes, Agrees, IsComplete, shown_in_all};
 
 use crate::checks::{cost_with, find_clash};
-use crate::group::OpenGroup;
 use crate::joining::{join_all, open_all};
 use crate::judge::{is_other, judge_in, judge_new};
 use crate::keeping::keep_frame;
@@ -23,9 +22,10 @@ use crate::shown::newly_shown;
 use crate::totals::{total_kept, total_shown, total_whole};
 use crate::union::Absorb;
 use crate::verdict::Verdict;
+use open_group::OpenGroup;
 use packet_frame::{Frame, Header, read_frame};
 use pet_base::{NoMemory, Steps};
-use pet_field::Field;
+use pet_rows::Rows;
 use std::alloc::Global;
 use std::collections::BTreeMap;
 use std::marker::Model;
@@ -33,7 +33,7 @@ use std::sync::ledger::Ledger;
 
 /// What was kept of one session, and what it shows.
 #[derive(Drop)]
-pub struct Receiver<'f, F: Field> {
+pub struct Receiver<'f, F: Rows> {
     /// Where the memory of open groups comes from.
     alloc: Global,
     /// The field of the words.
@@ -50,7 +50,7 @@ pub struct Receiver<'f, F: Field> {
     cost: u64,
 }
 
-impl<'f, F: Field> Model for Receiver<'f, F> {
+impl<'f, F: Rows> Model for Receiver<'f, F> {
     ghost use Rattle.pet_receive.specs.Arrivals.{ReceiverState};
     ghost use Rattle.pet_receive.specs.Receiving.{IsReceiver};
 
@@ -61,7 +61,7 @@ impl<'f, F: Field> Model for Receiver<'f, F> {
     ghost invariant = { λ r. IsReceiver F.is_element F.COUNT F.coding (record { session = r.session; limit = r.limit; groups = r.groups.entries }) r.told r.cost };
 }
 
-impl<'f, F: Field> Receiver<'f, F> {
+impl<'f, F: Rows> Receiver<'f, F> {
     /// A receiver of the session of this number that has kept nothing. Its open groups may cost at most `limit`: packets
     /// times datagram length, summed. The field writes an element in two bytes, and has a point for each packet number.
     /// It takes no memory.

@@ -9,16 +9,16 @@ ghost use Rattle.pet_receive.specs.Union.{new_numbers, is_new};
 ghost use Rattle.pet_receive.specs.Joining.{shown_by};
 
 use crate::checks::packets_in;
-use crate::group::OpenGroup;
+use open_group::OpenGroup;
 use packet_set::PacketSet;
 use pet_base::NoMemory;
-use pet_field::Field;
+use pet_rows::Rows;
 use std::alloc::Global;
 use std::collections::BTreeMap;
 use stripe_plan::{Table, count};
 
 /// The layers that are shown by all that is kept here or there, and not by what is kept here, by group, then layer.
-pub(crate) fn newly_shown<F: Field>(
+pub(crate) fn newly_shown<F: Rows>(
     alloc: Global,
     groups: &BTreeMap<u32, OpenGroup<'_, F>>,
     others: &BTreeMap<u32, OpenGroup<'_, F>>,

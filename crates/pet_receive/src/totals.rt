@@ -6,14 +6,14 @@ ghost use Rattle.pet_receive.specs.KeptSet.{count_in};
 ghost use Rattle.pet_receive.specs.ShownBytes.{shown_in};
 ghost use Rattle.pet_receive.specs.Receiving.{whole_in};
 
-use crate::group::OpenGroup;
+use open_group::OpenGroup;
 use packet_set::PacketSet;
-use pet_field::Field;
+use pet_rows::Rows;
 use std::collections::BTreeMap;
 use stripe_plan::count;
 
 /// How many packets the groups have kept.
-pub(crate) fn total_kept<F: Field>(groups: &BTreeMap<u32, OpenGroup<'_, F>>) -> u32
+pub(crate) fn total_kept<F: Rows>(groups: &BTreeMap<u32, OpenGroup<'_, F>>) -> u32
     requires { sum_by (λ g. count_in g.packets) (values_of groups.now.entries) < 2 ^ 32 }
     ensures { result ≡ sum_by (λ g. count_in g.packets) (values_of groups.now.entries) }
 {
@@ -25,7 +25,7 @@ pub(crate) fn total_kept<F: Field>(groups: &BTreeMap<u32, OpenGroup<'_, F>>) -> 
 }
 
 /// How many layers of the groups are shown.
-pub(crate) fn total_shown<F: Field>(groups: &BTreeMap<u32, OpenGroup<'_, F>>) -> u32
+pub(crate) fn total_shown<F: Rows>(groups: &BTreeMap<u32, OpenGroup<'_, F>>) -> u32
     requires { sum_by (λ g. shown_in g.packets) (values_of groups.now.entries) < 2 ^ 32 }
     ensures { result ≡ sum_by (λ g. shown_in g.packets) (values_of groups.now.entries) }
 {
@@ -37,7 +37,7 @@ pub(crate) fn total_shown<F: Field>(groups: &BTreeMap<u32, OpenGroup<'_, F>>) ->
 }
 
 /// Of how many groups every layer is shown.
-pub(crate) fn total_whole<F: Field>(groups: &BTreeMap<u32, OpenGroup<'_, F>>) -> u32
+pub(crate) fn total_whole<F: Rows>(groups: &BTreeMap<u32, OpenGroup<'_, F>>) -> u32
     requires { sum_by (λ g. whole_in g.packets) (values_of groups.now.entries) < 2 ^ 32 }
     ensures { result ≡ sum_by (λ g. whole_in g.packets) (values_of groups.now.entries) }
 {

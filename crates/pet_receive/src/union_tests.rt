@@ -1,7 +1,7 @@
 //! What a receiver answers that takes in what another has kept.
 ghost use Rattle.std.specs.Prelude.{◌≡◌, ◌<◌};
 
-use crate::tests::{EXAMPLE, EXAMPLE_2, EXAMPLE_5, WORDS_1};
+use crate::fixtures::{EXAMPLE, EXAMPLE_2, EXAMPLE_5, WORDS_1};
 use crate::{Absorb, Receiver};
 use pet_base::{NoMemory, Steps};
 use pet_field::Gf16Plain;

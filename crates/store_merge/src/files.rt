@@ -16,8 +16,8 @@ use crate::read::read_store;
 use crate::write::write_store;
 use command_files::read_file;
 use pet_base::{Failed, MAX_SESSION, MAX_STORE, Place, Steps, Stop};
-use pet_field::Field;
 use pet_receive::Receiver;
+use pet_rows::Rows;
 use std::alloc::Global;
 use std::sync::ledger::Ledger;
 
@@ -60,7 +60,7 @@ impl From<BadStore> for StoreStop {
 
 /// Reads the store in the file of this name: a receiver of its session that has kept its packets. Its groups may cost at most
 /// 536,870,912. It counts at most the steps of reading the store's packets one after the other.
-pub fn read_store_file<'f, F: Field, P: Place, L: Ledger>(
+pub fn read_store_file<'f, F: Rows, P: Place, L: Ledger>(
     alloc: Global,
     f: &'f F,
     name: &str,
@@ -82,7 +82,7 @@ pub fn read_store_file<'f, F: Field, P: Place, L: Ledger>(
 }
 
 /// The store that these bytes of a file are, of which at most one past the limit are given.
-fn store_of<'f, F: Field, L: Ledger>(
+fn store_of<'f, F: Rows, L: Ledger>(
     alloc: Global,
     f: &'f F,
     bytes: &[u8],
@@ -105,7 +105,7 @@ fn store_of<'f, F: Field, L: Ledger>(
 
 /// Writes the store of all packets that the receiver has kept to the file of this name. The file is made once the store is,
 /// and has a front of it where it cannot be written.
-pub fn write_store_file<F: Field, P: Place>(
+pub fn write_store_file<F: Rows, P: Place>(
     alloc: Global,
     receiver: &Receiver<'_, F>,
     name: &str,

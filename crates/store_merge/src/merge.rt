@@ -11,8 +11,8 @@ use crate::fault::{BadStore, MergeFault};
 use crate::read::read_store;
 use crate::write::write_store;
 use pet_base::{NoMemory, Steps};
-use pet_field::Field;
 use pet_receive::Absorb;
+use pet_rows::Rows;
 use std::alloc::Global;
 use std::sync::ledger::Ledger;
 
@@ -43,7 +43,7 @@ impl From<NoMemory> for MergeFault {
 
 /// Appends the store of all packets that the first store or the second has. `into` is as before where there is none. Each
 /// store's groups, and those of both, may cost at most `limit`. It counts at most the steps of reading both and of the union.
-pub fn merge_stores<F: Field, L: Ledger>(
+pub fn merge_stores<F: Rows, L: Ledger>(
     alloc: Global,
     f: &F,
     first: &[u8],

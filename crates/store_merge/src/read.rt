@@ -16,8 +16,8 @@ ghost use Rattle.store_merge.specs.Reading.{frame_of, fault_of, fault_by, is_nex
 use crate::fault::{BadStore, StoreKind};
 use crate::format::{HEAD_LENGTH, MARK};
 use pet_base::{Steps, TAG_LENGTH};
-use pet_field::Field;
 use pet_receive::{Receiver, Verdict, group_of, number_of};
+use pet_rows::Rows;
 use sha2::{Digest, Sha256};
 use std::alloc::Global;
 use std::sync::ledger::Ledger;
@@ -27,7 +27,7 @@ const TAG: usize = TAG_LENGTH as usize;
 
 /// Reads a store: a receiver of its session that has kept its packets, in the order in which they stand there. The groups may
 /// cost at most `limit`. A store is refused at the first place, from its front to its end, that is wrong.
-pub fn read_store<'f, F: Field, L: Ledger>(
+pub fn read_store<'f, F: Rows, L: Ledger>(
     alloc: Global,
     f: &'f F,
     bytes: &[u8],
@@ -97,7 +97,7 @@ fn entries_of(bytes: &[u8]) -> &[u8]
 }
 
 /// Takes so many entries, which are all that stands there.
-fn take_entries<F: Field, L: Ledger>(
+fn take_entries<F: Rows, L: Ledger>(
     receiver: &mut Receiver<'_, F>,
     count: u32,
     entries: &[u8],
@@ -149,7 +149,7 @@ fn next_entry(bytes: &[u8]) -> Option<(&[u8], &[u8])>
 }
 
 /// Hands the datagram of the entry at a place to the receiver, and answers its group and number.
-fn take_entry<F: Field, L: Ledger>(
+fn take_entry<F: Rows, L: Ledger>(
     receiver: &mut Receiver<'_, F>,
     last: Option<(u32, u16)>,
     datagram: &[u8],

@@ -15,14 +15,14 @@ ghost use Rattle.store_merge.specs.Store.{store_text};
 use crate::format::MARK;
 use packet_frame::{FORMAT, Header, write_frame};
 use pet_base::NoMemory;
-use pet_field::Field;
 use pet_receive::Receiver;
+use pet_rows::Rows;
 use sha2::{Digest, Sha256};
 use stripe_plan::datagram_length;
 
 /// Appends the store of all packets that the receiver has kept, by group, then number. `into` is as before where no memory
 /// is found.
-pub fn write_store<F: Field>(receiver: &Receiver<'_, F>, into: &mut Vec<u8>) -> Result<(), NoMemory>
+pub fn write_store<F: Rows>(receiver: &Receiver<'_, F>, into: &mut Vec<u8>) -> Result<(), NoMemory>
     ensures text { OnOk result (into.new.items
         ≡ into.old.items ++ store_text (kept_set receiver.now)) }
     ensures err { OnErr result (into.new.items ≡ into.old.items) }
@@ -38,7 +38,7 @@ pub fn write_store<F: Field>(receiver: &Receiver<'_, F>, into: &mut Vec<u8>) -> 
 }
 
 /// Appends the store. Where no memory is found, a front of it may stand there.
-fn append_store<F: Field>(receiver: &Receiver<'_, F>, into: &mut Vec<u8>) -> Result<(), NoMemory>
+fn append_store<F: Rows>(receiver: &Receiver<'_, F>, into: &mut Vec<u8>) -> Result<(), NoMemory>
     ensures text { OnOk result (into.new.items
         ≡ into.old.items ++ store_text (kept_set receiver.now)) }
     ensures front { take (length into.old.items) into.new.items ≡ into.old.items }
@@ -62,7 +62,7 @@ fn append_head(session: &[u8; 8], kept: u32, into: &mut Vec<u8>) -> Result<(), N
 }
 
 /// Appends the entries of all groups.
-fn append_groups<F: Field>(receiver: &Receiver<'_, F>, into: &mut Vec<u8>) -> Result<(), NoMemory>
+fn append_groups<F: Rows>(receiver: &Receiver<'_, F>, into: &mut Vec<u8>) -> Result<(), NoMemory>
     ensures text { OnOk result (into.new.items
         ≡ into.old.items ++ entries_text (frames_in (kept_set receiver.now))) }
     ensures front { take (length into.old.items) into.new.items ≡ into.old.items }
@@ -75,7 +75,7 @@ fn append_groups<F: Field>(receiver: &Receiver<'_, F>, into: &mut Vec<u8>) -> Re
 }
 
 /// Appends the entries of a group, if it is open.
-fn append_if_open<F: Field>(
+fn append_if_open<F: Rows>(
     receiver: &Receiver<'_, F>,
     group: u32,
     into: &mut Vec<u8>,
@@ -92,7 +92,7 @@ fn append_if_open<F: Field>(
 }
 
 /// Appends the entries of an open group, whose header this is.
-fn append_group<F: Field>(
+fn append_group<F: Rows>(
     receiver: &Receiver<'_, F>,
     group: u32,
     header: &Header,
@@ -112,7 +112,7 @@ fn append_group<F: Field>(
 }
 
 /// Appends the entry of a packet of an open group, whose header this is, if the packet is kept.
-fn append_if_kept<F: Field>(
+fn append_if_kept<F: Rows>(
     receiver: &Receiver<'_, F>,
     group: u32,
     header: &Header,

@@ -1,19 +1,18 @@
 -- Laws of kept sets and verdicts, for callers: what a frame that is kept tells, and what the set is after it.
-use Rattle.std.specs.Prelude.{IfSome, is_some, is_none, not, if◌then◌else◌, nat_lt, count_by, option_map, option_and_then}
-use Rattle.std.proofs.Common.{◌≡◌, ◌≢◌, ℕ, ◌+◌, ◌<◌, ◌≤◌, ◌==◌, cond, Bool, true, false, ◌&&◌, ◌||◌, List, [], ◌∷◌, ◌++◌, zero, suc, length, All, Option, None, Some, nat_cmp, get_or, set, replicate, unwrap_or, refl, sym, ap, ◌∙◌, arith, subst, inl, inr}
+use Rattle.std.specs.Prelude.{IfSome, is_some, is_none, not, if◌then◌else◌, nat_lt, option_map, option_and_then}
+use Rattle.std.proofs.Common.{◌≡◌, ◌≢◌, ℕ, ◌+◌, ◌<◌, ◌≤◌, ◌==◌, Bool, true, false, ◌&&◌, ◌||◌, List, [], ◌∷◌, ◌++◌, zero, suc, length, All, Option, None, Some, nat_cmp, get_or, set, unwrap_or, refl, sym, ap, ◌∙◌, arith, subst, inl, inr}
 use Rattle.std.specs.Str.{bytes_eq}
 use Rattle.std.specs.List.{list_any}
 use Rattle.std.specs.Option.{option_map_or}
 use Rattle.std.specs.Map.{keys_of}
 use Rattle.std.specs.BTreeMap.{is_at}
-use Rattle.std.proofs.lemmas.Bool.{cases_eq, cases_lt}
+use Rattle.std.proofs.lemmas.Bool.{cases_eq}
 use Rattle.std.specs.List.Sorted.{IsStrictlySortedBy}
 use Rattle.std.proofs.lemmas.Option.{same_Some}
 use Rattle.std.proofs.lemmas.Map.Entries.{All-lookup}
 use Rattle.std.proofs.lemmas.Map.Views.{exact_unsigned_eq}
 use Rattle.std.proofs.lemmas.Slice.Eq.{bytes_eq-Decides}
-use Rattle.std.proofs.lemmas.List.{length-set, length-replicate, get_or-set_same, get_or-set_other, get_or-replicate, get_or_past}
-use Rattle.std.proofs.lemmas.List.Sums.{sum_by-set, sum_by-cons}
+use Rattle.std.proofs.lemmas.List.{length-set, length-replicate, get_or-set_same, get_or-set_other}
 use Rattle.stripe_plan.specs.Same.{same_table}
 use Rattle.stripe_plan.specs.laws.SameLaws.{same_table-exact}
 use Rattle.packet_frame.specs.Frame.{Fields, IsFrame}
@@ -28,6 +27,7 @@ use Rattle.pet_receive.specs.declared.verdict.Verdict.TheVariants.{Damaged, Fore
 use Rattle.pet_receive.specs.declared.verdict.LayerSet.{LayerSet}
 use Rattle.pet_receive.specs.KeptSet.{KeptSet, IsKeptSet, empty_set, IsKeptGroup, open_group, payload_of, count_in, count_kept, kept_in_all, cost_in, cost_kept, header_of, no_packets, group_with, keep}
 use Rattle.pet_receive.specs.Verdicts.{verdict_of, after, after_all, tells_other_count, tells_other_table, tells_other_payload, clashes, opens, is_too_much, newly_shown, layer_set, frame_verdict, is_kept}
+pub use Rattle.open_group.specs.laws.SlotCounts.{count_set, count_none, none_in}
 use Rattle.pet_receive.specs.laws.EntryLaws.{lookup_here, lookup_other, rises_insert, sum_insert}
 
 -- ---- what the verdict Kept tells of a frame
@@ -105,18 +105,6 @@ keep_session set f = refl
 pub keep_limit : (set : KeptSet) (f : Fields) → (keep set f).limit ≡ set.limit
 unfolding keep
 keep_limit set f = refl
-
-pub count_set : (A : Type 0) (xs : List (Option A)) (i : ℕ) (v : A) → i < length xs → get_or xs i None ≡ None → count_by is_some (set xs i (Some v)) ≡ count_by is_some xs + 1
-count_set A xs i v l e =
-    let one : Option A → ℕ = λ x. cond (is_some x) 1 0 in
-    omega (arith, sum_by-set one xs i (Some v) None l, ap one e)
-
-pub count_none : (A : Type 0) (n : ℕ) → count_by {X = Option A} is_some (replicate n None) ≡ 0
-count_none A zero = refl
-count_none A (suc n) = omega (arith, sum_by-cons (λ (x : Option A). cond (is_some x) 1 0) None (replicate n None), count_none A n)
-
-pub none_in : (A : Type 0) (n i : ℕ) → get_or {A = Option A} (replicate n None) i None ≡ None
-none_in A n i = elim (cases_lt i n) [ inl l ↦ get_or-replicate n i None None l | inr past ↦ get_or_past (replicate n None) i None (omega (arith, length-replicate {A = Option A} n None)) ]
 
 pub none_told : {A : Type 0} (test : A → Bool) (xs : List A) → list_any test xs ≡ false → (i : ℕ) (d : A) → i < length xs → test (get_or xs i d) ≡ false
 none_told test [] e i d l = absurd (omega arith)

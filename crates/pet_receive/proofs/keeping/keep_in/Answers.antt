@@ -8,7 +8,7 @@ use Rattle.stripe_plan.specs.declared.layer.LayerSize.{LayerSize}
 use Rattle.stripe_plan.specs.Layers.{plan_stripes}
 use Rattle.stripe_plan.specs.Sizes.{Sizes}
 use Rattle.pet_receive.specs.Arrivals.{GroupState, HoldsAfter, layers_of}
-use Rattle.pet_receive.proofs.Cuts.{length-plan}
+use Rattle.stripe_plan.proofs.PlanLemmas.{length-plan_stripes}
 use Rattle.pet_receive.proofs.keeping.keep_in.Goals as goal
 
 -- a payload has a word of the field for each stripe, since a frame's words and the field's have two bytes
@@ -18,7 +18,7 @@ keep-requires-clause-words g c =
     let state = c.in-Some.open.now in
     let found : lookup (is_at (nat_cmp f.group)) c.args.groups.now.entries ≡ Some state = sym c.in-Some.ensures.value in
     let layers : layers_of state.packets ≡ f.layers = ap (λ (t : Sizes). t.layers) (c.requires.ready.table state found) in
-    let long : length f.payload ≡ length (plan_stripes f.layers) * 2 = omega (arith, c.requires.frame.payload, length-plan f.layers) in
+    let long : length f.payload ≡ length (plan_stripes f.layers) * 2 = omega (arith, c.requires.frame.payload, length-plan_stripes f.layers) in
     long ∙ ap (λ w. length (plan_stripes f.layers) * w) (sym c.requires.width) ∙ ap (λ (l : List LayerSize). length (plan_stripes l) * g.F.Field.coding.width) (sym layers)
 
 pub returns-in-Some-clause-kept : goal.returns-in-Some-clause-kept

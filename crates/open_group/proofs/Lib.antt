@@ -1,0 +1,6 @@
+pub mod Rows
+pub mod Cuts
+pub mod Known
+pub mod Holding
+pub mod LayerBytes
+pub mod Agreement

@@ -1,0 +1,3 @@
+pub mod OpenGroup
+pub mod ShownBytes
+pub mod laws

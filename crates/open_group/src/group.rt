@@ -1,0 +1,159 @@
+//! One open group: its packets, its stripes and its message.
+ghost use Rattle.std.specs.Prelude.{◌≡◌, ◌↔◌, ℕ, ◌+◌, ◌*◌, ◌<◌, ◌≤◌, List, [], ◌∷◌, ◌++◌, length, map, None, IsSome, IfOk, IfSome, ◌^◌, sum_by, replicate};
+ghost use Rattle.pet_base.specs.declared.limits.TheConstants.{MAX_PACKETS};
+ghost use Rattle.stripe_plan.specs.Layers.{needs_of, plan_stripes, words_of};
+ghost use Rattle.pet_encode.specs.Session.{IsMessage, bytes_of_layer};
+ghost use Rattle.stripe_plan.specs.Sizes.{IsTable};
+ghost use Rattle.packet_frame.specs.Frame.{payload_length_of};
+ghost use Rattle.packet_set.specs.Packets.{slot_at, with_packet};
+ghost use Rattle.pet_interp.specs.Progressive.{step_bound};
+ghost use Rattle.open_group.specs.OpenGroup.{no_packets, count_in, HoldsAfter, layers_of, stripe_lengths};
+ghost use Rattle.open_group.specs.ShownBytes.{IsShownIn, IsShownBytes, Agrees};
+
+use crate::write::write_known;
+use packet_frame::Header;
+use packet_set::PacketSet;
+use pet_base::{NoMemory, Steps};
+use pet_interp::Progress;
+use pet_rows::Rows;
+use std::alloc::Global;
+use std::marker::Model;
+use std::sync::ledger::Ledger;
+use stripe_plan::{LayerSize, Table, count, first_word, next_start};
+
+/// The packets that are kept of one group, what is known of its stripes, and the words of its message as far as they are
+/// known.
+#[derive(Drop)]
+pub struct OpenGroup<'f, F: Rows> {
+    /// The field of the words.
+    field: &'f F,
+    /// The packets.
+    packets: PacketSet,
+    /// What is known of each stripe of the plan.
+    progress: Progress<'f, F>,
+    /// The field's width in bytes a word. A stripe's words stand here from the packet on that makes them known.
+    message: Vec<u8>,
+}
+
+impl<'f, F: Rows> Model for OpenGroup<'f, F> {
+    ghost use Rattle.open_group.specs.OpenGroup.{GroupState};
+
+    ghost Value = { GroupState F.Elem };
+
+    ghost view = { λ g. record { packets = g.packets; message = g.message.items; held = g.progress } };
+}
+
+impl<'f, F: Rows> OpenGroup<'f, F> {
+    /// A group of this header that has kept no packet. It takes all the memory that the group will need, and fails only
+    /// where there is not so much.
+    pub fn open(alloc: Global, field: &'f F, header: &Header) -> Result<OpenGroup<'f, F>, NoMemory>
+        ensures packets { IfOk result (λ g. g.packets ≡ no_packets header.now) }
+        ensures held { IfOk result (λ g. HoldsAfter F.is_element F.coding g []) }
+    {
+        let lengths = lengths_of_stripes(alloc, &header.table)?;
+        let progress = Progress::new(alloc, field, &lengths)?;
+        let packets = PacketSet::new(alloc, header)?;
+        let message = empty_message(alloc, &header.table, F::WIDTH)?;
+        Ok(OpenGroup {
+            field,
+            packets,
+            progress,
+            message,
+        })
+    }
+
+    /// Keeps the packet of a number that is not kept yet and is below the group's number of packets. Its payload has a word
+    /// of the field for each stripe of the plan. It takes no memory.
+    pub fn keep<L: Ledger>(&mut self, number: u16, payload: &[u8], steps: &mut Steps<L>)
+        requires points { MAX_PACKETS ≤ F.COUNT }
+        requires held { (numbers : List ℕ) × HoldsAfter F.is_element F.coding self.old numbers }
+        requires table { IsTable self.old.packets.header.table.packets
+            (layers_of self.old.packets) }
+        requires slots { length self.old.packets.slots ≡ self.old.packets.header.table.packets }
+        requires number { number < self.old.packets.header.table.packets }
+        requires absent { slot_at self.old.packets number ≡ None }
+        requires payload { length payload.now ≡ payload_length_of (layers_of self.old.packets) }
+        requires words { length payload.now ≡ length (plan_stripes (layers_of self.old.packets)) * F.coding.width }
+        ensures packets { self.new.packets ≡ with_packet self.old.packets number payload.now }
+        ensures held { (numbers : List ℕ) → HoldsAfter F.is_element F.coding
+            self.old numbers → HoldsAfter F.is_element F.coding self.new
+            (numbers ++ (number ∷ [])) }
+        ensures cost { steps.new ≤ steps.old + step_bound (count_in self.old.packets)
+            (stripe_lengths (layers_of self.old.packets)) }
+    {
+        self.packets.put(number, payload);
+        let x = self.field.point(u32::from(number));
+        self.progress.add(x, payload, steps);
+        write_known(
+            self.field,
+            &self.packets.header().table,
+            &self.progress,
+            &mut self.message,
+        );
+    }
+
+    /// The packets that are kept.
+    pub fn packets(&self) -> &PacketSet
+        ensures { result.now ≡ self.now.packets }
+    {
+        &self.packets
+    }
+
+    /// The bytes of a layer, where the group has it and as many packets are kept as its count says. The first layer is 0.
+    pub fn layer(&self, layer: u8) -> Option<&[u8]>
+        requires width { 2 ≤ F.coding.width }
+        requires points { MAX_PACKETS ≤ F.COUNT }
+        requires held { (numbers : List ℕ) × HoldsAfter F.is_element F.coding self.now numbers }
+        ensures shown { IsSome result ↔ IsShownIn self.now.packets layer }
+        ensures bytes { (numbers : List ℕ) → HoldsAfter F.is_element F.coding self.now numbers → IfSome result
+            (λ bytes. IsShownBytes F.is_element F.coding self.now.packets
+            numbers layer bytes.now) }
+        ensures agreed { (message : List ℕ) → IsMessage F.coding.width (layers_of self.now.packets) message → Agrees F.coding self.now.packets message
+            → IfSome result (λ bytes. bytes.now ≡ bytes_of_layer F.coding.width (layers_of self.now.packets) message layer) }
+    {
+        let table = &self.packets.header().table;
+        if usize::from(layer) >= table.layers().len() || self.packets.len() < count(table, layer) {
+            return None;
+        }
+        Some(layer_bytes(&self.message, table.layers(), layer, F::WIDTH))
+    }
+}
+
+/// The lengths of the stripes of the plan.
+fn lengths_of_stripes(alloc: Global, table: &Table) -> Result<Vec<u16>, NoMemory>
+    ensures { IfOk result (λ lengths. lengths.items ≡ stripe_lengths table.now.layers) }
+{
+    let words = table.words();
+    let mut lengths = Vec::new(alloc);
+    let mut at = 0;
+    while at < words {
+        let end = next_start(table, at);
+        lengths.push((end - at) as u16)?;
+        at = end;
+    }
+    Ok(lengths)
+}
+
+/// A message of words of `width` bytes, none of which is known.
+fn empty_message(alloc: Global, table: &Table, width: usize) -> Result<Vec<u8>, NoMemory>
+    ensures { IfOk result (λ message. message.items
+        ≡ replicate (length (needs_of table.now.layers) * width) 0) }
+{
+    match (table.words() as usize).checked_mul(width) {
+        Some(size) => Ok(vec![in alloc; 0u8; size]?),
+        None => Err(NoMemory),
+    }
+}
+
+/// The bytes of a layer in a message of words of `width` bytes.
+fn layer_bytes<'a>(message: &'a [u8], layers: &[LayerSize], layer: u8, width: usize) -> &'a [u8]
+    requires room { length message.now ≡ length (needs_of layers.now) * width }
+    requires few { sum_by words_of layers.now < 2 ^ 32 }
+    requires width { 2 ≤ width }
+    requires layer { layer < length layers.now }
+    ensures { result.now ≡ bytes_of_layer width layers.now message.now layer }
+{
+    let start = first_word(layers, usize::from(layer)) as usize * width;
+    let size = layers[usize::from(layer)].length as usize;
+    &message[start..start + size]
+}

@@ -1,0 +1,15 @@
+//! One open group: the packets that are kept of it, what they tell of each stripe, and its message as far as it is known.
+//!
+//! An `OpenGroup` takes all its memory when it is opened. Each packet that it keeps adds its point to the state of every
+//! stripe, within a bound on the steps, and the words of a stripe are written into the message with the very packet that
+//! makes them known. So a layer can be lent out as soon as as many packets are kept as its count says, with no more work.
+//! `specs/OpenGroup.antt` says what is held after packets of some numbers in their order, and `specs/ShownBytes.antt`
+//! which bytes a shown layer has: those of the only words that have the kept payloads as their values, and a message's
+//! where the kept packets are that message's. All of this holds over any lawful field whose elements have two bytes or
+//! more, and that has a point for each packet.
+#![tactic(auto)]
+
+mod group;
+mod write;
+
+pub use group::OpenGroup;

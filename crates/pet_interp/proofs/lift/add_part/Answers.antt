@@ -1,0 +1,45 @@
+use Rattle.std.proofs.Common.{◌≡◌, ◌∙◌, ◌+◌, ◌<◌, ◌++◌, length, map, get_or, take, ap, ap₂, sym, arith}
+use Rattle.std.proofs.lemmas.List.{length-set, length-map, map-append, get_or_default}
+use Rattle.std.proofs.lemmas.List.Elements.{All-set}
+use Rattle.pet_interp.specs.Progressive.{longer_than}
+use Rattle.pet_interp.specs.Blocks.{HeldBlock, IsBlock, stripes_in, no_block}
+use Rattle.pet_interp.specs.Lifted.{grown}
+use Rattle.pet_interp.proofs.Lifted.{cost_more}
+use Rattle.pet_interp.proofs.Passes.{kept, stripes_more, stripes_more_set, rest_more, first_of_rest, longer_more_block}
+use Rattle.pet_interp.proofs.lift.add_part.Goals as goal
+
+pub add_multiples-requires-clause-waits : goal.add_multiples-requires-clause-waits
+add_multiples-requires-clause-waits g c = (c.loop-i.invariant.blocks c.requires.blocks.0 c.requires.blocks.1 c.loop-i.i c.index-blocks-i.result (omega (arith, c.loop-i.invariant.long))).waits
+
+pub loop-i-preserved : goal.loop-i-preserved
+loop-i-preserved g c =
+    let P = g.F.Field.is_element in
+    let met = c.args.met in
+    let old = c.args.blocks.now in
+    let now = c.loop-i.blocks in
+    let i = c.loop-i.i in
+    let b = c.index-blocks-i.result in
+    let new = c.add_multiples.new.self in
+    let inv = c.loop-i.invariant in
+    let did = c.add_multiples.ensures in
+    let G = grown g.F.Field.coding.ops met c.args.from (map g.F.Rows.element_of c.args.factors.now) in
+    let few0 : i < length old = c.loop-i-test.true in
+    let few : i < length now = omega (arith, inv.long) in
+    let same : get_or now i b ≡ get_or old i no_block = get_or_default now i b no_block few ∙ first_of_rest now old i no_block inv.rest in
+    let count : length new.stripes ≡ length (get_or now i b).stripes = ap length did.stripes ∙ length-map (get_or now i b).stripes G in
+    record {
+      long = length-set now i new ∙ inv.long;
+      blocks =
+          λ room h.
+          All-set (IsBlock P met room) now i new (kept P met room (get_or now i b) new (inv.blocks room h i b few) did.size did.waits count did.each) (inv.blocks room h);
+      done =
+          stripes_more_set now i new few
+          ∙ ap₂ ◌++◌ inv.done (did.stripes ∙ ap (λ (v : HeldBlock g.row.F-Elem.Denot). map G v.stripes) same)
+          ∙ sym (map-append G (stripes_in (take i old)) (get_or old i no_block).stripes) ∙ ap (map G) (sym (stripes_more old i few0));
+      rest = rest_more now old i new inv.rest;
+      cost =
+          cost_more c.args.steps.now c.loop-i.steps c.add_multiples.new.steps (longer_than met (map length (stripes_in (take i old)))) (longer_than met (map length (get_or now i b).stripes))
+          (longer_than met (map length (stripes_in (take (i + 1) old)))) (length c.args.factors.now) inv.cost did.cost
+          (longer_more_block met old i few0
+          ∙ ap (λ (v : HeldBlock g.row.F-Elem.Denot). longer_than met (map length (stripes_in (take i old))) + longer_than met (map length v.stripes)) (sym same));
+    }

@@ -1,0 +1,101 @@
+use Rattle.std.proofs.Common.{◌≡◌, ◌+◌, ◌-◌, ◌*◌, ◌<◌, ◌≤◌, ◌++◌, length, map, All, get_or, take, drop, ap, ap₂, sym, ◌∙◌, arith}
+use Rattle.std.proofs.lemmas.List.{length-map, length-take-le, length-drop, get_or-take, take_all}
+use Rattle.std.proofs.lemmas.List.Elements.{All-append, All-take, All-drop, All-same}
+use Rattle.pet_rows.specs.Columns.{column}
+use Rattle.pet_interp.proofs.Columns.{rows_le, more_rows, parts, put_end, back, grown_column}
+use native.Mathlib.Nat.{mul_comm}
+use Rattle.pet_interp.proofs.rows.add_rows.Goals as goal
+
+pub add_products-requires-clause-room : goal.add_products-requires-clause-room
+add_products-requires-clause-room g c =
+    let w = c.args.width in
+    let n = length c.args.factors.now in
+    let low = c.split_at_mut-low.result.0.now in
+    let rest = c.split_at_mut-low.result.1.now in
+    let split = c.split_at_mut-low.ensures in
+    let room : c.args.met * w + w ≤ length c.args.rows.now = omega (arith, c.requires.whole, more_rows c.args.met w, rows_le (c.args.met + 1) c.args.count w (omega arith)) in
+    let row : length (take w rest) ≡ w = length-take-le w rest (omega (arith, split.back_len)) in
+    let part : length (take (length low - c.args.from * w) (drop (c.args.from * w) low)) ≡ length low - c.args.from * w =
+    length-take-le (length low - c.args.from * w) (drop (c.args.from * w) low) (omega (arith, length-drop (c.args.from * w) low)) in
+    let few : c.args.from * w + n * w ≤ c.args.met * w = omega (arith, parts c.args.from n w, rows_le (c.args.from + n) c.args.met w c.requires.room) in
+    let size : n * length (take w rest) ≡ n * w = ap (λ t. n * t) row in
+    omega (arith, size, part, few, split.front_len)
+
+pub add_products-requires-clause-row : goal.add_products-requires-clause-row
+add_products-requires-clause-row g c =
+    let P = g.F.Field.is_element in
+    let w = c.args.width in
+    let rest = c.split_at_mut-low.result.1.now in
+    All-take P w rest (All-same P rest _ c.split_at_mut-low.ensures.back (All-drop P (c.args.met * w) c.args.rows.now c.requires.elements))
+
+pub add_products-requires-clause-elements : goal.add_products-requires-clause-elements
+add_products-requires-clause-elements g c =
+    let P = g.F.Field.is_element in
+    let w = c.args.width in
+    let low = c.split_at_mut-low.result.0.now in
+    All-take P (length low - c.args.from * w) (drop (c.args.from * w) low)
+    (All-drop P (c.args.from * w) low (All-same P low _ c.split_at_mut-low.ensures.front (All-take P (c.args.met * w) c.args.rows.now c.requires.elements)))
+
+pub returns-clause-columns : goal.returns-clause-columns
+returns-clause-columns g c =
+    λ i l.
+    let F = g.F.Field in
+    let R = g.F.Rows in
+    let o = F.coding.ops in
+    let z = o.nought in
+    let P = F.is_element in
+    let w = c.args.width in
+    let k = c.args.count in
+    let met = c.args.met in
+    let from = c.args.from in
+    let rows = c.args.rows.now in
+    let factors = map R.element_of c.args.factors.now in
+    let low = c.split_at_mut-low.result.0.now in
+    let rest = c.split_at_mut-low.result.1.now in
+    let split = c.split_at_mut-low.ensures in
+    let new = c.add_products.new.rows in
+    let long_factors : length factors ≡ length c.args.factors.now = length-map c.args.factors.now R.element_of in
+    let room : met * w + w ≤ length rows = omega (arith, c.requires.whole, more_rows met w, rows_le (met + 1) k w (omega arith)) in
+    let row : length (take w rest) ≡ w = length-take-le w rest (omega (arith, split.back_len)) in
+    let below : from * w ≤ met * w = rows_le from met w (omega arith) in
+    let whole : take (length low - from * w) (drop (from * w) low) ≡ drop (from * w) low = take_all (length low - from * w) (drop (from * w) low) (omega (arith, length-drop (from * w) low)) in
+    let long_part : length new ≡ (met - from) * w =
+    c.add_products.auto.rows ∙ ap length whole ∙ length-drop (from * w) low ∙ omega (arith, split.front_len, parts from (met - from) w, ap (λ n. n * w) (back from met (omega arith))) in
+    let here : get_or (take w rest) i z ≡ get_or rest i z = get_or-take w rest i z l in
+    let hr : P (get_or rest i z) =
+    rw (sym here) (All-take P w rest (All-same P rest _ split.back (All-drop P (met * w) rows c.requires.elements)) i z (rw row l)) in
+    ap (λ t. column z w k i (t ++ rest)) (put_end (from * w) (length low - from * w) low new (omega arith))
+    ∙ grown_column P o g.met.F.Field.lawful.field w k met from i rows low rest new factors split.front split.back c.requires.whole c.requires.longer l
+    (omega (arith, long_factors, c.requires.room)) long_part c.requires.factors hr
+    (λ j m.
+    let m' : j < length c.args.factors.now = omega (arith, long_factors) in
+    ap (λ n. get_or new (j * n + i) z) (sym row) ∙ c.add_products.ensures.sums j i m' (rw row l)
+    ∙ ap₂ (λ a b. o.plus a (o.times (get_or factors j z) b)) (ap₂ (λ t n. get_or t (j * n + i) z) whole row) here)
+    (λ j m n.
+    let past : length c.args.factors.now * length (take w rest) ≤ j * w + i =
+    omega (arith, ap (λ t. length c.args.factors.now * t) row, rows_le (length c.args.factors.now) j w (omega (arith, long_factors))) in
+    c.add_products.ensures.others (j * w + i) past ∙ ap (λ t. get_or t (j * w + i) z) whole)
+
+pub returns-clause-elements : goal.returns-clause-elements
+returns-clause-elements g c =
+    let P = g.F.Field.is_element in
+    let w = c.args.width in
+    let rows = c.args.rows.now in
+    let low = c.split_at_mut-low.result.0.now in
+    let rest = c.split_at_mut-low.result.1.now in
+    let new = c.add_products.new.rows in
+    let lows : All P low = All-same P low _ c.split_at_mut-low.ensures.front (All-take P (c.args.met * w) rows c.requires.elements) in
+    All-append P _ rest
+    (All-same P _ _ (put_end (c.args.from * w) (length low - c.args.from * w) low new (omega arith))
+    (All-append P (take (c.args.from * w) low) new (All-take P (c.args.from * w) low lows) c.add_products.ensures.elements))
+    (All-same P rest _ c.split_at_mut-low.ensures.back (All-drop P (c.args.met * w) rows c.requires.elements))
+
+pub returns-clause-cost : goal.returns-clause-cost
+returns-clause-cost g c =
+    let w = c.args.width in
+    let n = length c.args.factors.now in
+    let rest = c.split_at_mut-low.result.1.now in
+    let room : c.args.met * w + w ≤ length c.args.rows.now = omega (arith, c.requires.whole, more_rows c.args.met w, rows_le (c.args.met + 1) c.args.count w (omega arith)) in
+    let row : length (take w rest) ≡ w = length-take-le w rest (omega (arith, c.split_at_mut-low.ensures.back_len)) in
+    let size : n * length (take w rest) ≡ w * n = ap (λ t. n * t) row ∙ mul_comm n w in
+    omega (arith, size, c.add_products.ensures.cost)

@@ -1,0 +1,36 @@
+use Rattle.std.proofs.Common.{◌≡◌, ◌+◌, ◌-◌, ◌<◌, length, get_or, take, drop, ap, ap₂, sym, ◌∙◌, arith}
+use Rattle.std.proofs.lemmas.List.{length-set, get_or-set_other, get_or_default}
+use Rattle.std.proofs.lemmas.List.Elements.{All-set}
+use Rattle.pet_poly.specs.Rows.{words}
+use Rattle.pet_poly.specs.laws.RowLaws.{word_at}
+use Rattle.pet_interp.proofs.Columns.{more_rows, filled}
+use Rattle.pet_interp.proofs.rows.subtract.Goals as goal
+
+pub loop-c-preserved : goal.loop-c-preserved
+loop-c-preserved g c =
+    let F = g.F.Field in
+    let o = F.coding.ops in
+    let z = o.nought in
+    let w = F.coding.width in
+    let old = c.args.row.now in
+    let row = c.loop-c.row in
+    let bytes = c.args.values.now in
+    let n = c.loop-c.c in
+    let e = c.index-row-c.result in
+    let i = c.loop-c.invariant in
+    let few : n < length row = omega (arith, i.long) in
+    let read : e ≡ get_or old n z = c.index-row-c.is ∙ get_or_default row n e z few ∙ i.rest n (omega arith) in
+    let width : c.loop-c.at + c.WIDTH.result - c.loop-c.at ≡ w = omega (arith, g.met.F.Field.wide) in
+    let value : c.read.result ≡ get_or (words F.coding.spelt w (length old) bytes) n z =
+    c.read.ensures.value ∙ ap (λ t. F.coding.spelt (take t (drop c.loop-c.at bytes))) width ∙ ap (λ t. F.coding.spelt (take w (drop t bytes))) i.at
+    ∙ sym (word_at F.coding.spelt w (length old) n bytes z (omega (arith, i.long))) in
+    let is : F.is_element c.sub.result = rw c.sub.ensures (g.met.F.Field.lawful.field.minus_is c.read.result e c.read.ensures.element (rw c.index-row-c.is (i.elements n e few))) in
+    record {
+      at = omega (arith, g.met.F.Field.wide, i.at, more_rows n w);
+      long = length-set row n c.sub.result ∙ i.long;
+      elements = All-set F.is_element row n c.sub.result is i.elements;
+      done =
+          filled (λ k. o.minus (get_or (words F.coding.spelt w (length old) bytes) k z) (get_or old k z)) z row n c.sub.result few i.done
+          (c.sub.ensures ∙ ap₂ o.minus value read);
+      rest = λ k l. get_or-set_other row n k c.sub.result z (λ q. absurd (omega arith)) ∙ i.rest k (omega arith);
+    }
