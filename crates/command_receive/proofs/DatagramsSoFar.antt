@@ -1,12 +1,21 @@
 -- What was read so far, one datagram more, and what stands after a failure.
-use Rattle.std.proofs.Common.{◌≡◌, ◌<◌, ℕ, ◌+◌, ◌≤◌, take, List, [], ◌∷◌, ◌++◌, Option, refl, sym, ap, subst, ◌∙◌, append_assoc, arith, inl, inr}
+use Rattle.std.proofs.Common.{◌≡◌, ◌<◌, ℕ, ◌+◌, ◌≤◌, take, List, [], ◌∷◌, ◌++◌, length, Option, Some, None, refl, sym, ap, subst, ◌∙◌, append_assoc, arith, inl, inr}
+use Rattle.std.specs.Prelude.{option_map, IfSome}
 use Rattle.std.proofs.lemmas.List.{length_push, append-nil}
 use Rattle.pet_base.specs.declared.limits.TheConstants.{MAX_DATAGRAMS}
 use Rattle.pet_base.specs.declared.entry.Entry.TheVariants.{Datagram, End}
+use Rattle.pet_base.specs.Entries.{datagrams}
 use Rattle.pet_base.specs.Seen.{Seen, Files, Grows, OnlyReads, OnlyWrites, KeepsNames}
+use Rattle.pet_base.specs.LinkSeen.{LinkSeen}
 use Rattle.pet_base.specs.laws.SeenLaws.{Grows-then}
-use Rattle.pet_base.specs.Entries.{HasRead, TakesEntry}
-use Rattle.pet_base.specs.laws.EntriesLaws.{HasRead-nil, HasRead-datagram, HasRead-end, HasRead-front}
+use Rattle.datagram_route.specs.Way.{Way, OnFile, OnLink}
+use Rattle.datagram_route.specs.Coming.{coming, HasInput, HaveCome, KeepsFeed, OnlyTakes, TakesDatagram}
+use Rattle.datagram_route.specs.RouteFaults.{IsFailure, InputFailed, ReceivingFailed, stop_of_route, stop_of_place}
+use Rattle.datagram_route.specs.declared.fault.RouteFailed.{RouteFailed}
+use Rattle.datagram_route.specs.declared.fault.RouteFailed.TheVariants as failed
+use Rattle.datagram_route.specs.laws.ComingLaws.{come_nothing, come_more, come_both, come_front}
+use Rattle.pet_base.specs.declared.faults.Stop.{Stop}
+use Rattle.pet_base.specs.declared.faults.Stop.TheVariants as place
 use Rattle.pet_receive.specs.Arrivals.{Order, ReceiverState, kept_set}
 use Rattle.pet_receive.specs.KeptSet.{KeptSet}
 use Rattle.pet_receive.specs.laws.KeptSetLaws.{after_more}
@@ -15,18 +24,19 @@ use Rattle.pet_field.specs.Gf16.{gf16_coding}
 use Rattle.met_packets.specs.Gf16.{HasKeptIn, IsArrivalText, IsLayersText, IsTextAt}
 use Rattle.met_packets.specs.LayersText.{order_after, order_after_all}
 use Rattle.command_files.specs.Outputs.{Puts}
-use Rattle.command_receive.specs.SoFar.{SoFar, HasReceived, PartSoFar, PartOfOne}
+use Rattle.command_receive.specs.Receives.{AreFirst, HaveLeft}
+use Rattle.command_receive.specs.SoFar.{SoFar, HasReceived, CameFirst, PartSoFar, WholeSoFar, StoppedSoFar, PartOfOne, LinkReceives}
 use Rattle.met_packets.specs.Steps.{steps_of, steps_of_all}
 use Rattle.command_files.specs.laws.OutputLaws.{puts_nothing}
 use Rattle.met_packets.specs.laws.DatagramAtEnd.{order_push, steps_push, text_nothing, text_push}
 
-pub so_far_start : (s : Seen) (r : ReceiverState ℕ) (steps : ℕ) → HasKeptIn r [] → SoFar (kept_set r) 0 s s r steps steps
+pub so_far_start : (s : Seen) (all : Option (List (List ℕ))) (r : ReceiverState ℕ) (steps : ℕ) → HasKeptIn r [] → SoFar (kept_set r) 0 s s all all r steps steps
 unfolding after_all order_after_all steps_of_all
-so_far_start s r steps held = record {
+so_far_start s all r steps held = record {
   read = [];
   text = [];
   many = refl;
-  rest = HasRead-nil s.rest;
+  rest = come_nothing all;
   kept = refl;
   held = held;
   is_text = text_nothing (λ a. a < 65536) gf16_coding (kept_set r) [] 1;
@@ -35,20 +45,20 @@ so_far_start s r steps held = record {
 }
 
 -- the text of the datagrams that were read and the next one
-arrival_text : (set : KeptSet) (n n1 : ℕ) (first before : Seen) (r : ReceiverState ℕ) (d text : List ℕ) (a b : ℕ) (s : SoFar set n first before r a b) → n1 ≡ n + 1 → IsTextAt r n1 d text
+arrival_text : (set : KeptSet) (n n1 : ℕ) (first before : Seen) (all left : Option (List (List ℕ))) (r : ReceiverState ℕ) (d text : List ℕ) (a b : ℕ) (s : SoFar set n first before all left r a b) → n1 ≡ n + 1 → IsTextAt r n1 d text
     → IsLayersText set [] 1 (s.read ++ d ∷ []) (s.text ++ text)
-arrival_text set n n1 first before r d text a b s at is =
+arrival_text set n n1 first before all left r d text a b s at is =
     text_push (λ a. a < 65536) gf16_coding set [] 1 n1 s.read d s.text text (omega (arith, s.many, at)) s.is_text
     (subst (λ (k : KeptSet). IsArrivalText k (order_after_all set [] s.read) n1 d text) s.kept (is (order_after_all set [] s.read) s.held))
 
-pub so_far_more : (set : KeptSet) (n n1 len : ℕ) (into : List ℕ) (first before between now : Seen) (r next : ReceiverState ℕ) (a b c : ℕ) → SoFar set n first before r a b → n1 ≡ n + 1 → KeepsNames first before
-    → TakesEntry before.rest (Datagram len) into between.rest → OnlyReads before between → OnlyWrites between now
+pub so_far_more : (set : KeptSet) (n n1 len : ℕ) (into : List ℕ) (first before between now : Seen) (all left next_left : Option (List (List ℕ))) (r next : ReceiverState ℕ) (a b c : ℕ) → SoFar set n first before all left r a b → n1 ≡ n + 1 → KeepsNames first before
+    → TakesDatagram left (Datagram len) into next_left → OnlyReads before between → OnlyWrites between now
     → (text : List ℕ) × IsTextAt r n1 (take len into) text × Puts text between now
     → kept_set next ≡ after (kept_set r) (take len into)
     → ((order : Order) → HasKeptIn r order → HasKeptIn next (order_after (kept_set r) order (take len into)))
     → c ≤ b + steps_of (kept_set r) (take len into)
-    → SoFar set n1 first now next a c
-so_far_more set n n1 len into first before between now r next a b c s at names step reads writes puts kept held cost =
+    → SoFar set n1 first now all next_left next a c
+so_far_more set n n1 len into first before between now all left next_left r next a b c s at names step reads writes puts kept held cost =
     let d = take len into in
     let same : between.target ≡ first.target = reads.target ∙ names.target in
     let kept_all : after_all set (s.read ++ d ∷ []) ≡ after (kept_set r) d = after_more set s.read d ∙ ap (λ (k : KeptSet). after k d) (sym s.kept) in
@@ -59,25 +69,25 @@ so_far_more set n n1 len into first before between now r next a b c s at names s
       read = s.read ++ d ∷ [];
       text = s.text ++ puts.0;
       many = omega (arith, length_push s.read d, s.many, at);
-      rest = subst (λ (o : Option (List ℕ)). HasRead (s.read ++ d ∷ []) first.rest o) (sym writes.rest) (HasRead-datagram s.read first.rest before.rest between.rest len into s.rest step);
+      rest = come_more s.read all left next_left d s.rest step;
       kept = kept ∙ sym kept_all;
       held = subst (HasKeptIn next) (sym order_all) (held (order_after_all set [] s.read) s.held);
-      is_text = arrival_text set n n1 first before r d puts.0 a b s at puts.1;
+      is_text = arrival_text set n n1 first before all left r d puts.0 a b s at puts.1;
       puts = Grows-then first.target s.text puts.0 first.files before.files now.files s.puts
           (subst (λ (t : Option (List ℕ)). Grows t puts.0 before.files now.files) same (subst (λ (f : Option Files). Grows between.target puts.0 f now.files) reads.files puts.2));
       steps = omega (arith, s.steps, cost, steps_push set s.read d, spent);
     }
 
--- the input has ended
-pub received_all : (set : KeptSet) (n : ℕ) (into : List ℕ) (first before now : Seen) (r : ReceiverState ℕ) (a b : ℕ) → SoFar set n first before r a b → n ≤ MAX_DATAGRAMS
-    → TakesEntry before.rest End into now.rest → OnlyReads before now → HasReceived set n first now r a b
-received_all set n into first before now r a b s few step reads =
+-- none is left to come
+pub received_all : (set : KeptSet) (n : ℕ) (into : List ℕ) (first before now : Seen) (all left next_left : Option (List (List ℕ))) (r : ReceiverState ℕ) (a b : ℕ) → SoFar set n first before all left r a b → n ≤ MAX_DATAGRAMS
+    → TakesDatagram left End into next_left → OnlyReads before now → HasReceived set n first now all next_left r a b
+received_all set n into first before now all left next_left r a b s few step reads =
     record {
       so_far = record {
         read = s.read;
         text = s.text;
         many = s.many;
-        rest = subst (λ (o : Option (List ℕ)). HasRead s.read first.rest o) (sym step.0) s.rest;
+        rest = subst (λ (o : Option (List (List ℕ))). HaveCome s.read all o) (sym step.0) s.rest;
         kept = s.kept;
         held = s.held;
         is_text = s.is_text;
@@ -85,30 +95,62 @@ received_all set n into first before now r a b s few step reads =
         steps = s.steps;
       };
       few = few;
-      all = λ _. HasRead-end s.read first.rest before.rest now.rest into s.rest step;
+      ended = λ _. subst (λ (o : Option (List (List ℕ))). IfSome o (λ more. more ≡ [])) (sym step.0) step.1;
     }
 
 -- 16,777,216 datagrams were read
-pub received_many : (set : KeptSet) (n : ℕ) (first now : Seen) (r : ReceiverState ℕ) (a b : ℕ) → SoFar set n first now r a b → n ≡ MAX_DATAGRAMS → HasReceived set n first now r a b
-received_many set n first now r a b s is = record { so_far = s; few = omega (arith, is); all = λ lt. absurd (omega (arith, is, lt)) }
+pub received_many : (set : KeptSet) (n : ℕ) (first now : Seen) (all left : Option (List (List ℕ))) (r : ReceiverState ℕ) (a b : ℕ) → SoFar set n first now all left r a b → n ≡ MAX_DATAGRAMS → HasReceived set n first now all left r a b
+received_many set n first now all left r a b s is = record { so_far = s; few = omega (arith, is); ended = λ lt. absurd (omega (arith, is, lt)) }
 
--- a call of the place failed before anything was put
-pub part_so_far : (set : KeptSet) (n : ℕ) (first before now : Seen) (r : ReceiverState ℕ) (a b : ℕ) → SoFar set n first before r a b → now.files ≡ before.files → PartSoFar set first now
-part_so_far set n first before now r a b s same = record {
+first_of_told : (read : List (List ℕ)) (rest : Option (List ℕ)) → IfSome (option_map datagrams rest) (λ all. (more : List (List ℕ)) × (all ≡ read ++ more)) → IfSome rest (AreFirst read)
+first_of_told read None is = tt
+first_of_told read (Some bytes) is = is
+
+-- what came since, and at most one datagram more
+came_first : (from : Way) (read : List (List ℕ)) (last : List (List ℕ)) (first before : Seen) (link_first link_before link_now : LinkSeen) → length last ≤ 1 → HaveCome read (coming from first link_first) (coming from before link_before)
+    → ((address : List ℕ) → from ≡ OnLink address → HaveCome last link_before.feed link_now.feed) → CameFirst from read first link_first link_now
+came_first (OnFile name) read last first before link_first link_before link_now few come more =
+    first_of_told read first.rest (come_front read (option_map datagrams first.rest) (option_map datagrams before.rest) come)
+came_first (OnLink address) read last first before link_first link_before link_now few come more = (last, few, come_both read last link_first.feed link_before.feed link_now.feed come (more address refl))
+
+-- a call failed before anything was put
+pub part_so_far : (from : Way) (set : KeptSet) (n : ℕ) (last : List (List ℕ)) (first before now : Seen) (link_first link_before link_now : LinkSeen) (r : ReceiverState ℕ) (a b : ℕ) → SoFar set n first before (coming from first link_first) (coming from before link_before) r a b
+    → length last ≤ 1 → ((address : List ℕ) → from ≡ OnLink address → HaveCome last link_before.feed link_now.feed) → now.files ≡ before.files → PartSoFar from set first now link_first link_now
+part_so_far from set n last first before now link_first link_before link_now r a b s few more same = record {
   read = s.read;
   text = s.text;
   front = s.text;
-  from_front = HasRead-front s.read first.rest before.rest s.rest;
+  from_front = came_first from s.read last first before link_first link_before link_now few s.rest more;
   is_text = s.is_text;
   is_front = ([], sym (append-nil s.text));
   puts = subst (λ (f : Option Files). Grows first.target s.text first.files f) (sym same) s.puts;
 }
 
--- or while the text of a datagram was put
-pub part_of_more : (set : KeptSet) (n n1 len : ℕ) (into : List ℕ) (first before between now : Seen) (r : ReceiverState ℕ) (a b : ℕ) → SoFar set n first before r a b → n1 ≡ n + 1 → KeepsNames first before
-    → TakesEntry before.rest (Datagram len) into between.rest → OnlyReads before between → PartOfOne r n1 (take len into) between now → PartSoFar set first now
-part_of_more set n n1 len into first before between now r a b s at names step reads (inl same) = part_so_far set n first before now r a b s (same ∙ reads.files)
-part_of_more set n n1 len into first before between now r a b s at names step reads (inr part) =
+kept_feed : (from : Way) (address : List ℕ) (old new : LinkSeen) → from ≡ OnLink address → KeepsFeed from old new → new.feed ≡ old.feed
+kept_feed from address old new is keeps = subst (λ (w : Way). KeepsFeed w old new) is keeps
+
+-- nothing could be received
+pub stopped_so_far : (failed : RouteFailed) (from : Way) (set : KeptSet) (n : ℕ) (first before now : Seen) (link_first link_before link_now : LinkSeen) (r : ReceiverState ℕ) (a b : ℕ) → SoFar set n first before (coming from first link_first) (coming from before link_before) r a b
+    → KeepsFeed from link_before link_now → now.files ≡ before.files → IsFailure (InputFailed from before now) (ReceivingFailed from link_before link_now) failed → StoppedSoFar from set first now link_first link_now (stop_of_route failed)
+stopped_so_far failed.Place from set n first before now link_first link_before link_now r a b s keeps same cause =
+    part_so_far from set n [] first before now link_first link_before link_now r a b s (omega arith)
+    (λ address is. subst (λ (o : Option (List (List ℕ))). HaveCome [] link_before.feed o) (sym (kept_feed from address link_before link_now is keeps)) (come_nothing link_before.feed)) same
+stopped_so_far failed.Link (OnFile name) set n first before now link_first link_before link_now r a b s keeps same cause = absurd cause
+stopped_so_far failed.Link (OnLink address) set n first before now link_first link_before link_now r a b s keeps same cause = record {
+  read = s.read;
+  text = s.text;
+  come = subst (λ (o : Option (List (List ℕ))). HaveCome s.read link_first.feed o) (sym keeps) s.rest;
+  is_text = s.is_text;
+  puts = subst (λ (f : Option Files). Grows first.target s.text first.files f) (sym same) s.puts;
+}
+
+-- a call failed while the text of a datagram was put
+part_of_more : (from : Way) (set : KeptSet) (n n1 len : ℕ) (into : List ℕ) (first before between now : Seen) (link_first link_before link_now : LinkSeen) (r : ReceiverState ℕ) (a b : ℕ) → SoFar set n first before (coming from first link_first) (coming from before link_before) r a b
+    → n1 ≡ n + 1 → KeepsNames first before → TakesDatagram (coming from before link_before) (Datagram len) into (coming from between link_now) → OnlyReads before between → PartOfOne r n1 (take len into) between now → PartSoFar from set first now link_first link_now
+part_of_more from set n n1 len into first before between now link_first link_before link_now r a b s at names step reads (inl same) =
+    part_so_far from set n (take len into ∷ []) first before now link_first link_before link_now r a b s (omega arith)
+    (λ address is. subst (λ (w : Way). HaveCome (take len into ∷ []) (coming w before link_before) (coming w between link_now)) is step) (same ∙ reads.files)
+part_of_more from set n n1 len into first before between now link_first link_before link_now r a b s at names step reads (inr part) =
     let d = take len into in
     let same : between.target ≡ first.target = reads.target ∙ names.target in
     let front = part.2.0 in
@@ -116,9 +158,39 @@ part_of_more set n n1 len into first before between now r a b s at names step re
       read = s.read ++ d ∷ [];
       text = s.text ++ part.0;
       front = s.text ++ front;
-      from_front = HasRead-front (s.read ++ d ∷ []) first.rest between.rest (HasRead-datagram s.read first.rest before.rest between.rest len into s.rest step);
-      is_text = arrival_text set n n1 first before r d part.0 a b s at part.1;
+      from_front = came_first from (s.read ++ d ∷ []) [] first between link_first link_now link_now (omega arith)
+          (come_more s.read (coming from first link_first) (coming from before link_before) (coming from between link_now) d s.rest step) (λ address is. come_nothing link_now.feed);
+      is_text = arrival_text set n n1 first before (coming from first link_first) (coming from before link_before) r d part.0 a b s at part.1;
       is_front = (part.2.1.0, ap (λ (t : List ℕ). s.text ++ t) part.2.1.1 ∙ sym (append_assoc s.text front part.2.1.0));
       puts = Grows-then first.target s.text front first.files before.files now.files s.puts
           (subst (λ (t : Option (List ℕ)). Grows t front before.files now.files) same (subst (λ (f : Option Files). Grows between.target front f now.files) reads.files part.2.2));
     }
+
+pub stopped_at_one : (stop : Stop) (from : Way) (set : KeptSet) (n n1 len : ℕ) (into : List ℕ) (first before between now : Seen) (link_first link_before link_now : LinkSeen) (r : ReceiverState ℕ) (a b : ℕ) → SoFar set n first before (coming from first link_first) (coming from before link_before) r a b
+    → n1 ≡ n + 1 → KeepsNames first before → TakesDatagram (coming from before link_before) (Datagram len) into (coming from between link_now) → OnlyReads before between → PartOfOne r n1 (take len into) between now → StoppedSoFar from set first now link_first link_now (stop_of_place stop)
+stopped_at_one place.NoMemory from set n n1 len into first before between now link_first link_before link_now r a b s at names step reads part =
+    part_of_more from set n n1 len into first before between now link_first link_before link_now r a b s at names step reads part
+stopped_at_one place.Failed from set n n1 len into first before between now link_first link_before link_now r a b s at names step reads part =
+    part_of_more from set n n1 len into first before between now link_first link_before link_now r a b s at names step reads part
+
+-- the input and the link, where one datagram more was received
+pub input_kept : (from : Way) (old new : Seen) → new.has_input ≡ old.has_input → HasInput from old → HasInput from new
+input_kept (OnFile name) old new same is = same ∙ is
+input_kept (OnLink address) old new same is = tt
+
+pub receives_nothing : (from : Way) (link : LinkSeen) → LinkReceives from link link
+receives_nothing (OnFile name) link = refl
+receives_nothing (OnLink address) link = record { sent = refl; port = refl; bound = refl; aimed = refl }
+
+pub receives_more : (from : Way) (first before now : LinkSeen) (place_before place_now : Seen) → LinkReceives from first before → OnlyTakes from place_before before place_now now → LinkReceives from first now
+receives_more (OnFile name) first before now place_before place_now so_far takes = takes.other ∙ so_far
+receives_more (OnLink address) first before now place_before place_now so_far takes =
+    let t = takes.link in
+    record { sent = t.sent ∙ so_far.sent; port = t.port ∙ so_far.port; bound = t.bound ∙ so_far.bound; aimed = t.aimed ∙ so_far.aimed }
+
+-- what is to come stays, where only the output has grown
+pub put_since : (from : Way) (first between now : Seen) (link_first link_now : LinkSeen) (set : KeptSet) (n : ℕ) (r : ReceiverState ℕ) (a b : ℕ) → now.rest ≡ between.rest → SoFar set n first now (coming from first link_first) (coming from between link_now) r a b
+    → SoFar set n first now (coming from first link_first) (coming from now link_now) r a b
+put_since (OnFile name) first between now link_first link_now set n r a b rest s =
+    subst (λ (o : Option (List ℕ)). SoFar set n first now (option_map datagrams first.rest) (option_map datagrams o) r a b) (sym rest) s
+put_since (OnLink address) first between now link_first link_now set n r a b rest s = s

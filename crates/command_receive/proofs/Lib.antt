@@ -1,3 +1,4 @@
 mod DatagramsSoFar
 mod FilesRead
+mod Stops
 mod Ends

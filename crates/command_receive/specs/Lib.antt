@@ -3,4 +3,5 @@ pub mod SoFar
 pub mod Numbers
 pub mod Receives
 pub mod ReceivesSession
+pub mod NamedLayers
 pub mod laws

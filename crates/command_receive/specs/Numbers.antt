@@ -8,8 +8,10 @@ use Rattle.pet_receive.specs.ShownBytes.{IsComplete, shown_in_all}
 use Rattle.met_packets.specs.Kept.{kept_of}
 use Rattle.pet_text.specs.Lines.{receive_text}
 use Rattle.command_receive.specs.declared.command.ReceiveEnd.{ReceiveEnd}
-use Rattle.command_receive.specs.declared.command.ReceiveEnd.TheVariants.{Done, NoMemory, PlaceFault, OutFault, Incomplete, TurnsSpent}
+use Rattle.command_receive.specs.declared.command.ReceiveEnd.TheVariants.{Done, NoMemory, PlaceFault, LinkFault, OutFault, Incomplete, TurnsSpent}
 use Rattle.command_receive.specs.declared.reading.Totals.{Totals}
+use Rattle.datagram_route.specs.declared.fault.RouteStop.{RouteStop}
+use Rattle.datagram_route.specs.declared.fault.RouteStop.TheVariants as stop
 
 -- the numbers are those of the datagrams that were read
 pub record AreTotals (session : List ℕ) (read : List (List ℕ)) (totals : Totals) : Type 0 where
@@ -25,6 +27,7 @@ IsEndOf totals Incomplete = (totals.read ≢ MAX_DATAGRAMS) × (totals.complete 
 IsEndOf totals TurnsSpent = totals.read ≡ MAX_DATAGRAMS
 IsEndOf totals NoMemory = ⊥
 IsEndOf totals PlaceFault = ⊥
+IsEndOf totals LinkFault = ⊥
 IsEndOf totals OutFault = ⊥
 
 -- the line that tells them
@@ -39,3 +42,11 @@ EndsWith totals before after fb fa TurnsSpent = IsEndOf totals TurnsSpent × (af
 EndsWith totals before after fb fa OutFault = ((k : ℕ) × (after ≡ append_known before (take k (line_of totals)))) × Rose fb fa
 EndsWith totals before after fb fa NoMemory = after ≡ before
 EndsWith totals before after fb fa PlaceFault = ⊥
+EndsWith totals before after fb fa LinkFault = ⊥
+
+-- the end of a command that stops early
+abbrev pub end_of : RouteStop → ReceiveEnd
+end_of stop.NoMemory = NoMemory
+end_of stop.Place = PlaceFault
+end_of stop.Link = LinkFault
+end_of stop.Out = OutFault

@@ -1,21 +1,27 @@
 -- What `receive` leaves at each of its ends. This project's own.
-use Rattle.std.specs.Prelude.{◌≡◌, ◌⊎◌, ℕ, ◌+◌, ◌<◌, ◌≤◌, List, [], ◌∷◌, ◌++◌, length, None, Some}
+use Rattle.std.specs.Prelude.{◌≡◌, ◌⊎◌, ℕ, ◌+◌, ◌<◌, ◌≤◌, List, [], ◌∷◌, ◌++◌, length, take, Option, None, Some, IfSome}
 use Rattle.pet_base.specs.declared.limits.TheConstants.{MAX_DATAGRAMS}
+use Rattle.pet_base.specs.Causes.{Rose}
 use Rattle.pet_base.specs.Entries.{datagrams}
+use Rattle.pet_base.specs.LinkSeen.{LinkSeen}
 use Rattle.pet_base.specs.OutsideSeen.{OutsideSeen}
-use Rattle.pet_base.specs.Seen.{Seen}
-use Rattle.command_files.specs.Printed.{Printed, Unprinted, PrintedFront}
-use Rattle.command_files.specs.Uses.{reading, writing, Failed}
+use Rattle.pet_base.specs.Seen.{Blame, HadFault}
+use Rattle.command_files.specs.Printed.{Printed, Unprinted}
+use Rattle.command_files.specs.Uses.{reading, writing}
 use Rattle.command_files.specs.Wrote.{File, Wrote}
+use Rattle.datagram_route.specs.Way.{Way, OnFile, OnLink}
+use Rattle.datagram_route.specs.Coming.{HaveCome, KeepsFeed}
+use Rattle.datagram_route.specs.RouteFaults.{BoundFailed}
 use Rattle.pet_receive.specs.KeptSet.{kept_in_all}
 use Rattle.pet_receive.specs.ShownBytes.{IsComplete, shown_in_all}
 use Rattle.store_merge.specs.Files.{HasFile, store_file}
 use Rattle.met_packets.specs.Kept.{nothing_of, kept_of}
 use Rattle.met_packets.specs.Gf16.{IsLayersText}
 use Rattle.met_packets.specs.Steps.{steps_of_all}
-use Rattle.pet_text.specs.Lines.{receive_text}
+use Rattle.pet_text.specs.Lines.{bound_text, receive_text}
+use Rattle.command_receive.specs.Opened.{IsBoundTo, IsOpeningUse, IsUntouched, KeepsLink, PortFailed, PrintedPort}
 use Rattle.command_receive.specs.declared.command.ReceiveEnd.{ReceiveEnd}
-use Rattle.command_receive.specs.declared.command.ReceiveEnd.TheVariants.{Done, NoMemory, PlaceFault, OutFault, Incomplete, TurnsSpent}
+use Rattle.command_receive.specs.declared.command.ReceiveEnd.TheVariants.{Done, NoMemory, PlaceFault, LinkFault, OutFault, Incomplete, TurnsSpent}
 
 -- the whole input is these datagrams, or these are the first 16,777,216 of it
 abbrev pub AreRead : List (List ℕ) → List ℕ → Type 0
@@ -25,6 +31,21 @@ AreRead read bytes = (more : List (List ℕ)) × (datagrams bytes ≡ read ++ mo
 abbrev pub AreFirst : List (List ℕ) → List ℕ → Type 0
 AreFirst read bytes = (more : List (List ℕ)) × (datagrams bytes ≡ read ++ more)
 
+-- These have left the link, and at most one more: that at which the command failed.
+abbrev pub HaveLeft : List (List ℕ) → Option (List (List ℕ)) → Option (List (List ℕ)) → Type 0
+HaveLeft read old new = (last : List (List ℕ)) × (length last ≤ 1) × HaveCome (read ++ last) old new
+
+-- FROM is there and these are its datagrams; or these have left the link, where none is left to come. Or they are the first 16,777,216.
+abbrev pub IsRead : Way → List (List ℕ) → OutsideSeen → OutsideSeen → Type 0
+IsRead (OnFile name) read before after = HasFile before.place.files name (AreRead read)
+IsRead (OnLink address) read before after =
+    HaveCome read before.link.feed after.link.feed × (length read < MAX_DATAGRAMS → IfSome after.link.feed (λ more. more ≡ []))
+
+-- FROM is there and these are its first datagrams; or these have left the link
+abbrev pub IsReadFirst : Way → List (List ℕ) → OutsideSeen → OutsideSeen → Type 0
+IsReadFirst (OnFile name) read before after = HasFile before.place.files name (AreFirst read)
+IsReadFirst (OnLink address) read before after = HaveLeft read before.link.feed after.link.feed
+
 -- the file of layers, with this text
 abbrev pub layers_file : List ℕ → List ℕ → File
 layers_file layers text = record { name = layers; bytes = text }
@@ -33,64 +54,112 @@ layers_file layers text = record { name = layers; bytes = text }
 abbrev pub kept_file : List ℕ → List ℕ → List (List ℕ) → File
 kept_file store session read = store_file store (kept_of session read)
 
--- FROM is there and its datagrams were read, LAYERS has their layers text and STORE the store of what is kept of them, and the field
+-- The datagrams of FROM were read, LAYERS has their layers text and STORE the store of what is kept of them, and the field
 -- steps that were counted are no more than the bound over the datagrams that were kept.
-pub record Reads (from session layers store : List ℕ) (old new : Seen) (steps_old steps_new : ℕ) : Type 0 where
+pub record Reads (from : Way) (session layers store : List ℕ) (before after : OutsideSeen) : Type 0 where
   pub read : List (List ℕ)
   pub text : List ℕ
   pub few : length read ≤ MAX_DATAGRAMS
-  pub input : HasFile old.files from (AreRead read)
+  pub input : IsRead from read before after
   pub is_text : IsLayersText (nothing_of session) [] 1 read text
-  pub files : Wrote (layers_file layers text ∷ kept_file store session read ∷ []) None old new
-  pub steps : steps_new ≤ steps_old + steps_of_all (nothing_of session) read
+  pub files : Wrote (layers_file layers text ∷ kept_file store session read ∷ []) None before.place after.place
+  pub steps : after.steps ≤ before.steps + steps_of_all (nothing_of session) read
 
--- FROM is there, and LAYERS has a front of the layers text of its first datagrams.
-pub record ReadsFront (from session layers : List ℕ) (old new : Seen) : Type 0 where
+-- LAYERS has a front of the layers text of the first datagrams of FROM.
+pub record ReadsFront (from : Way) (session layers : List ℕ) (before after : OutsideSeen) : Type 0 where
   pub read : List (List ℕ)
   pub text : List ℕ
-  pub input : HasFile old.files from (AreFirst read)
+  pub input : IsReadFirst from read before after
   pub is_text : IsLayersText (nothing_of session) [] 1 read text
-  pub file : Wrote [] (Some (layers_file layers text)) old new
+  pub file : Wrote [] (Some (layers_file layers text)) before.place after.place
 
--- FROM is there and its datagrams were read, LAYERS has their layers text, and STORE a front of the store of what is kept of them.
-pub record StoresFront (from session layers store : List ℕ) (old new : Seen) : Type 0 where
+-- The datagrams of FROM were read, LAYERS has their layers text, and STORE a front of the store of what is kept of them.
+pub record StoresFront (from : Way) (session layers store : List ℕ) (before after : OutsideSeen) : Type 0 where
   pub read : List (List ℕ)
   pub text : List ℕ
   pub few : length read ≤ MAX_DATAGRAMS
-  pub input : HasFile old.files from (AreRead read)
+  pub input : IsRead from read before after
   pub is_text : IsLayersText (nothing_of session) [] 1 read text
-  pub files : Wrote (layers_file layers text ∷ []) (Some (kept_file store session read)) old new
+  pub files : Wrote (layers_file layers text ∷ []) (Some (kept_file store session read)) before.place after.place
 
--- no file has changed, or LAYERS has such a front, or LAYERS is whole and STORE has one
-abbrev pub LeavesFront : List ℕ → List ℕ → List ℕ → List ℕ → Seen → Seen → Type 0
-LeavesFront from session layers store old new = (new.files ≡ old.files) ⊎ ReadsFront from session layers old new ⊎ StoresFront from session layers store old new
+-- The link failed while datagrams were to come: LAYERS has the whole layers text of those that have left the link.
+pub record ReadsUntilFault (session layers : List ℕ) (before after : OutsideSeen) : Type 0 where
+  pub read : List (List ℕ)
+  pub text : List ℕ
+  pub come : HaveCome read before.link.feed after.link.feed
+  pub is_text : IsLayersText (nothing_of session) [] 1 read text
+  pub file : Wrote (layers_file layers text ∷ []) None before.place after.place
+
+-- LAYERS has such a front, or LAYERS is whole and STORE has one
+abbrev pub LeavesFront : Way → List ℕ → List ℕ → List ℕ → OutsideSeen → OutsideSeen → Type 0
+LeavesFront from session layers store before after = ReadsFront from session layers before after ⊎ StoresFront from session layers store before after
 
 -- the line of the numbers
 abbrev pub numbers_text : List ℕ → List (List ℕ) → List ℕ
 numbers_text session read = receive_text (length read) (kept_in_all (kept_of session read)) (shown_in_all (kept_of session read))
 
--- At an end that tells of what was read, the datagrams were read, LAYERS and STORE are whole and the line of the numbers was printed, or
--- a front of it where the output failed. Where memory or the place failed LAYERS, or then STORE, has at most a front, and nothing was
--- printed.
-abbrev pub EndsReceive : List ℕ → List ℕ → List ℕ → List ℕ → OutsideSeen → OutsideSeen → ReceiveEnd → Type 0
-EndsReceive from session layers store before after Done =
-    (r : Reads from session layers store before.place after.place before.steps after.steps)
-    × (length r.read < MAX_DATAGRAMS) × IsComplete (kept_of session r.read) × Printed (numbers_text session r.read) before after
-EndsReceive from session layers store before after Incomplete =
-    (r : Reads from session layers store before.place after.place before.steps after.steps)
-    × (length r.read < MAX_DATAGRAMS) × (IsComplete (kept_of session r.read) → ⊥) × Printed (numbers_text session r.read) before after
-EndsReceive from session layers store before after TurnsSpent =
-    (r : Reads from session layers store before.place after.place before.steps after.steps)
-    × (length r.read ≡ MAX_DATAGRAMS) × Printed (numbers_text session r.read) before after
-EndsReceive from session layers store before after OutFault =
-    (r : Reads from session layers store before.place after.place before.steps after.steps) × PrintedFront (numbers_text session r.read) before after
-EndsReceive from session layers store before after NoMemory =
-    LeavesFront from session layers store before.place after.place × Unprinted before after
-EndsReceive from session layers store before after PlaceFault =
-    Failed (reading from ∷ writing layers ∷ writing store ∷ []) before.place after.place × LeavesFront from session layers store before.place after.place × Unprinted before after
+-- the line before it: of a link the port at which it receives
+abbrev pub port_line : Way → LinkSeen → List ℕ
+port_line (OnFile name) link = []
+port_line (OnLink address) link = bound_text link.port
 
--- what `receive` does: it sends nothing, and the faults of the output do not fall
-pub record Receives (from session layers store : List ℕ) (before after : OutsideSeen) (end : ReceiveEnd) : Type 0 where
-  pub link : after.link ≡ before.link
+-- some lines were printed, and then a front of this one, at which the output failed
+pub record PrintedFrontBehind (lines text : List ℕ) (before after : OutsideSeen) : Type 0 where
+  pub count : ℕ
+  pub printed : Printed (lines ++ take count text) before after
+  pub rose : Rose before.out_faults after.out_faults
+
+-- the files that are read and written
+abbrev pub uses_of : Way → List ℕ → List ℕ → List Blame
+uses_of (OnFile name) layers store = reading name ∷ writing layers ∷ writing store ∷ []
+uses_of (OnLink address) layers store = writing layers ∷ writing store ∷ []
+
+-- what may be blamed in its turn: FROM, where it is a file, and LAYERS, and STORE where the datagrams of FROM were read
+abbrev pub IsUseInTurn : Way → List ℕ → List ℕ → OutsideSeen → OutsideSeen → Blame → Type 0
+IsUseInTurn from layers store before after blame =
+    IsOpeningUse from layers blame ⊎ ((blame ≡ writing store) × ((read : List (List ℕ)) × IsRead from read before after))
+
+-- At an end that tells of what was read, the datagrams were read, LAYERS and STORE are whole and the line of the numbers was printed, or
+-- a front of it where the output failed. Where memory or the place failed LAYERS, or then STORE, has at most a front; where the link failed
+-- LAYERS has the whole text of what came; and the line of the numbers was not printed. Of a link the line of the port was printed before
+-- LAYERS was made.
+abbrev pub EndsReceive : Way → List ℕ → List ℕ → List ℕ → OutsideSeen → OutsideSeen → ReceiveEnd → Type 0
+EndsReceive from session layers store before after Done =
+    (r : Reads from session layers store before after)
+    × (length r.read < MAX_DATAGRAMS) × IsComplete (kept_of session r.read) × Printed (port_line from after.link ++ numbers_text session r.read) before after
+EndsReceive from session layers store before after Incomplete =
+    (r : Reads from session layers store before after)
+    × (length r.read < MAX_DATAGRAMS) × (IsComplete (kept_of session r.read) → ⊥) × Printed (port_line from after.link ++ numbers_text session r.read) before after
+EndsReceive from session layers store before after TurnsSpent =
+    (r : Reads from session layers store before after)
+    × (length r.read ≡ MAX_DATAGRAMS) × Printed (port_line from after.link ++ numbers_text session r.read) before after
+EndsReceive from session layers store before after OutFault =
+    (IsUntouched from before after × PortFailed from before after)
+    ⊎ ((r : Reads from session layers store before after) × PrintedFrontBehind (port_line from after.link) (numbers_text session r.read) before after)
+EndsReceive from session layers store before after NoMemory =
+    (IsUntouched from before after × Unprinted before after)
+    ⊎ (LeavesFront from session layers store before after × PrintedPort from before after)
+EndsReceive from session layers store before after PlaceFault =
+    HadFault before.place after.place (IsUseInTurn from layers store before after)
+    × (IsUntouched from before after ⊎ LeavesFront from session layers store before after) × PrintedPort from before after
+EndsReceive from session layers store before after LinkFault =
+    BoundFailed from before.link after.link
+    × ((IsUntouched from before after × Unprinted before after) ⊎ (ReadsUntilFault session layers before after × PrintedPort from before after))
+
+-- The link receives at FROM, at each end that tells of what came or comes behind the making of LAYERS. Want of memory, and a failure of
+-- the link, may come before, and then nothing has left it.
+abbrev pub IsBoundAtEnd : Way → LinkSeen → LinkSeen → ReceiveEnd → Type 0
+IsBoundAtEnd from old new Done = IsBoundTo from old new
+IsBoundAtEnd from old new Incomplete = IsBoundTo from old new
+IsBoundAtEnd from old new TurnsSpent = IsBoundTo from old new
+IsBoundAtEnd from old new OutFault = IsBoundTo from old new
+IsBoundAtEnd from old new PlaceFault = IsBoundTo from old new
+IsBoundAtEnd from old new NoMemory = KeepsFeed from old new ⊎ IsBoundTo from old new
+IsBoundAtEnd from old new LinkFault = KeepsFeed from old new ⊎ IsBoundTo from old new
+
+-- what `receive` does: it sends nothing, the link receives at FROM, and the faults of the link and of the output do not fall
+pub record Receives (from : Way) (session layers store : List ℕ) (before after : OutsideSeen) (end : ReceiveEnd) : Type 0 where
+  pub link : KeepsLink from before.link after.link
+  pub bound : IsBoundAtEnd from before.link after.link end
   pub later : before.out_faults ≤ after.out_faults
   pub ends : EndsReceive from session layers store before after end

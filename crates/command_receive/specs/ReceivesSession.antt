@@ -1,11 +1,13 @@
 -- The headline of `receive`. This project's own.
-use Rattle.std.specs.Prelude.{◌≡◌, ◌≢◌, ℕ, ◌<◌, List, [], ◌∷◌, length, All, None, Some, if◌then◌else◌}
+use Rattle.std.specs.Prelude.{◌≡◌, ◌≢◌, ℕ, ◌<◌, List, ◌++◌, length, All, None, Some, if◌then◌else◌}
 use Rattle.pet_base.specs.declared.limits.TheConstants.{MAX_SESSION, MAX_DATAGRAMS}
 use Rattle.pet_base.specs.Entries.{datagrams}
 use Rattle.pet_base.specs.OutsideSeen.{OutsideSeen}
-use Rattle.pet_base.specs.Seen.{Seen, Files, with_file}
+use Rattle.pet_base.specs.Seen.{Files, with_file}
 use Rattle.command_files.specs.Printed.{Printed}
-use Rattle.command_files.specs.Uses.{reading, writing, IsWell}
+use Rattle.command_files.specs.Uses.{IsWell}
+use Rattle.datagram_route.specs.Way.{Way, OnFile, OnLink}
+use Rattle.datagram_route.specs.RouteFaults.{BoundFailed}
 use Rattle.packet_frame.specs.Refusals.{fields_of, first_fault}
 use Rattle.pet_encode.specs.Session.{Session, IsSession, Fits}
 use Rattle.met_packets.specs.FewestStripes.{CarriesFewestStripes}
@@ -13,40 +15,50 @@ use Rattle.met_packets.specs.Gf16.{IsItsPacket}
 use Rattle.met_packets.specs.Met.{layers_text, met_in, all_shown, count_met, count_shown}
 use Rattle.met_packets.specs.MetStore.{session_store}
 use Rattle.pet_text.specs.Lines.{receive_text}
+use Rattle.command_receive.specs.Opened.{IsBoundTo}
+use Rattle.command_receive.specs.Receives.{port_line, uses_of}
 use Rattle.command_receive.specs.declared.command.ReceiveEnd.{ReceiveEnd}
 use Rattle.command_receive.specs.declared.command.ReceiveEnd.TheVariants.{Done, NoMemory, Incomplete}
 
--- The place tells its files, and FROM is one of them. It has fewer than 16,777,216 datagrams, and each datagram that is a frame of
--- the session's number is one of the session's packets.
-pub record HasPacketsOf (s : Session) (from : List ℕ) (files : Files) (bytes : List ℕ) (old : Seen) : Type 0 where
+-- FROM is a file of these datagrams, or the link tells that they are to come
+abbrev pub HasDatagrams : Way → Files → List (List ℕ) → OutsideSeen → Type 0
+HasDatagrams (OnFile name) files ds old = (bytes : List ℕ) × (files name ≡ Some bytes) × (datagrams bytes ≡ ds)
+HasDatagrams (OnLink address) files ds old = old.link.feed ≡ Some ds
+
+-- The place tells its files, and FROM has these datagrams. They are fewer than 16,777,216, and each that is a frame of the session's
+-- number is one of the session's packets.
+pub record HasPacketsOf (s : Session) (from : Way) (files : Files) (ds : List (List ℕ)) (old : OutsideSeen) : Type 0 where
   pub session : IsSession 2 s
   pub fits : Fits s MAX_SESSION
-  pub told : old.files ≡ Some files
-  pub found : files from ≡ Some bytes
-  pub few : length (datagrams bytes) < MAX_DATAGRAMS
-  pub packets : All (λ d. first_fault d ≡ None → (fields_of d).session ≡ s.number → IsItsPacket s (fields_of d)) (datagrams bytes)
+  pub told : old.place.files ≡ Some files
+  pub found : HasDatagrams from files ds old
+  pub few : length ds < MAX_DATAGRAMS
+  pub packets : All (λ d. first_fault d ≡ None → (fields_of d).session ≡ s.number → IsItsPacket s (fields_of d)) ds
 
--- The premises of the headline: memory was found, neither the place nor the output had a fault of this call, and FROM is so.
-pub record CanReceive (s : Session) (from layers store : List ℕ) (files : Files) (bytes : List ℕ) (before after : OutsideSeen) (end : ReceiveEnd) : Type 0 where
+-- The premises of the headline: memory was found, neither the place, the link nor the output had a fault of this call, and FROM is so.
+pub record CanReceive (s : Session) (from : Way) (layers store : List ℕ) (files : Files) (ds : List (List ℕ)) (before after : OutsideSeen) (end : ReceiveEnd) : Type 0 where
   pub memory : end ≢ NoMemory
-  pub well : IsWell (reading from ∷ writing layers ∷ writing store ∷ []) before after
-  pub given : HasPacketsOf s from files bytes before.place
+  pub well : IsWell (uses_of from layers store) before after
+  pub link : BoundFailed from before.link after.link → ⊥
+  pub given : HasPacketsOf s from files ds before
 
 -- the line of the numbers, by the packets that were met
 abbrev pub session_numbers : Session → List (List ℕ) → List ℕ
 session_numbers s ds = receive_text (length ds) (count_met s (met_in s.number ds)) (count_shown s (met_in s.number ds))
 
 -- The headline: LAYERS has each shown layer's exact bytes once, numbered by the arrival at which the group's distinct packets reached
--- the layer's count; STORE is the store of the session's packets that were met; the end is Done exactly where every layer of every group is shown, and else Incomplete; the line printed is
--- the defined one; and the packets of each group carry the fewest stripes.
-pub record ReceivesSession (s : Session) (layers store : List ℕ) (files : Files) (ds : List (List ℕ)) (before after : OutsideSeen) (end : ReceiveEnd) : Type 0 where
+-- the layer's count; STORE is the store of the session's packets that were met; the end is Done exactly where every layer of every
+-- group is shown, and else Incomplete; the link, where FROM is one, receives at its address; the lines printed are the defined ones;
+-- and the packets of each group carry the fewest stripes.
+pub record ReceivesSession (s : Session) (from : Way) (layers store : List ℕ) (files : Files) (ds : List (List ℕ)) (before after : OutsideSeen) (end : ReceiveEnd) : Type 0 where
   pub written : after.place.files ≡ Some (with_file store (session_store s ds) (with_file layers (layers_text s ds) files))
   pub ended : end ≡ (if all_shown s (met_in s.number ds) then Done else Incomplete)
-  pub printed : Printed (session_numbers s ds) before after
+  pub listens : IsBoundTo from before.link after.link
+  pub printed : Printed (port_line from after.link ++ session_numbers s ds) before after
   pub fewest : All CarriesFewestStripes s.groups
 
 -- so it is for every session and every such FROM
-abbrev pub CompletesReceive : List ℕ → List ℕ → List ℕ → List ℕ → OutsideSeen → OutsideSeen → ReceiveEnd → Type 0
+abbrev pub CompletesReceive : Way → List ℕ → List ℕ → List ℕ → OutsideSeen → OutsideSeen → ReceiveEnd → Type 0
 CompletesReceive from session layers store before after end =
-    (s : Session) (files : Files) (bytes : List ℕ) → session ≡ s.number → CanReceive s from layers store files bytes before after end
-    → ReceivesSession s layers store files (datagrams bytes) before after end
+    (s : Session) (files : Files) (ds : List (List ℕ)) → session ≡ s.number → CanReceive s from layers store files ds before after end
+    → ReceivesSession s from layers store files ds before after end

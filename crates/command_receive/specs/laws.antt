@@ -1,2 +1,4 @@
 pub mod LineLaws
+pub mod NamedOnce
 pub mod SessionReceived
+pub mod NamedLaws

@@ -1,13 +1,16 @@
 //! The command `receive`, and how it ends.
 ghost use Rattle.std.specs.Prelude.{◌≡◌, ◌≤◌, IfOk};
 ghost use Rattle.pet_base.specs.Lent.{seen, AreSame};
+ghost use Rattle.datagram_route.specs.Way.{way_of};
 ghost use Rattle.pet_text.specs.Lines.{receive_text};
-ghost use Rattle.command_receive.specs.Numbers.{IsEndOf, EndsWith};
+ghost use Rattle.command_receive.specs.Numbers.{IsEndOf, EndsWith, end_of};
 ghost use Rattle.command_receive.specs.Receives.{Receives};
 ghost use Rattle.command_receive.specs.ReceivesSession.{CompletesReceive};
+ghost use Rattle.command_receive.specs.NamedLayers.{NamesWhatItStores};
 
-use crate::reading::{Totals, read_files};
-use pet_base::{Link, MAX_DATAGRAMS, NoMemory, Outside, Place, Sink, Stop};
+use crate::reading::{Totals, read_all};
+use datagram_route::{Route, RouteStop};
+use pet_base::{Link, MAX_DATAGRAMS, NoMemory, Outside, Place, Sink};
 use pet_text::receive_line;
 use std::alloc::Global;
 use std::sync::ledger::Ledger;
@@ -21,7 +24,10 @@ pub enum ReceiveEnd {
     NoMemory,
     /// A file could not be read or written.
     PlaceFault,
-    /// The line of the numbers could not be printed. LAYERS and STORE are whole.
+    /// The link could not receive. LAYERS, where it was made, has the records of all datagrams that came.
+    LinkFault,
+    /// A line could not be printed: that of the port, and then no file was made, or that of the numbers, and then LAYERS and STORE are
+    /// whole.
     OutFault,
     /// The input has ended, and some layer is not shown. The line of the numbers was printed.
     Incomplete,
@@ -29,34 +35,40 @@ pub enum ReceiveEnd {
     TurnsSpent,
 }
 
-/// Reads the datagrams of FROM, and writes the layers of the session to LAYERS as they are shown; then writes the store of all
-/// packets that it has kept to STORE, and prints the line of the numbers. A failure of the output leaves both files whole.
+/// Reads the datagrams of FROM, a file or a link, and writes the layers of the session to LAYERS as they are shown; then writes the
+/// store of all packets that it has kept to STORE, and prints the line of the numbers. A failure of the output there leaves both files
+/// whole. Of a link the port at which it receives is printed before LAYERS is made.
 pub fn receive<P: Place, K: Link, S: Sink, L: Ledger>(
     alloc: Global,
-    from: &str,
+    from: Route<'_>,
     session: [u8; 8],
     layers: &str,
     store: &str,
     outside: &mut Outside<P, K, S, L>,
 ) -> ReceiveEnd
-    ensures receives { Receives from.now session layers.now store.now (seen outside.old)
+    ensures receives { Receives (way_of from.entry) session layers.now store.now (seen outside.old)
         (seen outside.new) result }
-    ensures completes { CompletesReceive from.now session layers.now store.now (seen outside.old)
+    ensures completes { CompletesReceive (way_of from.entry) session layers.now store.now
+        (seen outside.old) (seen outside.new) result }
+    ensures named { NamesWhatItStores session layers.now store.now (seen outside.old)
         (seen outside.new) result }
     ensures same { AreSame outside.old outside.new }
 {
-    match read_files(
-        alloc,
-        from,
-        session,
-        layers,
-        store,
-        outside.place,
-        outside.steps,
-    ) {
+    match read_all(alloc, from, session, layers, store, outside) {
         Ok(totals) => print_numbers(alloc, totals, outside.out),
-        Err(Stop::NoMemory) => ReceiveEnd::NoMemory,
-        Err(Stop::Failed) => ReceiveEnd::PlaceFault,
+        Err(stop) => stopped(stop),
+    }
+}
+
+/// The end of a command that stops early.
+fn stopped(stop: RouteStop) -> ReceiveEnd
+    ensures { result ≡ end_of stop }
+{
+    match stop {
+        RouteStop::NoMemory => ReceiveEnd::NoMemory,
+        RouteStop::Place => ReceiveEnd::PlaceFault,
+        RouteStop::Link => ReceiveEnd::LinkFault,
+        RouteStop::Out => ReceiveEnd::OutFault,
     }
 }
 

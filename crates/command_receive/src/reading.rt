@@ -1,26 +1,31 @@
-//! Reading the datagrams of a file, and writing the layers that they show and the store of what is kept.
-ghost use Rattle.std.specs.Prelude.{◌≡◌, ◌⊎◌, ℕ, ◌+◌, ◌≤◌, List, [], ◌∷◌, length, true, vec_len, OnOk, OnErr, IfOk, IfErr};
+//! Reading the datagrams of a file or of a link, and writing the layers that they show and the store of what is kept.
+ghost use Rattle.std.specs.Prelude.{◌≡◌, ℕ, ◌+◌, ◌≤◌, List, [], ◌∷◌, length, true, vec_len, OnOk, OnErr, IfOk, IfErr};
+ghost use Rattle.pet_base.specs.Lent.{seen, AreSame};
 ghost use Rattle.pet_base.specs.declared.limits.TheConstants.{MAX_ENTRY};
-ghost use Rattle.pet_base.specs.declared.place.Side.TheVariants.{Read, Written};
+ghost use Rattle.pet_base.specs.declared.place.Side.TheVariants.{Written};
 ghost use Rattle.pet_base.specs.Causes.{Blames};
-ghost use Rattle.pet_base.specs.Seen.{Seen, OnlyWrites, HasBlame, HadFault};
+ghost use Rattle.pet_base.specs.Seen.{Seen, OnlyWrites, HadFault};
 ghost use Rattle.pet_receive.specs.Arrivals.{Order, kept_set};
 ghost use Rattle.pet_receive.specs.KeptSet.{IsKeptSet};
 ghost use Rattle.pet_receive.specs.Verdicts.{after};
 ghost use Rattle.command_files.specs.Inputs.{Licensed};
 ghost use Rattle.command_files.specs.Outputs.{Puts};
-ghost use Rattle.command_files.specs.Uses.{reading, writing, IsOneOf, Failed as HasFailed};
+ghost use Rattle.datagram_route.specs.Way.{way_of};
+ghost use Rattle.datagram_route.specs.Coming.{coming, HasInput};
+ghost use Rattle.datagram_route.specs.RouteFaults.{IsStop, ReceivingFailed};
 ghost use Rattle.met_packets.specs.Gf16.{HasKeptIn, IsTextAt};
 ghost use Rattle.met_packets.specs.LayersText.{order_after};
 ghost use Rattle.met_packets.specs.Steps.{steps_of};
-ghost use Rattle.command_receive.specs.Numbers.{AreTotals};
-ghost use Rattle.command_receive.specs.Opened.{Opened};
-ghost use Rattle.command_receive.specs.Receives.{Reads, LeavesFront};
-ghost use Rattle.command_receive.specs.SoFar.{HasReceived, PartSoFar, PartOfOne};
+ghost use Rattle.command_receive.specs.Numbers.{AreTotals, end_of};
+ghost use Rattle.command_receive.specs.Opened.{IsBoundTo, IsBoundWhereStopped, KeepsLink, PrintedPort};
+ghost use Rattle.command_receive.specs.Receives.{Reads, EndsReceive};
+ghost use Rattle.command_receive.specs.SoFar.{HasReceived, StoppedSoFar, PartOfOne, LinkReceives, IsReadingUse};
 
+use crate::opening::open;
+use datagram_route::{Route, RouteStop, next_datagram};
 use met_packets::put_shown;
 use pet_base::{
-    Entry, Failed, MAX_DATAGRAMS, MAX_ENTRY, MAX_SESSION, Place, Steps, Stop, next_entry,
+    Entry, Link, MAX_DATAGRAMS, MAX_ENTRY, MAX_SESSION, Outside, Place, Sink, Steps, Stop,
 };
 use pet_receive::{Receiver, Verdict, group_of};
 use pet_tables::Gf16Tables;
@@ -41,29 +46,41 @@ pub(crate) struct Totals {
     pub(crate) complete: bool,
 }
 
-/// Reads the datagrams of a file, writes the layers that they show to LAYERS, and then the store of what is kept to STORE.
-pub(crate) fn read_files<P: Place, L: Ledger>(
+/// Opens FROM and LAYERS, writes the layers that the datagrams show to LAYERS, and then the store of what is kept to STORE.
+pub(crate) fn read_all<P: Place, K: Link, S: Sink, L: Ledger>(
     alloc: Global,
-    from: &str,
+    from: Route<'_>,
     session: [u8; 8],
     layers: &str,
     store: &str,
-    place: &mut P,
-    steps: &mut Steps<L>,
-) -> Result<Totals, Stop>
-    ensures done { IfOk result (λ totals. (r : Reads from.now session layers.now store.now (P.seen place.old)
-        (P.seen place.new) steps.old steps.new) × AreTotals session r.read totals) }
-    ensures front { OnErr result (LeavesFront from.now session layers.now store.now (P.seen place.old)
-        (P.seen place.new)) }
-    ensures cause { IfErr result (Licensed (HasFailed (reading from.now ∷ writing layers.now ∷ writing store.now ∷ [])
-        (P.seen place.old) (P.seen place.new))) }
+    outside: &mut Outside<P, K, S, L>,
+) -> Result<Totals, RouteStop>
+    ensures done { IfOk result (λ totals. (r : Reads (way_of from.entry) session layers.now
+        store.now (seen outside.old) (seen outside.new)) × AreTotals session r.read totals
+        × PrintedPort (way_of from.entry) (seen outside.old) (seen outside.new)) }
+    ensures stop { IfErr result (λ stop. EndsReceive (way_of from.entry) session layers.now
+        store.now (seen outside.old) (seen outside.new) (end_of stop)) }
+    ensures link { KeepsLink (way_of from.entry) (seen outside.old).link (seen outside.new).link }
+    ensures listens { OnOk result (IsBoundTo (way_of from.entry) (seen outside.old).link
+        (seen outside.new).link) }
+    ensures bound { IfErr result (IsBoundWhereStopped (way_of from.entry) (seen outside.old).link
+        (seen outside.new).link) }
+    ensures later { (seen outside.old).out_faults ≤ (seen outside.new).out_faults }
+    ensures same { AreSame outside.old outside.new }
 {
     let mut buffer = room(alloc)?;
     let field = Gf16Tables::new(alloc)?;
-    open(from, layers, place)?;
+    open(alloc, from, layers, outside)?;
     let mut receiver = Receiver::new(alloc, &field, session, MAX_SESSION);
-    let read = receive_all(place, &mut receiver, &mut buffer, steps)?;
-    write_store_file(alloc, &receiver, store, place)?;
+    let read = receive_all(
+        from,
+        outside.place,
+        outside.link,
+        &mut receiver,
+        &mut buffer,
+        outside.steps,
+    )?;
+    write_store_file(alloc, &receiver, store, outside.place)?;
     Ok(Totals {
         read,
         kept: receiver.kept(),
@@ -79,42 +96,36 @@ fn room(alloc: Global) -> Result<Vec<u8>, AllocError>
     vec![in alloc; 0u8; usize::from(MAX_ENTRY)]
 }
 
-/// Makes the one file the input and the other an empty output.
-fn open<P: Place>(from: &str, layers: &str, place: &mut P) -> Result<(), Failed>
-    ensures opened { OnOk result (Opened from.now layers.now (P.seen place.old)
-        (P.seen place.new)) }
-    ensures err { OnErr result ((P.seen place.new).files ≡ (P.seen place.old).files) }
-    ensures cause { HasBlame (P.seen place.old) (P.seen place.new) result
-        (IsOneOf (reading from.now ∷ writing layers.now ∷ [])) }
-{
-    place.enter(from)?;
-    place.create(layers)?;
-    Ok(())
-}
-
-/// Reads all datagrams of the input, and puts the layers that they show to the output. It says how many it read, at most
+/// Receives all datagrams of FROM, and puts the layers that they show to the output. It says how many it read, at most
 /// 16,777,216.
-fn receive_all<P: Place, L: Ledger>(
+fn receive_all<P: Place, K: Link, L: Ledger>(
+    from: Route<'_>,
     place: &mut P,
+    link: &mut K,
     receiver: &mut Receiver<'_, Gf16Tables>,
     buffer: &mut [u8],
     steps: &mut Steps<L>,
-) -> Result<u32, Stop>
-    requires input { (P.seen place.old).has_input ≡ true }
+) -> Result<u32, RouteStop>
+    requires input { HasInput (way_of from) (P.seen place.old) }
     requires output { (P.seen place.old).has_output ≡ true }
     requires room { MAX_ENTRY ≤ length buffer.old }
     requires held { HasKeptIn receiver.old [] }
     requires sound { IsKeptSet (kept_set receiver.old) }
     ensures done { IfOk result (λ n. HasReceived (kept_set receiver.old) n (P.seen place.old)
-        (P.seen place.new) receiver.new steps.old steps.new) }
-    ensures part { OnErr result (PartSoFar (kept_set receiver.old) (P.seen place.old)
-        (P.seen place.new)) }
-    ensures later { (P.seen place.old).faults ≤ (P.seen place.new).faults }
-    ensures cause { IfErr result (Licensed
-        (HadFault (P.seen place.old) (P.seen place.new) (λ b. Blames Read (P.seen place.old).source b ⊎ Blames Written (P.seen place.old).target b))) }
+        (P.seen place.new) (coming (way_of from.entry) (P.seen place.old) (K.seen link.old))
+        (coming (way_of from.entry) (P.seen place.new) (K.seen link.new)) receiver.new steps.old
+        steps.new) }
+    ensures stopped { IfErr result (StoppedSoFar (way_of from.entry) (kept_set receiver.old)
+        (P.seen place.old) (P.seen place.new) (K.seen link.old) (K.seen link.new)) }
+    ensures link { LinkReceives (way_of from.entry) (K.seen link.old) (K.seen link.new) }
+    ensures place_later { (P.seen place.old).faults ≤ (P.seen place.new).faults }
+    ensures link_later { (K.seen link.old).faults ≤ (K.seen link.new).faults }
+    ensures cause { IfErr result (IsStop (HadFault (P.seen place.old) (P.seen place.new)
+        (IsReadingUse (way_of from.entry) (P.seen place.old)))
+        (ReceivingFailed (way_of from.entry) (K.seen link.old) (K.seen link.new)) ⊥) }
 {
     for turn in 0..MAX_DATAGRAMS {
-        match next_entry(place, buffer)? {
+        match next_datagram(from, place, link, buffer)? {
             Entry::End => return Ok(turn),
             Entry::Datagram(len) => {
                 receive_one(place, receiver, turn + 1, &buffer[..len], steps)?;

@@ -7,6 +7,7 @@ use crate::fixtures::{
     joined, store_of,
 };
 use crate::{ReceiveEnd, receive};
+use datagram_route::Route;
 use example_session::{ENTRY_LENGTH, SESSION, packets};
 use pet_base::{MemoryLink, MemoryPlace, MemorySink, Outside, Place, Steps};
 use std::alloc::Global;
@@ -87,7 +88,7 @@ fn receive_counted<L: Ledger>(
         out,
         steps: &mut steps,
     };
-    receive(alloc, "a", session, "b", "c", &mut outside)
+    receive(alloc, Route::File("a"), session, "b", "c", &mut outside)
 }
 
 #[test]

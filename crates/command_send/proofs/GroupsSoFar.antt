@@ -7,7 +7,6 @@ use Rattle.std.proofs.lemmas.List.{append-nil, length-append, length-map, map_pu
 use lib.Seq.{get_or-append_seam}
 use Rattle.std.proofs.lemmas.List.Sums.{sum_by-cons}
 use Rattle.std.proofs.lemmas.Grind.{flat_map-append}
-use Rattle.pet_base.specs.Seen.{Seen}
 use Rattle.stripe_plan.specs.Sizes.{Sizes}
 use Rattle.priority_file.specs.Priority.{Priorities}
 use Rattle.pet_encode.specs.Encoding.{Encoding}
@@ -23,12 +22,12 @@ use Rattle.stream_session.specs.Marks.{mark_of, no_mark, mark_at, group_marks}
 use Rattle.stream_session.specs.Tables.{table_of}
 use Rattle.command_send.specs.declared.sent_group.Change.{Change}
 use Rattle.command_send.specs.declared.second.SentGroups.{SentGroups}
-use Rattle.session_packets.specs.Packets.{group_entries}
-use Rattle.command_files.specs.Outputs.{Puts, PutsPart}
-use Rattle.command_send.specs.Sending.{encoding_of, encodings_from, sent_text, words_cost, AgreeBelow, HaveTables, HasSentSome, IsPart, AreFound}
-use Rattle.command_send.specs.Second.{HasGone, HasReached, Knows, cost_at, cost_left, SendsGroup, SendsPart}
-use Rattle.command_files.specs.laws.PartLaws.{part_after}
-use Rattle.command_files.specs.laws.OutputLaws.{puts_then}
+use Rattle.session_packets.specs.Packets.{group_datagrams}
+use Rattle.command_send.specs.Sending.{encoding_of, encodings_from, sent_datagrams, words_cost, AgreeBelow, HaveTables, HasSentSome, IsPart, AreFound}
+use Rattle.command_send.specs.Second.{HasGone, HasReached, Knows, cost_at, cost_left, SendsGroup, SendsGroupPart}
+use Rattle.datagram_route.specs.Sending.{Routes, Sends, SendsPart}
+use Rattle.datagram_route.specs.Way.{Way}
+use Rattle.datagram_route.specs.laws.SendingLaws.{sends_then, part_after, part_whole}
 use Rattle.command_send.proofs.FoundGroups.{found_of_all}
 use Rattle.command_send.proofs.EncodedGroup.{front_more}
 
@@ -55,19 +54,19 @@ encodings_append source first (g ∷ a) b =
     ∙ ap (λ (k : ℕ). encoding_of source first g ∷ (encodings_from source (first + 1) a ++ encodings_from source k b)) along
 
 -- the entries of more groups
-pub text_append : (source : Source) (a b : List CutGroup) → sent_text source (a ++ b) ≡ sent_text source a ++ flat_map group_entries (encodings_from source (length a) b)
-unfolding sent_text
+pub text_append : (source : Source) (a b : List CutGroup) → sent_datagrams source (a ++ b) ≡ sent_datagrams source a ++ flat_map group_datagrams (encodings_from source (length a) b)
+unfolding sent_datagrams
 text_append source a b =
     let at : 0 + length a ≡ length a = omega arith in
-    ap (flat_map group_entries) (encodings_append source 0 a b) ∙ ap (λ (k : ℕ). flat_map group_entries (encodings_from source 0 a ++ encodings_from source k b)) at
-    ∙ flat_map-append group_entries (encodings_from source 0 a) (encodings_from source (length a) b)
+    ap (flat_map group_datagrams) (encodings_append source 0 a b) ∙ ap (λ (k : ℕ). flat_map group_datagrams (encodings_from source 0 a ++ encodings_from source k b)) at
+    ∙ flat_map-append group_datagrams (encodings_from source 0 a) (encodings_from source (length a) b)
 
-pub text_more : (source : Source) (groups : List CutGroup) (g : CutGroup) → sent_text source (groups ++ g ∷ []) ≡ sent_text source groups ++ group_entries (encoding_of source (length groups) g)
+pub text_more : (source : Source) (groups : List CutGroup) (g : CutGroup) → sent_datagrams source (groups ++ g ∷ []) ≡ sent_datagrams source groups ++ group_datagrams (encoding_of source (length groups) g)
 text_more source groups g =
-    text_append source groups (g ∷ []) ∙ ap (λ (t : List ℕ). sent_text source groups ++ t) (append-nil (group_entries (encoding_of source (length groups) g)))
+    text_append source groups (g ∷ []) ∙ ap (λ (t : List (List ℕ)). sent_datagrams source groups ++ t) (append-nil (group_datagrams (encoding_of source (length groups) g)))
 
-pub text_none : (source : Source) → sent_text source [] ≡ []
-unfolding sent_text
+pub text_none : (source : Source) → sent_datagrams source [] ≡ []
+unfolding sent_datagrams
 text_none source = refl
 
 -- the marks of the groups before
@@ -104,63 +103,60 @@ tables_more source groups g h at =
     (more.0, h.1 ∙ (more.1 ∙ ap (λ l. l ++ more.0) (sym (map_push table groups g))))
 
 -- one group more was sent
-pub some_more : (source : Source) (marks : List GroupMark) (groups : List CutGroup) (g : CutGroup) (first before after : Seen) → HasSentSome source marks groups first before → SendsGroup source marks (length groups) g before after → after.target ≡ before.target → HasSentSome source marks (groups ++ g ∷ []) first after
-some_more source marks groups g first before after h sends target = record {
+pub some_more : (way : Way) (source : Source) (marks : List GroupMark) (groups : List CutGroup) (g : CutGroup) (first before after : Routes) → HasSentSome way source marks groups first before → SendsGroup way source marks (length groups) g before after → after.place.target ≡ before.place.target → HasSentSome way source marks (groups ++ g ∷ []) first after
+some_more way source marks groups g first before after h sends target = record {
   agree = agree_more marks groups g h.agree sends.0.mark;
   tables = tables_more source groups g h.tables sends.0.table;
   target = target ∙ h.target;
-  puts = subst (λ (t : List ℕ). Puts t first after) (sym (text_more source groups g)) (puts_then (sent_text source groups) (group_entries (encoding_of source (length groups) g)) first before after h.target h.puts sends.1);
+  sends = subst (λ (t : List (List ℕ)). Sends way t first after) (sym (text_more source groups g)) (sends_then way (sent_datagrams source groups) (group_datagrams (encoding_of source (length groups) g)) first before after h.target h.sends sends.1);
 }
 
 -- a front of the next group's packets
-part_at : (source : Source) (marks : List GroupMark) (First : List CutGroup → Type 0) (groups : List CutGroup) (g : CutGroup) (first before after : Seen) → HasSentSome source marks groups first before → First (groups ++ g ∷ [])
-    → SendsPart source marks (length groups) g before after → IsPart source marks First first after
-part_at source marks First groups g first before after h firsts sends = record {
+part_at : (way : Way) (source : Source) (marks : List GroupMark) (First : List CutGroup → Type 0) (groups : List CutGroup) (g : CutGroup) (first before after : Routes) → HasSentSome way source marks groups first before → First (groups ++ g ∷ [])
+    → SendsGroupPart way source marks (length groups) g before after → IsPart way source marks First first after
+part_at way source marks First groups g first before after h firsts sends = record {
   groups = groups ++ g ∷ [];
   first_groups = firsts;
   agree = agree_more marks groups g h.agree sends.0.mark;
   tables = tables_more source groups g h.tables sends.0.table;
-  puts = subst (λ (t : List ℕ). PutsPart t first after) (sym (text_more source groups g)) (part_after (sent_text source groups) (group_entries (encoding_of source (length groups) g)) first before after h.target h.puts sends.1);
+  sends = subst (λ (t : List (List ℕ)). SendsPart way t first after) (sym (text_more source groups g)) (part_after way (sent_datagrams source groups) (group_datagrams (encoding_of source (length groups) g)) first before after h.target h.sends sends.1);
 }
 
-part_whole : (bytes : List ℕ) (old new : Seen) → Puts bytes old new → PutsPart bytes old new
-part_whole bytes old new puts = (bytes, ([], sym (append-nil bytes)), puts)
-
 -- a failure before a group's packets
-part_some : (source : Source) (marks : List GroupMark) (First : List CutGroup → Type 0) (groups : List CutGroup) (first now : Seen) → HasSentSome source marks groups first now → First groups → IsPart source marks First first now
-part_some source marks First groups first now h firsts = record {
+part_some : (way : Way) (source : Source) (marks : List GroupMark) (First : List CutGroup → Type 0) (groups : List CutGroup) (first now : Routes) → HasSentSome way source marks groups first now → First groups → IsPart way source marks First first now
+part_some way source marks First groups first now h firsts = record {
   groups = groups;
   first_groups = firsts;
   agree = h.agree;
   tables = h.tables;
-  puts = part_whole (sent_text source groups) first now h.puts;
+  sends = part_whole way (sent_datagrams source groups) first now h.sends;
 }
 
-pub part_gone : (source : Source) (marks : List GroupMark) (stream : List ℕ) (pass : SentGroups) (first now : Seen) → HasGone source marks stream pass first now → IsPart source marks (HaveEnded source.priority stream) first now
-part_gone source marks stream pass first now h = part_some source marks (HaveEnded source.priority stream) h.groups first now h.sent (given_ended pass.cutter source.priority stream h.groups h.cut)
+pub part_gone : (way : Way) (source : Source) (marks : List GroupMark) (stream : List ℕ) (pass : SentGroups) (first now : Routes) → HasGone way source marks stream pass first now → IsPart way source marks (HaveEnded source.priority stream) first now
+part_gone way source marks stream pass first now h = part_some way source marks (HaveEnded source.priority stream) h.groups first now h.sent (given_ended pass.cutter source.priority stream h.groups h.cut)
 
-pub part_stands : (source : Source) (marks : List GroupMark) (stream : List ℕ) (change : Option Change) (pass : SentGroups) (first now : Seen) → HasReached source marks stream change pass first now → IsPart source marks (HaveEnded source.priority stream) first now
-part_stands source marks stream None pass first now h = part_gone source marks stream pass first now h.0
-part_stands source marks stream (Some change) pass first now h =
-    part_some source marks (HaveEnded source.priority stream) h.0.least.before first now h.0.sent (ended_before source.priority stream h.0.least.before (h.1.next ∷ []) h.2)
+pub part_stands : (way : Way) (source : Source) (marks : List GroupMark) (stream : List ℕ) (change : Option Change) (pass : SentGroups) (first now : Routes) → HasReached way source marks stream change pass first now → IsPart way source marks (HaveEnded source.priority stream) first now
+part_stands way source marks stream None pass first now h = part_gone way source marks stream pass first now h.0
+part_stands way source marks stream (Some change) pass first now h =
+    part_some way source marks (HaveEnded source.priority stream) h.0.least.before first now h.0.sent (ended_before source.priority stream h.0.least.before (h.1.next ∷ []) h.2)
 
 -- one group more has ended and was sent
-pub gone_more : (source : Source) (marks : List GroupMark) (stream : List ℕ) (old new : SentGroups) (g : CutGroup) (first before after : Seen) → HasGone source marks stream old first before
+pub gone_more : (way : Way) (source : Source) (marks : List GroupMark) (stream : List ℕ) (old new : SentGroups) (g : CutGroup) (first before after : Routes) → HasGone way source marks stream old first before
     → ((given : List CutGroup) → HasCut old.cutter source.priority stream given → HasCut new.cutter source.priority stream (given ++ g ∷ [])) → new.sent ≡ old.sent + 1
-    → SendsGroup source marks old.sent g before after → after.target ≡ before.target → HasGone source marks stream new first after
-gone_more source marks stream old new g first before after h cut sent sends target = record {
+    → SendsGroup way source marks old.sent g before after → after.place.target ≡ before.place.target → HasGone way source marks stream new first after
+gone_more way source marks stream old new g first before after h cut sent sends target = record {
   groups = h.groups ++ g ∷ [];
   cut = cut h.groups h.cut;
   number = omega (arith, sent, h.number, length-append h.groups (g ∷ []));
-  sent = some_more source marks h.groups g first before after h.sent (subst (λ n. SendsGroup source marks n g before after) h.number sends) target;
+  sent = some_more way source marks h.groups g first before after h.sent (subst (λ n. SendsGroup way source marks n g before after) h.number sends) target;
 }
 
-pub gone_part : (source : Source) (marks : List GroupMark) (stream : List ℕ) (old : SentGroups) (cutter : GroupCutter) (g : CutGroup) (first before after : Seen) → HasGone source marks stream old first before
+pub gone_part : (way : Way) (source : Source) (marks : List GroupMark) (stream : List ℕ) (old : SentGroups) (cutter : GroupCutter) (g : CutGroup) (first before after : Routes) → HasGone way source marks stream old first before
     → ((given : List CutGroup) → HasCut old.cutter source.priority stream given → HasCut cutter source.priority stream (given ++ g ∷ []))
-    → SendsPart source marks old.sent g before after → IsPart source marks (HaveEnded source.priority stream) first after
-gone_part source marks stream old cutter g first before after h cut sends =
-    part_at source marks (HaveEnded source.priority stream) h.groups g first before after h.sent (given_ended cutter source.priority stream (h.groups ++ g ∷ []) (cut h.groups h.cut))
-    (subst (λ n. SendsPart source marks n g before after) h.number sends)
+    → SendsGroupPart way source marks old.sent g before after → IsPart way source marks (HaveEnded source.priority stream) first after
+gone_part way source marks stream old cutter g first before after h cut sends =
+    part_at way source marks (HaveEnded source.priority stream) h.groups g first before after h.sent (given_ended cutter source.priority stream (h.groups ++ g ∷ []) (cut h.groups h.cut))
+    (subst (λ n. SendsGroupPart way source marks n g before after) h.number sends)
 
 -- the last of the groups that a cutter has given
 at_last : (P : CutGroup → Type 0) (given : List CutGroup) (g : CutGroup) → All P (given ++ g ∷ []) → P g
@@ -176,9 +172,9 @@ pub knows_filled : (old new : GroupCutter) (priority : Priorities) (g : CutGroup
 knows_filled old new priority g k cut = at_last IsFilled k.given g (given_filled new priority k.stream (k.given ++ g ∷ []) (cut priority k.stream k.given k.cut))
 
 -- groups on end, the last of the stream
-pub left_part : (source : Source) (marks : List GroupMark) (stream : List ℕ) (sent : List CutGroup) (g : CutGroup) (later : List CutGroup) (first before after : Seen)
-    → AreAll source.priority stream ((sent ++ g ∷ []) ++ later) → HasSentSome source marks sent first before → SendsPart source marks (length sent) g before after → IsPart source marks (AreFound source.priority stream) first after
-left_part source marks stream sent g later first before after all h sends = part_at source marks (AreFound source.priority stream) sent g first before after h (found_of_all source.priority stream (sent ++ g ∷ []) later all) sends
+pub left_part : (way : Way) (source : Source) (marks : List GroupMark) (stream : List ℕ) (sent : List CutGroup) (g : CutGroup) (later : List CutGroup) (first before after : Routes)
+    → AreAll source.priority stream ((sent ++ g ∷ []) ++ later) → HasSentSome way source marks sent first before → SendsGroupPart way source marks (length sent) g before after → IsPart way source marks (AreFound source.priority stream) first after
+left_part way source marks stream sent g later first before after all h sends = part_at way source marks (AreFound source.priority stream) sent g first before after h (found_of_all source.priority stream (sent ++ g ∷ []) later all) sends
 
 -- the groups so far, the next, and the rest
 pub left_split : (before groups : List CutGroup) (i : ℕ) (g : CutGroup) → i < length groups → get_or groups i g ≡ g → (before ++ take (i + 1) groups ≡ (before ++ take i groups) ++ g ∷ []) × (before ++ groups ≡ ((before ++ take i groups) ++ g ∷ []) ++ drop (i + 1) groups)
@@ -193,10 +189,10 @@ pub left_length : (before groups : List CutGroup) (i from number : ℕ) → i < 
 left_length before groups i from number lt at count = omega (arith, length-append before (take i groups), length-take-le i groups (omega arith), at, count)
 
 -- no change was found so far
-pub stands_none : (source : Source) (marks : List GroupMark) (stream : List ℕ) (change : Option Change) (pass : SentGroups) (first now : Seen) → is_some change ≡ false → HasReached source marks stream change pass first now
-    → HasGone source marks stream pass first now × (pieces_left pass.cutter ≡ 0)
-stands_none source marks stream None pass first now none h = h
-stands_none source marks stream (Some c) pass first now none h = absurd cc
+pub stands_none : (way : Way) (source : Source) (marks : List GroupMark) (stream : List ℕ) (change : Option Change) (pass : SentGroups) (first now : Routes) → is_some change ≡ false → HasReached way source marks stream change pass first now
+    → HasGone way source marks stream pass first now × (pieces_left pass.cutter ≡ 0)
+stands_none way source marks stream None pass first now none h = h
+stands_none way source marks stream (Some c) pass first now none h = absurd cc
 
 all_suffix : (P : CutGroup → Type 0) (xs ys : List CutGroup) → All P (xs ++ ys) → All P ys
 all_suffix P xs ys h i d lt = subst P (get_or-append-add xs ys i d) (h (length xs + i) d (omega (arith, lt, length-append xs ys)))
@@ -208,15 +204,15 @@ left_all P priority cutter items groups each k all is =
     subst (All P) (sym is) (all_suffix P k.given items (subst (All P) (sym (all priority k.stream k.given k.cut).all) (each k.stream)))
 
 -- groups that had ended were found
-pub part_found : (source : Source) (marks : List GroupMark) (stream : List ℕ) (first now : Seen) → IsPart source marks (HaveEnded source.priority stream) first now → IsPart source marks (AreFound source.priority stream) first now
-part_found source marks stream first now h = record { groups = h.groups; first_groups = inl h.first_groups; agree = h.agree; tables = h.tables; puts = h.puts }
+pub part_found : (way : Way) (source : Source) (marks : List GroupMark) (stream : List ℕ) (first now : Routes) → IsPart way source marks (HaveEnded source.priority stream) first now → IsPart way source marks (AreFound source.priority stream) first now
+part_found way source marks stream first now h = record { groups = h.groups; first_groups = inl h.first_groups; agree = h.agree; tables = h.tables; sends = h.sends }
 
 -- and did, however the stream goes on
-pub part_longer : (source : Source) (marks : List GroupMark) (stream portion : List ℕ) (first now : Seen) → IsPart source marks (HaveEnded source.priority stream) first now → IsPart source marks (HaveEnded source.priority (stream ++ portion)) first now
-part_longer source marks stream portion first now h = record {
+pub part_longer : (way : Way) (source : Source) (marks : List GroupMark) (stream portion : List ℕ) (first now : Routes) → IsPart way source marks (HaveEnded source.priority stream) first now → IsPart way source marks (HaveEnded source.priority (stream ++ portion)) first now
+part_longer way source marks stream portion first now h = record {
   groups = h.groups;
   first_groups = ended_longer source.priority stream portion h.groups h.first_groups;
   agree = h.agree;
   tables = h.tables;
-  puts = h.puts;
+  sends = h.sends;
 }

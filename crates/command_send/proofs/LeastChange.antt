@@ -2,7 +2,8 @@
 use Rattle.std.proofs.Common.{◌≡◌, ℕ, suc, ◌<◌, ◌≤◌, List, [], ◌∷◌, ◌++◌, length, Option, Some, None, refl, sym, ◌∙◌, ap, subst, arith, inl, inr}
 use Rattle.std.specs.Prelude.{slice_get, IfSome, IfNone, MatchOption, is_some, true, false}
 use Rattle.std.proofs.lemmas.Bool.{cases_lt}
-use Rattle.pet_base.specs.Seen.{Seen}
+use Rattle.datagram_route.specs.Sending.{Routes}
+use Rattle.datagram_route.specs.Way.{Way}
 use Rattle.stream_session.specs.declared.mark.GroupMark.{GroupMark}
 use Rattle.stream_session.specs.declared.source.Source.{Source}
 use Rattle.group_cutter.specs.CutGroups.{CutGroup}
@@ -33,9 +34,9 @@ sends_none A B None none a = a
 sends_none A B (Some c) none b = absurd cc
 
 -- the next group is another
-next_at : (source : Source) (marks : List GroupMark) (stream : List ℕ) (groups : List CutGroup) (g : CutGroup) (before after : Seen) (change : Change) → AreFound source.priority stream (groups ++ g ∷ [])
+next_at : (way : Way) (source : Source) (marks : List GroupMark) (stream : List ℕ) (groups : List CutGroup) (g : CutGroup) (before after : Routes) (change : Change) → AreFound source.priority stream (groups ++ g ∷ [])
     → Differs source marks (length groups) g before after change → IsNext source.priority source.tables.items marks stream groups change.group change.second
-next_at source marks stream groups g before after change found d = record {
+next_at way source marks stream groups g before after change found d = record {
   next = g;
   at = d.group;
   found = found;
@@ -45,29 +46,29 @@ next_at source marks stream groups g before after change found d = record {
   ];
 }
 
-change_is : (source : Source) (marks : List GroupMark) (stream : List ℕ) (groups : List CutGroup) (g : CutGroup) (first before after : Seen) (change : Change) → HasSentSome source marks groups first before → AreFound source.priority stream (groups ++ g ∷ [])
-    → Differs source marks (length groups) g before after change → IsChange source marks stream change first after
-change_is source marks stream groups g first before after change h found d = record {
+change_is : (way : Way) (source : Source) (marks : List GroupMark) (stream : List ℕ) (groups : List CutGroup) (g : CutGroup) (first before after : Routes) (change : Change) → HasSentSome way source marks groups first before → AreFound source.priority stream (groups ++ g ∷ [])
+    → Differs source marks (length groups) g before after change → IsChange way source marks stream change first after
+change_is way source marks stream groups g first before after change h found d = record {
   least = record {
     before = groups;
     found = found_before source.priority stream groups (g ∷ []) found;
     agree = subst (AgreeBelow marks groups) (sym d.group) h.agree;
     first_is = d.first_is ∙ ap (mark_at marks) (sym d.group);
-    second_is = inl (next_at source marks stream groups g before after change found d);
+    second_is = inl (next_at way source marks stream groups g before after change found d);
     differ = d.differ;
   };
-  sent = subst (HasSentSome source marks groups first) (sym d.still) h;
+  sent = subst (HasSentSome way source marks groups first) (sym d.still) h;
 }
 
-change_at : (source : Source) (marks : List GroupMark) (stream : List ℕ) (groups : List CutGroup) (g : CutGroup) (first before after : Seen) (change : Change) → HasSentSome source marks groups first before → HaveEnded source.priority stream (groups ++ g ∷ [])
-    → Differs source marks (length groups) g before after change → HasMetChange source marks stream first after change
+change_at : (way : Way) (source : Source) (marks : List GroupMark) (stream : List ℕ) (groups : List CutGroup) (g : CutGroup) (first before after : Routes) (change : Change) → HasSentSome way source marks groups first before → HaveEnded source.priority stream (groups ++ g ∷ [])
+    → Differs source marks (length groups) g before after change → HasMetChange way source marks stream first after change
 unfolding change_is next_at
-change_at source marks stream groups g first before after change h ended d =
-    (change_is source marks stream groups g first before after change h (inl ended) d, next_at source marks stream groups g before after change (inl ended) d, ended)
+change_at way source marks stream groups g first before after change h ended d =
+    (change_is way source marks stream groups g first before after change h (inl ended) d, next_at way source marks stream groups g before after change (inl ended) d, ended)
 
 -- a change stays one, however the stream goes on
-change_longer : (source : Source) (marks : List GroupMark) (stream portion : List ℕ) (change : Change) (first now : Seen) → HasMetChange source marks stream first now change → HasMetChange source marks (stream ++ portion) first now change
-change_longer source marks stream portion change first now h =
+change_longer : (way : Way) (source : Source) (marks : List GroupMark) (stream portion : List ℕ) (change : Change) (first now : Routes) → HasMetChange way source marks stream first now change → HasMetChange way source marks (stream ++ portion) first now change
+change_longer way source marks stream portion change first now h =
     let priority = source.priority in
     let ended = ended_longer priority stream portion (h.0.least.before ++ h.1.next ∷ []) h.2 in
     let next : IsNext priority source.tables.items marks (stream ++ portion) h.0.least.before change.group change.second =
@@ -87,24 +88,24 @@ change_longer source marks stream portion change first now h =
       ended,
     )
 
-pub stands_longer : (source : Source) (marks : List GroupMark) (stream portion : List ℕ) (c : Change) (change : Option Change) (pass : SentGroups) (first now : Seen) → change ≡ Some c → HasReached source marks stream change pass first now → HasReached source marks (stream ++ portion) change pass first now
-stands_longer source marks stream portion c None pass first now some h = absurd cc
-stands_longer source marks stream portion c (Some change) pass first now some h = change_longer source marks stream portion change first now h
+pub stands_longer : (way : Way) (source : Source) (marks : List GroupMark) (stream portion : List ℕ) (c : Change) (change : Option Change) (pass : SentGroups) (first now : Routes) → change ≡ Some c → HasReached way source marks stream change pass first now → HasReached way source marks (stream ++ portion) change pass first now
+stands_longer way source marks stream portion c None pass first now some h = absurd cc
+stands_longer way source marks stream portion c (Some change) pass first now some h = change_longer way source marks stream portion change first now h
 
-gone_change : (source : Source) (marks : List GroupMark) (stream : List ℕ) (old : SentGroups) (cutter : GroupCutter) (g : CutGroup) (first before after : Seen) (change : Change) → HasGone source marks stream old first before
+gone_change : (way : Way) (source : Source) (marks : List GroupMark) (stream : List ℕ) (old : SentGroups) (cutter : GroupCutter) (g : CutGroup) (first before after : Routes) (change : Change) → HasGone way source marks stream old first before
     → ((given : List CutGroup) → HasCut old.cutter source.priority stream given → HasCut cutter source.priority stream (given ++ g ∷ []))
-    → Differs source marks old.sent g before after change → HasMetChange source marks stream first after change
-gone_change source marks stream old cutter g first before after change h cut d =
-    change_at source marks stream h.groups g first before after change h.sent (given_ended cutter source.priority stream (h.groups ++ g ∷ []) (cut h.groups h.cut))
+    → Differs source marks old.sent g before after change → HasMetChange way source marks stream first after change
+gone_change way source marks stream old cutter g first before after change h cut d =
+    change_at way source marks stream h.groups g first before after change h.sent (given_ended cutter source.priority stream (h.groups ++ g ∷ []) (cut h.groups h.cut))
     (subst (λ n. Differs source marks n g before after change) h.number d)
 
 -- and where it found one
-pub stands_change : (source : Source) (marks : List GroupMark) (stream : List ℕ) (old new : SentGroups) (cutter : GroupCutter) (g : CutGroup) (first before after : Seen) (change : Option Change) → is_some change ≡ true
-    → MatchOption change (SendsGroup source marks old.sent g before after) (Differs source marks old.sent g before after) → HasGone source marks stream old first before
+pub stands_change : (way : Way) (source : Source) (marks : List GroupMark) (stream : List ℕ) (old new : SentGroups) (cutter : GroupCutter) (g : CutGroup) (first before after : Routes) (change : Option Change) → is_some change ≡ true
+    → MatchOption change (SendsGroup way source marks old.sent g before after) (Differs source marks old.sent g before after) → HasGone way source marks stream old first before
     → ((given : List CutGroup) → HasCut old.cutter source.priority stream given → HasCut cutter source.priority stream (given ++ g ∷ []))
-    → HasReached source marks stream change new first after
-stands_change source marks stream old new cutter g first before after None some sends h cut = absurd cc
-stands_change source marks stream old new cutter g first before after (Some c) some sends h cut = gone_change source marks stream old cutter g first before after c h cut sends
+    → HasReached way source marks stream change new first after
+stands_change way source marks stream old new cutter g first before after None some sends h cut = absurd cc
+stands_change way source marks stream old new cutter g first before after (Some c) some sends h cut = gone_change way source marks stream old cutter g first before after c h cut sends
 
 -- beyond the groups the marks agree where the first pass has none
 agree_past : (marks : List GroupMark) (groups : List CutGroup) (limit : ℕ) → AgreeBelow marks groups (length groups) → ((k : ℕ) → length groups ≤ k → k < limit → mark_at marks k ≡ no_mark) → AgreeBelow marks groups limit
@@ -113,9 +114,9 @@ agree_past marks groups limit agree none k lt = elim (cases_lt k (length groups)
   | inr from ↦ none k from lt ∙ sym (mark_past groups k from)
 ]
 
-lost_change : (source : Source) (marks : List GroupMark) (stream : List ℕ) (groups : List CutGroup) (from : ℕ) (first now : Seen) (change : Change) → from ≡ length groups → HasSentSome source marks groups first now
-    → AreAllFound source.priority stream groups → IsFirstLost marks from change → IsChange source marks stream change first now
-lost_change source marks stream groups from first now change at h all lost = record {
+lost_change : (way : Way) (source : Source) (marks : List GroupMark) (stream : List ℕ) (groups : List CutGroup) (from : ℕ) (first now : Routes) (change : Change) → from ≡ length groups → HasSentSome way source marks groups first now
+    → AreAllFound source.priority stream groups → IsFirstLost marks from change → IsChange way source marks stream change first now
+lost_change way source marks stream groups from first now change at h all lost = record {
   least = record {
     before = groups;
     found = all.found;
@@ -127,9 +128,9 @@ lost_change source marks stream groups from first now change at h all lost = rec
   sent = h;
 }
 
-all_sent : (source : Source) (marks : List GroupMark) (stream : List ℕ) (groups : List CutGroup) (from : ℕ) (first now : Seen) → from ≡ length groups → HasSentSome source marks groups first now
-    → AreAllFound source.priority stream groups → NoneLost marks from → IsAllSent source marks stream first now
-all_sent source marks stream groups from first now at h all none = record {
+all_sent : (way : Way) (source : Source) (marks : List GroupMark) (stream : List ℕ) (groups : List CutGroup) (from : ℕ) (first now : Routes) → from ≡ length groups → HasSentSome way source marks groups first now
+    → AreAllFound source.priority stream groups → NoneLost marks from → IsAllSent way source marks stream first now
+all_sent way source marks stream groups from first now at h all none = record {
   groups = groups;
   all = all;
   sent = h;
@@ -137,14 +138,14 @@ all_sent source marks stream groups from first now at h all none = record {
 }
 
 -- the end of the pass, where these are all groups that it found
-pub ends_lost : (source : Source) (marks : List GroupMark) (stream : List ℕ) (groups : List CutGroup) (from : ℕ) (first now : Seen) (change : Option Change) → from ≡ length groups → HasSentSome source marks groups first now
-    → AreAllFound source.priority stream groups → IfSome change (IsFirstLost marks from) → IfNone change (NoneLost marks from) → Ends source marks stream change first now
-ends_lost source marks stream groups from first now None at h all lost none = all_sent source marks stream groups from first now at h all none
-ends_lost source marks stream groups from first now (Some change) at h all lost none = lost_change source marks stream groups from first now change at h all lost
+pub ends_lost : (way : Way) (source : Source) (marks : List GroupMark) (stream : List ℕ) (groups : List CutGroup) (from : ℕ) (first now : Routes) (change : Option Change) → from ≡ length groups → HasSentSome way source marks groups first now
+    → AreAllFound source.priority stream groups → IfSome change (IsFirstLost marks from) → IfNone change (NoneLost marks from) → Ends way source marks stream change first now
+ends_lost way source marks stream groups from first now None at h all lost none = all_sent way source marks stream groups from first now at h all none
+ends_lost way source marks stream groups from first now (Some change) at h all lost none = lost_change way source marks stream groups from first now change at h all lost
 
 -- groups on end, the last of the stream
-pub left_change : (source : Source) (marks : List GroupMark) (stream : List ℕ) (sent : List CutGroup) (g : CutGroup) (later : List CutGroup) (first before after : Seen) (change : Option Change) → is_some change ≡ true
-    → AreAll source.priority stream ((sent ++ g ∷ []) ++ later) → HasSentSome source marks sent first before
-    → MatchOption change (SendsGroup source marks (length sent) g before after) (Differs source marks (length sent) g before after) → Ends source marks stream change first after
-left_change source marks stream sent g later first before after None some all h sends = absurd cc
-left_change source marks stream sent g later first before after (Some c) some all h sends = change_is source marks stream sent g first before after c h (found_of_all source.priority stream (sent ++ g ∷ []) later all) sends
+pub left_change : (way : Way) (source : Source) (marks : List GroupMark) (stream : List ℕ) (sent : List CutGroup) (g : CutGroup) (later : List CutGroup) (first before after : Routes) (change : Option Change) → is_some change ≡ true
+    → AreAll source.priority stream ((sent ++ g ∷ []) ++ later) → HasSentSome way source marks sent first before
+    → MatchOption change (SendsGroup way source marks (length sent) g before after) (Differs source marks (length sent) g before after) → Ends way source marks stream change first after
+left_change way source marks stream sent g later first before after None some all h sends = absurd cc
+left_change way source marks stream sent g later first before after (Some c) some all h sends = change_is way source marks stream sent g first before after c h (found_of_all source.priority stream (sent ++ g ∷ []) later all) sends

@@ -2,6 +2,7 @@ pub mod EncodedGroup
 pub mod FoundGroups
 pub mod GroupsSoFar
 pub mod LeastChange
+pub mod Passes
 pub mod ReadPortions
 pub mod SameStream
 pub mod FirstPass

@@ -5,7 +5,7 @@ use Rattle.std.specs.Io.KnownBytes.{prepend_known, IsAtEnd}
 use Rattle.std.proofs.lemmas.List.{append-nil}
 use Rattle.std.proofs.lemmas.Bool.{ltb-false}
 use Rattle.pet_base.specs.declared.limits.TheConstants.{MAX_STREAM}
-use Rattle.pet_base.specs.Seen.{Seen, Files, Grows, OnlyReads}
+use Rattle.pet_base.specs.Seen.{Seen, OnlyReads}
 use Rattle.pet_base.proofs.Filled.{prepend-prepend}
 use Rattle.stream_session.specs.declared.mark.GroupMark.{GroupMark}
 use Rattle.stream_session.specs.declared.source.Source.{Source}
@@ -17,11 +17,12 @@ use Rattle.group_cutter.specs.Cutting.{HasCut, HaveEnded, cut_groups}
 use Rattle.group_cutter.specs.laws.EndedLaws.{none_ended, ended_first}
 use Rattle.command_send.specs.declared.sent_group.Change.{Change}
 use Rattle.command_send.specs.declared.second.SentGroups.{SentGroups}
-use Rattle.command_files.specs.Outputs.{IsPrefix, Puts}
-use Rattle.command_send.specs.Sending.{sent_text, HasSentSome, IsPart, IsTaken, SentPart, IsFront, AreFound, HasSentAll, HasSentToChange}
+use Rattle.command_files.specs.Outputs.{IsPrefix}
+use Rattle.command_send.specs.Sending.{sent_datagrams, HasSentSome, IsPart, IsTaken, SentPart, IsFront, AreFound, HasSentAll, HasSentToChange}
 use Rattle.command_send.specs.Second.{HasGone, HasReached, Ends}
-use Rattle.command_files.specs.laws.PartLaws.{part_nothing}
-use Rattle.command_files.specs.laws.OutputLaws.{puts_nothing}
+use Rattle.datagram_route.specs.Sending.{Routes, Sends}
+use Rattle.datagram_route.specs.Way.{Way}
+use Rattle.datagram_route.specs.laws.SendingLaws.{part_nothing, sends_nothing, sends_read}
 use Rattle.command_send.proofs.GroupsSoFar.{text_none}
 
 prefix_at : (stream : List ℕ) (now : Option (List ℕ)) → IfSome (prepend_known stream now) (IsPrefix stream)
@@ -33,11 +34,11 @@ told_at priority stream groups None ended = tt
 told_at priority stream groups (Some more) ended = ended_first priority stream groups ended more
 
 -- what was read stands at the front of the input
-pub part_read : (source : Source) (marks : List GroupMark) (stream : List ℕ) (known : Option (List ℕ)) (first now : Seen) → first.rest ≡ prepend_known stream known → IsPart source marks (HaveEnded source.priority stream) first now → SentPart source marks first now
-part_read source marks stream known first now rest part = record {
+pub part_read : (way : Way) (source : Source) (marks : List GroupMark) (stream : List ℕ) (known : Option (List ℕ)) (first now : Routes) → first.place.rest ≡ prepend_known stream known → IsPart way source marks (HaveEnded source.priority stream) first now → SentPart way source marks first now
+part_read way source marks stream known first now rest part = record {
   stream = stream;
   read = subst (λ (o : Option (List ℕ)). IfSome o (IsPrefix stream)) (sym rest) (prefix_at stream known);
-  part = record { groups = part.groups; first_groups = inl part.first_groups; agree = part.agree; tables = part.tables; puts = part.puts };
+  part = record { groups = part.groups; first_groups = inl part.first_groups; agree = part.agree; tables = part.tables; sends = part.sends };
   told = subst (λ (o : Option (List ℕ)). IfSome o (λ bytes. IsFront source.priority bytes part.groups)) (sym rest) (told_at source.priority stream part.groups known part.first_groups);
 }
 
@@ -52,35 +53,35 @@ ended_at priority stream groups None end front = tt
 ended_at priority stream groups (Some more) end front = subst (λ (s : List ℕ). IsFront priority s groups) (sym (append-nil stream) ∙ ap (λ (m : List ℕ). stream ++ m) (sym end)) front
 
 -- the same of all that was read
-pub part_end : (source : Source) (marks : List GroupMark) (stream : List ℕ) (first mid now : Seen) → IsTaken stream first mid → IsPart source marks (AreFound source.priority stream) first now → SentPart source marks first now
-part_end source marks stream first mid now taken part = record {
+pub part_end : (way : Way) (source : Source) (marks : List GroupMark) (stream : List ℕ) (first mid now : Routes) → IsTaken stream first.place mid.place → IsPart way source marks (AreFound source.priority stream) first now → SentPart way source marks first now
+part_end way source marks stream first mid now taken part = record {
   stream = stream;
-  read = subst (λ (o : Option (List ℕ)). IfSome o (IsPrefix stream)) (sym taken.rest) (prefix_at stream mid.rest);
+  read = subst (λ (o : Option (List ℕ)). IfSome o (IsPrefix stream)) (sym taken.rest) (prefix_at stream mid.place.rest);
   part = part;
   told = subst (λ (o : Option (List ℕ)). IfSome o (λ bytes. IsFront source.priority bytes part.groups)) (sym taken.rest)
       (elim part.first_groups [
-        | inl ended ↦ told_at source.priority stream part.groups mid.rest ended
-        | inr all ↦ ended_at source.priority stream part.groups mid.rest (taken.whole (short_stream stream all.0.0)) all.1
+        | inl ended ↦ told_at source.priority stream part.groups mid.place.rest ended
+        | inr all ↦ ended_at source.priority stream part.groups mid.place.rest (taken.whole (short_stream stream all.0.0)) all.1
       ]);
 }
 
 pub rest_more : (stream portion : List ℕ) (first before after : Option (List ℕ)) → first ≡ prepend_known stream before → before ≡ prepend_known portion after → first ≡ prepend_known (stream ++ portion) after
 rest_more stream portion first before after rest step = rest ∙ ap (prepend_known stream) step ∙ prepend-prepend stream portion after
 
-some_read : (source : Source) (marks : List GroupMark) (groups : List CutGroup) (first before after : Seen) → OnlyReads before after → HasSentSome source marks groups first before → HasSentSome source marks groups first after
-some_read source marks groups first before after reads h = record {
+some_read : (way : Way) (source : Source) (marks : List GroupMark) (groups : List CutGroup) (first before after : Routes) → OnlyReads before.place after.place → after.link ≡ before.link → HasSentSome way source marks groups first before → HasSentSome way source marks groups first after
+some_read way source marks groups first before after reads link h = record {
   agree = h.agree;
   tables = h.tables;
   target = reads.target ∙ h.target;
-  puts = subst (λ (f : Option Files). Grows first.target (sent_text source groups) first.files f) (sym reads.files) h.puts;
+  sends = sends_read way (sent_datagrams source groups) first before after reads.files link h.sends;
 }
 
 -- reading changes nothing that was sent
-pub stands_read : (source : Source) (marks : List GroupMark) (stream : List ℕ) (change : Option Change) (pass : SentGroups) (first before after : Seen) → OnlyReads before after → HasReached source marks stream change pass first before → HasReached source marks stream change pass first after
-stands_read source marks stream None pass first before after reads h =
-    (record { groups = h.0.groups; cut = h.0.cut; number = h.0.number; sent = some_read source marks h.0.groups first before after reads h.0.sent }, h.1)
-stands_read source marks stream (Some c) pass first before after reads h =
-    (record { least = h.0.least; sent = some_read source marks h.0.least.before first before after reads h.0.sent }, h.1, h.2)
+pub stands_read : (way : Way) (source : Source) (marks : List GroupMark) (stream : List ℕ) (change : Option Change) (pass : SentGroups) (first before after : Routes) → OnlyReads before.place after.place → after.link ≡ before.link → HasReached way source marks stream change pass first before → HasReached way source marks stream change pass first after
+stands_read way source marks stream None pass first before after reads link h =
+    (record { groups = h.0.groups; cut = h.0.cut; number = h.0.number; sent = some_read way source marks h.0.groups first before after reads link h.0.sent }, h.1)
+stands_read way source marks stream (Some c) pass first before after reads link h =
+    (record { least = h.0.least; sent = some_read way source marks h.0.least.before first before after reads link h.0.sent }, h.1, h.2)
 
 prepend_none : (known : Option (List ℕ)) → prepend_known [] known ≡ known
 prepend_none None = refl
@@ -113,22 +114,22 @@ front_none priority None = tt
 front_none priority (Some bytes) = (cut_groups priority bytes, refl)
 
 -- nothing was read yet
-pub part_start : (source : Source) (marks : List GroupMark) (s : Seen) → SentPart source marks s s
-part_start source marks s = record {
+pub part_start : (way : Way) (source : Source) (marks : List GroupMark) (s : Routes) → SentPart way source marks s s
+part_start way source marks s = record {
   stream = [];
-  read = prefix_none s.rest;
+  read = prefix_none s.place.rest;
   part = record {
     groups = [];
     first_groups = inl (none_ended source.priority []);
     agree = λ k lt. absurd (omega (arith, lt));
     tables = (source.tables.items, refl);
-    puts = part_nothing (sent_text source []) s;
+    sends = part_nothing way (sent_datagrams source []) s s refl refl;
   };
-  told = front_none source.priority s.rest;
+  told = front_none source.priority s.place.rest;
 }
 
-pub gone_start : (source : Source) (marks : List GroupMark) (pass : SentGroups) (s : Seen) → HasCut pass.cutter source.priority [] [] → pass.sent ≡ 0 → HasGone source marks [] pass s s
-gone_start source marks pass s cut none = record {
+pub gone_start : (way : Way) (source : Source) (marks : List GroupMark) (pass : SentGroups) (s : Routes) → HasCut pass.cutter source.priority [] [] → pass.sent ≡ 0 → HasGone way source marks [] pass s s
+gone_start way source marks pass s cut none = record {
   groups = [];
   cut = cut;
   number = none;
@@ -136,10 +137,10 @@ gone_start source marks pass s cut none = record {
     agree = λ k lt. absurd (omega (arith, lt));
     tables = (source.tables.items, refl);
     target = refl;
-    puts = subst (λ (t : List ℕ). Puts t s s) (sym (text_none source)) (puts_nothing s s refl);
+    sends = subst (λ (t : List (List ℕ)). Sends way t s s) (sym (text_none source)) (sends_nothing way s s refl refl);
   };
 }
 
-pub sent_end : (source : Source) (marks : List GroupMark) (stream : List ℕ) (after : Option Change) (first now : Seen) → IsTaken stream first now → Ends source marks stream after first now → MatchOption after (HasSentAll source marks first now) (λ c. HasSentToChange source marks c first now)
-sent_end source marks stream None first now taken h = record { stream = stream; taken = taken; all = h }
-sent_end source marks stream (Some c) first now taken h = record { stream = stream; taken = taken; change_is = h }
+pub sent_end : (way : Way) (source : Source) (marks : List GroupMark) (stream : List ℕ) (after : Option Change) (first now : Routes) → IsTaken stream first.place now.place → Ends way source marks stream after first now → MatchOption after (HasSentAll way source marks first now) (λ c. HasSentToChange way source marks c first now)
+sent_end way source marks stream None first now taken h = record { stream = stream; taken = taken; all = h }
+sent_end way source marks stream (Some c) first now taken h = record { stream = stream; taken = taken; change_is = h }

@@ -1,25 +1,37 @@
--- The files are opened again, and the stream's groups are sent, seen from before.
-use Rattle.std.proofs.Common.{◌≡◌, ℕ, ◌≤◌, Bool, true, false, cond, List, [], ◌∷◌, Option, None, Some, refl, sym, ap, subst, ◌∙◌, inl, inr}
-use Rattle.std.specs.Prelude.{option_map, ◌⊎◌, Result, Ok, Err, OnOk, OnErr, IfErr, MatchResult}
+-- The route is made ready, the stream is the input again, and its groups are sent, seen from before.
+use Rattle.std.proofs.Common.{◌≡◌, ℕ, ◌≤◌, Bool, true, false, cond, List, [], ◌∷◌, ◌++◌, length, Option, None, Some, refl, sym, ap, subst, ◌∙◌, inl, inr, arith}
+use Rattle.std.specs.Prelude.{option_map, ◌⊎◌, Result, Ok, Err, OnOk, OnErr, IfErr, IfSome}
 use Rattle.std.specs.Str.{bytes_eq}
-use Rattle.pet_base.specs.declared.faults.Stop.TheVariants as stop
 use Rattle.pet_base.specs.declared.place.Side.TheVariants.{Read, Written}
+use Rattle.pet_base.specs.declared.link.LinkSide.TheVariants.{Aimed}
 use Rattle.pet_base.specs.Causes.{Blames}
+use Rattle.pet_base.specs.LinkSeen.{LinkSeen, Blame as LinkBlame}
 use Rattle.pet_base.specs.Seen.{Seen, Files, Blame, Grows, appended, Names, KeepsOutput, HadFault, bytes_at, with_file}
 use Rattle.pet_base.specs.laws.SeenLaws.{Grows-named, Blames-named, HadFault-since}
 use Rattle.command_files.specs.Inputs.{IsFile}
 use Rattle.command_files.specs.Outputs.{Puts, PutsPart}
 use Rattle.command_files.specs.Wrote.{Wrote}
+use Rattle.command_files.specs.laws.PrintedLaws.{Rose-since}
 use Rattle.command_files.specs.laws.WroteLaws.{Wrote-nothing}
+use Rattle.datagram_route.specs.RouteFaults.{AimedFailed}
+use Rattle.datagram_route.specs.declared.fault.RouteStop.TheVariants as stop
+use Rattle.datagram_route.specs.Sending.{Routes, entries_of, Sent, SentFirst, SendsPart, IsOpen, IsOpened, OnlyOpens, SendingFailed}
+use Rattle.datagram_route.specs.Way.{Way, OnFile, OnLink}
+use Rattle.datagram_route.specs.laws.SendingLaws.{part_whole}
 use Rattle.session_packets.specs.Packets.{datagrams_text}
-use Rattle.command_files.specs.laws.PartLaws.{part_whole}
+use Rattle.session_packets.specs.laws.DatagramLaws.{entries_are_text}
 use Rattle.stream_session.specs.Accepted.{session_of}
+use Rattle.stream_session.specs.Marks.{mark_at, group_marks}
 use Rattle.stream_session.specs.declared.mark.GroupMark.{GroupMark}
 use Rattle.stream_session.specs.declared.source.Source.{Source}
+use Rattle.group_cutter.specs.CutGroups.{CutGroup}
 use Rattle.command_send.specs.declared.fault.SendFault.{SendFault}
 use Rattle.command_send.specs.declared.fault.SendFault.TheVariants.{Stopped, Source as Refused, Changed}
-use Rattle.command_send.specs.Sending.{sent_text, HasSentAll, IsFirstPass, IsSendStop, IsToldStop}
+use Rattle.command_send.specs.Sending.{sent_datagrams, AgreeBelow, HaveTables, HasSentAll, HasSentToChange, SentPart, IsFirstPass, IsSendStop, IsOfOutput, PassFailed}
+use Rattle.command_send.specs.Second.{OnlyPasses}
+use Rattle.command_send.specs.Sends.{packets_in, IsOther, KeepsLink, AreResent, LinkSentAll, LinkSentFirst, HasSentBefore}
 use Rattle.command_send.specs.SendParts.{IsReopened, IsLeftEmpty, IsOfReopened, SessionSent, SessionLeft, SessionStops}
+use Rattle.command_send.proofs.SameStream.{told_groups, told_part, told_changed}
 
 -- another file is as before
 other_file : (to stream bytes : List ℕ) (files : Option Files) → bytes_eq to stream ≡ false → bytes_at (option_map (with_file to bytes) files) stream ≡ bytes_at files stream
@@ -32,103 +44,275 @@ names_before to name bytes None mid told e is = subst (λ (o : Option Files). Na
 names_before to name bytes (Some f) mid told e is = subst (λ (o : Option Files). Names o told name) e is
 
 -- both calls went well
-pub reopened : (stream to : List ℕ) (old mid new : Seen) → bytes_eq to stream ≡ false → mid.files ≡ option_map (with_file to []) old.files → Names old.files mid.target to → mid.has_output ≡ true
-    → new.rest ≡ bytes_at mid.files stream → Names mid.files new.source stream → new.has_input ≡ true → KeepsOutput mid new → IsReopened stream to old new
-reopened stream to old mid new other made target output rest source input keeps = record {
-  rest = rest ∙ ap (λ (o : Option Files). bytes_at o stream) made ∙ other_file to stream [] old.files other;
-  files = keeps.files ∙ made;
-  source = names_before to stream [] old.files mid.files new.source made source;
-  target = subst (λ (o : Option (List ℕ)). Names old.files o to) (sym keeps.target) target;
+reopened_file : (stream to : List ℕ) (old mid new : Routes) → bytes_eq to stream ≡ false → mid.place.files ≡ option_map (with_file to []) old.place.files → Names old.place.files mid.place.target to → mid.place.has_output ≡ true
+    → mid.link ≡ old.link → new.link ≡ mid.link
+    → new.place.rest ≡ bytes_at mid.place.files stream → Names mid.place.files new.place.source stream → new.place.has_input ≡ true → KeepsOutput mid.place new.place → IsReopened stream (OnFile to) old new
+reopened_file stream to old mid new other made target output link_made link rest source input keeps = record {
+  rest = rest ∙ ap (λ (o : Option Files). bytes_at o stream) made ∙ other_file to stream [] old.place.files other;
+  source = names_before to stream [] old.place.files mid.place.files new.place.source made source;
   has_input = input;
-  has_output = keeps.has_output ∙ output;
+  way_open = record {
+    files = keeps.files ∙ made;
+    target = subst (λ (o : Option (List ℕ)). Names old.place.files o to) (sym keeps.target) target;
+    has_output = keeps.has_output ∙ output;
+    link = link ∙ link_made;
+  };
 }
+
+reopened_link : (stream address : List ℕ) (old mid new : Routes) → mid.place ≡ old.place → mid.link.sent ≡ old.link.sent → mid.link.aimed ≡ option_map (λ _. address) old.link.aimed → old.link.faults ≤ mid.link.faults → new.link ≡ mid.link
+    → new.place.rest ≡ bytes_at mid.place.files stream → Names mid.place.files new.place.source stream → new.place.has_input ≡ true → KeepsOutput mid.place new.place → IsReopened stream (OnLink address) old new
+reopened_link stream address old mid new same sent aimed later link rest source input keeps =
+    let files = ap (λ (s : Seen). s.files) same in
+    record {
+      rest = rest ∙ ap (λ (o : Option Files). bytes_at o stream) files;
+      source = subst (λ (o : Option Files). Names o new.place.source stream) files source;
+      has_input = input;
+      way_open = record {
+        files = keeps.files ∙ files;
+        sent = ap (λ l. l.sent) link ∙ sent;
+        aimed = ap (λ l. l.aimed) link ∙ aimed;
+        later = let e = ap (λ l. l.faults) link in omega (arith, e, later);
+      };
+    }
+
+pub reopened : (stream : List ℕ) (way : Way) (old mid new : Routes) → IsOther way stream → IsOpened way old mid → OnlyOpens old mid → new.link ≡ mid.link
+    → new.place.rest ≡ bytes_at mid.place.files stream → Names mid.place.files new.place.source stream → new.place.has_input ≡ true → KeepsOutput mid.place new.place → IsReopened stream way old new
+reopened stream (OnFile to) old mid new other opened opens link rest source input keeps = reopened_file stream to old mid new other opened.files opened.target opened.output opened.link link rest source input keeps
+reopened stream (OnLink address) old mid new other opened opens link rest source input keeps =
+    reopened_link stream address old mid new opened.place opened.others.sent opened.aimed opens.link_later link rest source input keeps
 
 -- no files are told that could grow
 untold_grows : (target : Option (List ℕ)) (bytes : List ℕ) (old new : Option Files) → old ≡ None → Grows target bytes old new → new ≡ None
 untold_grows None bytes old new none grows = grows ∙ none
 untold_grows (Some name) bytes old new none grows = grows ∙ ap (option_map (appended name bytes)) none
 
-module _ (stream to : List ℕ) (old mid new : Seen) (opened : IsReopened stream to old mid) where
-  -- what is left of the input, where the files are told
-  rest_is : (f : Files) (b : List ℕ) → old.files ≡ Some f → IsFile old.files stream b → mid.rest ≡ Some b
-  rest_is f b told is =
-      let known : f stream ≡ Some b = subst (λ (o : Option Files). IsFile o stream b) told is in
-      opened.rest ∙ ap (λ (o : Option Files). bytes_at o stream) told ∙ known
+-- what is left of the input, where the files are told
+rest_is : (stream : List ℕ) (way : Way) (old mid : Routes) → IsReopened stream way old mid → (f : Files) (b : List ℕ) → old.place.files ≡ Some f → IsFile old.place.files stream b → mid.place.rest ≡ Some b
+rest_is stream way old mid opened f b told is =
+    let known : f stream ≡ Some b = subst (λ (o : Option Files). IsFile o stream b) told is in
+    opened.rest ∙ ap (λ (o : Option Files). bytes_at o stream) told ∙ known
 
-  mid_untold : old.files ≡ None → mid.files ≡ None
-  mid_untold none = opened.files ∙ ap (option_map (with_file to [])) none
+-- what never comes where the files are told
+untold : (stream : List ℕ) (way : Way) (old mid : Routes) → IsReopened stream way old mid → (b : List ℕ) → IsFile old.place.files stream b → (mid.place.rest ≡ Some b → ⊥) → old.place.files ≡ None
+untold stream way old mid opened b is never = by old.place.files refl
+  where
+    by : (o : Option Files) → old.place.files ≡ o → old.place.files ≡ None
+    by None e = e
+    by (Some f) e = absurd (never (rest_is stream way old mid opened f b e is))
 
-  named : (bytes : List ℕ) → Puts bytes mid new → new.files ≡ option_map (with_file to bytes) old.files
-  named bytes puts = Grows-named to bytes mid.target old.files mid.files new.files opened.files opened.target puts
+-- what holds where the files are told
+if_told : (stream : List ℕ) (way : Way) (old mid : Routes) → IsReopened stream way old mid → (b : List ℕ) → IsFile old.place.files stream b → {P : Type 0} → (mid.place.rest ≡ Some b → P) → IfSome old.place.files (λ _. P)
+if_told stream way old mid opened b is {P = P} holds = by old.place.files refl
+  where
+    by : (o : Option Files) → old.place.files ≡ o → IfSome o (λ _. P)
+    by None e = tt
+    by (Some f) e = holds (rest_is stream way old mid opened f b e is)
+
+module _ (stream to : List ℕ) (old mid new : Routes) (opened : IsReopened stream (OnFile to) old mid) where
+  mid_untold : old.place.files ≡ None → mid.place.files ≡ None
+  mid_untold none = opened.way_open.files ∙ ap (option_map (with_file to [])) none
+
+  named : (bytes : List ℕ) → Puts bytes mid.place new.place → new.place.files ≡ option_map (with_file to bytes) old.place.files
+  named bytes puts = Grows-named to bytes mid.place.target old.place.files mid.place.files new.place.files opened.way_open.files opened.way_open.target puts
 
   -- all was put, where the rest of the input is told; whatever was put, where it is not
-  pub all_sent : (text some b : List ℕ) → IsFile old.files stream b → (mid.rest ≡ Some b → Puts text mid new) → Puts some mid new → Wrote (record { name = to; bytes = text } ∷ []) None old new
-  all_sent text some b is told puts = by old.files refl
+  all_put : (text some b : List ℕ) → IsFile old.place.files stream b → (mid.place.rest ≡ Some b → Puts text mid.place new.place) → Puts some mid.place new.place → Wrote (record { name = to; bytes = text } ∷ []) None old.place new.place
+  all_put text some b is told puts = by old.place.files refl
     where
-      by : (o : Option Files) → old.files ≡ o → new.files ≡ option_map (with_file to text) old.files
-      by None e = untold_grows mid.target some mid.files new.files (mid_untold e) puts ∙ sym (ap (option_map (with_file to text)) e)
-      by (Some f) e = named text (told (rest_is f b e is))
+      by : (o : Option Files) → old.place.files ≡ o → new.place.files ≡ option_map (with_file to text) old.place.files
+      by None e = untold_grows mid.place.target some mid.place.files new.place.files (mid_untold e) puts ∙ sym (ap (option_map (with_file to text)) e)
+      by (Some f) e = named text (told (rest_is stream (OnFile to) old mid opened f b e is))
 
   -- a front of it
-  pub part_sent : (text some b : List ℕ) → IsFile old.files stream b → (mid.rest ≡ Some b → PutsPart text mid new) → PutsPart some mid new
-      → Wrote [] None old new ⊎ Wrote [] (Some (record { name = to; bytes = text })) old new
-  part_sent text some b is told part = by old.files refl
+  part_put : (text some b : List ℕ) → IsFile old.place.files stream b → (mid.place.rest ≡ Some b → PutsPart text mid.place new.place) → PutsPart some mid.place new.place
+      → Wrote [] None old.place new.place ⊎ Wrote [] (Some (record { name = to; bytes = text })) old.place new.place
+  part_put text some b is told part = by old.place.files refl
     where
-      by : (o : Option Files) → old.files ≡ o → Wrote [] None old new ⊎ Wrote [] (Some (record { name = to; bytes = text })) old new
-      by None e = inl (Wrote-nothing old new (untold_grows mid.target part.0 mid.files new.files (mid_untold e) part.2 ∙ sym e))
-      by (Some f) e = let p = told (rest_is f b e is) in inr (p.0, p.1, named p.0 p.2)
+      by : (o : Option Files) → old.place.files ≡ o → Wrote [] None old.place new.place ⊎ Wrote [] (Some (record { name = to; bytes = text })) old.place new.place
+      by None e = inl (Wrote-nothing old.place new.place (untold_grows mid.place.target part.0 mid.place.files new.place.files (mid_untold e) part.2 ∙ sym e))
+      by (Some f) e = let p = told (rest_is stream (OnFile to) old mid opened f b e is) in inr (p.0, p.1, named p.0 p.2)
 
-  -- what never comes where the files are told
-  pub untold : (b : List ℕ) → IsFile old.files stream b → (mid.rest ≡ Some b → ⊥) → old.files ≡ None
-  untold b is never = by old.files refl
+-- a fault on the files that were opened
+fault_again : (stream : List ℕ) (way : Way) (old mid new : Routes) → IsReopened stream way old mid → old.place.faults ≤ mid.place.faults → PassFailed way mid.place new.place → HadFault old.place new.place (IsOfReopened stream way)
+fault_again stream (OnFile to) old mid new opened later had = HadFault-since old.place mid.place new.place _ _ later of had
+  where
+    of : (b : Blame) → Blames Read mid.place.source b ⊎ IsOfOutput (OnFile to) mid.place b → IsOfReopened stream (OnFile to) b
+    of b (inl read) = inl (Blames-named old.place.files mid.place.source stream Read b opened.source read)
+    of b (inr written) = inr (Blames-named old.place.files mid.place.target to Written b opened.way_open.target written)
+fault_again stream (OnLink address) old mid new opened later had = HadFault-since old.place mid.place new.place _ _ later of had
+  where
+    of : (b : Blame) → Blames Read mid.place.source b ⊎ IsOfOutput (OnLink address) mid.place b → IsOfReopened stream (OnLink address) b
+    of b (inl read) = Blames-named old.place.files mid.place.source stream Read b opened.source read
+    of b (inr written) = absurd written
+
+-- a blame on the address that the link was aimed at
+blames_aimed : (address : List ℕ) (told aimed : Option (List ℕ)) (b : LinkBlame) → aimed ≡ option_map (λ _. address) told → Blames Aimed aimed b → b ≡ (Aimed, address)
+blames_aimed address None aimed b is blames = absurd (none_some b (subst (λ (o : Option (List ℕ)). Blames Aimed o b) is blames))
+  where
+    none_some : {A : Type 0} (x : A) → None ≡ Some x → ⊥
+    none_some x e = cc
+blames_aimed address (Some a) aimed b is blames = sym (some_same (Aimed, address) b (subst (λ (o : Option (List ℕ)). Blames Aimed o b) is blames))
+  where
+    some_same : {A : Type 0} (x y : A) → Some x ≡ Some y → x ≡ y
+    some_same x y e = cc
+
+if_some : {A : Type 0} (o : Option A) (P Q : A → Type 0) → ((x : A) → P x → Q x) → IfSome o P → IfSome o Q
+if_some None P Q h p = p
+if_some (Some x) P Q h p = h x p
+
+-- a fault of the link that was aimed
+aimed_again : (stream : List ℕ) (way : Way) (old mid new : Routes) → IsReopened stream way old mid → SendingFailed way mid.link new.link → AimedFailed way old.link new.link
+aimed_again stream (OnFile to) old mid new opened had = absurd had
+aimed_again stream (OnLink address) old mid new opened had = record {
+  rose = Rose-since old.link.faults mid.link.faults new.link.faults opened.way_open.later had.rose;
+  blame = if_some new.link.blamed _ _ (λ b blames. blames_aimed address old.link.aimed mid.link.aimed b opened.way_open.aimed blames) had.blame;
+}
+
+resent : (p b : List ℕ) (source : Source) (marks : List GroupMark) → IsFirstPass p b source marks → (groups : List CutGroup) → AgreeBelow marks groups (length groups) → HaveTables source groups → AreResent p b groups (sent_datagrams source groups)
+resent p b source marks first groups agree tables = record {
+  source = source;
+  first = subst (IsFirstPass p b source) first.marks_are first;
+  agree = subst (λ (ms : List GroupMark). AgreeBelow ms groups (length groups)) first.marks_are agree;
+  tables = tables;
+  are = refl;
+}
+
+-- what the link has sent since it was aimed, it has sent since before
+sent_since : (datagrams : List (List ℕ)) (old mid new : LinkSeen) → mid.sent ≡ old.sent → Sent datagrams mid new → Sent datagrams old new
+sent_since datagrams old mid new same sent = sent ∙ ap (option_map (λ (before : List (List ℕ)). before ++ datagrams)) same
+
+first_since : (datagrams : List (List ℕ)) (old mid new : LinkSeen) → mid.sent ≡ old.sent → SentFirst datagrams mid new → SentFirst datagrams old new
+first_since datagrams old mid new same sent = (sent.0, sent.1, sent_since sent.0 old mid new same sent.2)
+
+module _ (p b stream : List ℕ) (source : Source) (marks : List GroupMark) (first : IsFirstPass p b source marks) (old mid new : Routes) (passes : OnlyPasses mid new) (is : IsFile old.place.files stream b) where
+  -- all packets, on each way
+  file_sent : (to : List ℕ) → IsReopened stream (OnFile to) old mid → HasSentAll (OnFile to) source marks mid new → Wrote (record { name = to; bytes = datagrams_text (session_of p b) } ∷ []) None old.place new.place
+  file_sent to opened sent =
+      all_put stream to old mid new opened (datagrams_text (session_of p b)) (entries_of (sent_datagrams source sent.all.groups)) b is
+      (λ rest. subst (λ (t : List ℕ). Puts t mid.place new.place) (ap entries_of (told_groups (OnFile to) p b source marks mid new first rest sent) ∙ entries_are_text (session_of p b)) sent.all.sent.sends.0)
+      sent.all.sent.sends.0
+
+  link_sent : (address : List ℕ) → IsReopened stream (OnLink address) old mid → HasSentAll (OnLink address) source marks mid new → LinkSentAll address p b old.place.files old.link new.link
+  link_sent address opened sent =
+      let datagrams = sent_datagrams source sent.all.groups in
+      record {
+        groups = sent.all.groups;
+        datagrams = datagrams;
+        resent = resent p b source marks first sent.all.groups sent.all.sent.agree sent.all.sent.tables;
+        all = subst (λ (ms : List GroupMark). (k : ℕ) → mark_at ms k ≡ mark_at (group_marks sent.all.groups) k) first.marks_are sent.all.agree;
+        aimed = passes.link.aimed ∙ opened.way_open.aimed;
+        sent = sent_since datagrams old.link mid.link new.link opened.way_open.sent sent.all.sent.sends.0;
+        told = if_told stream (OnLink address) old mid opened b is (λ rest. told_groups (OnLink address) p b source marks mid new first rest sent);
+      }
+
+  -- a front of them
+  file_part : (to : List ℕ) → IsReopened stream (OnFile to) old mid → (groups : List CutGroup) → (mid.place.rest ≡ Some b → SendsPart (OnFile to) (packets_in p b) mid new) → SendsPart (OnFile to) (sent_datagrams source groups) mid new
+      → Wrote [] None old.place new.place ⊎ Wrote [] (Some (record { name = to; bytes = datagrams_text (session_of p b) })) old.place new.place
+  file_part to opened groups told part =
+      part_put stream to old mid new opened (datagrams_text (session_of p b)) (entries_of (sent_datagrams source groups)) b is
+      (λ rest. subst (λ (t : List ℕ). PutsPart t mid.place new.place) (entries_are_text (session_of p b)) (told rest).0)
+      part.0
+
+  link_part : (address : List ℕ) → IsReopened stream (OnLink address) old mid → (groups : List CutGroup) → AgreeBelow marks groups (length groups) → HaveTables source groups
+      → (mid.place.rest ≡ Some b → SendsPart (OnLink address) (packets_in p b) mid new) → SendsPart (OnLink address) (sent_datagrams source groups) mid new → LinkSentFirst address p b old.place.files old.link new.link
+  link_part address opened groups agree tables told part = record {
+    groups = groups;
+    datagrams = sent_datagrams source groups;
+    resent = resent p b source marks first groups agree tables;
+    aimed = passes.link.aimed ∙ opened.way_open.aimed;
+    sent = first_since (sent_datagrams source groups) old.link mid.link new.link opened.way_open.sent part.0;
+    told = if_told stream (OnLink address) old mid opened b is (λ rest. first_since (packets_in p b) old.link mid.link new.link opened.way_open.sent (told rest).0);
+  }
+
+module _ (stream : List ℕ) (way : Way) (old mid new : Routes) (source : Source) (marks : List GroupMark) (opened : IsReopened stream way old mid) (passes : OnlyPasses mid new) where
+  pub session_sent : (r : Result Unit SendFault) → OnOk r (HasSentAll way source marks mid new) → OnOk r (SessionSent source marks stream way old new)
+  session_sent (Err e) sent = tt
+  session_sent (Ok x) sent = by way opened sent
     where
-      by : (o : Option Files) → old.files ≡ o → old.files ≡ None
-      by None e = e
-      by (Some f) e = absurd (never (rest_is f b e is))
+      by : (w : Way) → IsReopened stream w old mid → HasSentAll w source marks mid new → SessionSent source marks stream w old new
+      by (OnFile to) o s = λ p b first is. file_sent p b stream source marks first old mid new passes is to o s
+      by (OnLink address) o s = (λ p b first is. link_sent p b stream source marks first old mid new passes is address o s, s.all.sent.sends.1 ∙ o.way_open.files)
 
-  either_of : (b : Blame) → Blames Read mid.source b ⊎ Blames Written mid.target b → IsOfReopened stream to b
-  either_of b (inl read) = inl (Blames-named old.files mid.source stream Read b opened.source read)
-  either_of b (inr written) = inr (Blames-named old.files mid.target to Written b opened.target written)
+  left_part : SentPart way source marks mid new → SessionLeft source marks stream way old new
+  left_part left = by way opened left
+    where
+      by : (w : Way) → IsReopened stream w old mid → SentPart w source marks mid new → SessionLeft source marks stream w old new
+      by (OnFile to) o s = λ p b first is. file_part p b stream source marks first old mid new passes is to o s.part.groups (λ rest. told_part (OnFile to) p b source marks mid new first rest s) s.part.sends
+      by (OnLink address) o s = (
+        λ p b first is. inr (link_part p b stream source marks first old mid new passes is address o s.part.groups s.part.agree s.part.tables (λ rest. told_part (OnLink address) p b source marks mid new first rest s) s.part.sends),
+        s.part.sends.1 ∙ o.way_open.files,
+      )
 
-  -- a fault on the files that were opened
-  pub fault_again : old.faults ≤ mid.faults → HadFault mid new (λ b. Blames Read mid.source b ⊎ Blames Written mid.target b) → HadFault old new (IsOfReopened stream to)
-  fault_again later had = HadFault-since old mid new _ _ later either_of had
+  left_change : (change : _) → HasSentToChange way source marks change mid new → SessionLeft source marks stream way old new
+  left_change change left = by way opened left
+    where
+      by : (w : Way) → IsReopened stream w old mid → HasSentToChange w source marks change mid new → SessionLeft source marks stream w old new
+      by (OnFile to) o s = λ p b first is.
+          file_part p b stream source marks first old mid new passes is to o s.change_is.least.before (λ rest. absurd (told_changed (OnFile to) p b source marks change mid new first rest s)) (part_whole (OnFile to) (sent_datagrams source s.change_is.least.before) mid new s.change_is.sent.sends)
+      by (OnLink address) o s = (
+        λ p b first is. inr
+            (link_part p b stream source marks first old mid new passes is address o s.change_is.least.before s.change_is.sent.agree s.change_is.sent.tables (λ rest. absurd (told_changed (OnLink address) p b source marks change mid new first rest s))
+            (part_whole (OnLink address) (sent_datagrams source s.change_is.least.before) mid new s.change_is.sent.sends)),
+        s.change_is.sent.sends.1 ∙ o.way_open.files,
+      )
 
--- the file is empty, or was not made
-pub left_empty : (to text : List ℕ) (old new : Seen) → IsLeftEmpty to old new → Wrote [] None old new ⊎ Wrote [] (Some (record { name = to; bytes = text })) old new
-left_empty to text old new (inl same) = inl (Wrote-nothing old new same)
-left_empty to text old new (inr empty) = inr ([], (text, refl), empty)
+  pub session_left : (r : Result Unit SendFault) → IfErr r (IsSendStop way source marks mid new) → OnErr r (SessionLeft source marks stream way old new)
+  session_left (Ok x) stops = tt
+  session_left (Err (Stopped stop)) stops = left_part stops.1
+  session_left (Err (Refused fault)) stops = absurd stops
+  session_left (Err (Changed change)) stops = left_change change stops
 
-module _ (stream to : List ℕ) (old mid new : Seen) (source : Source) (marks : List GroupMark) (opened : IsReopened stream to old mid) where
-  abbrev text_of : List ℕ → List ℕ → List ℕ
-  text_of p b = datagrams_text (session_of p b)
+  -- exactly the packets of the groups before a change
+  sent_before : (change : _) → (s : HasSentToChange way source marks change mid new) → (p b : List ℕ) → IsFirstPass p b source marks → HasSentBefore p b s.change_is.least.before way old.link new.link
+  sent_before change sent p b first = by way opened sent
+    where
+      by : (w : Way) → IsReopened stream w old mid → (s : HasSentToChange w source marks change mid new) → HasSentBefore p b s.change_is.least.before w old.link new.link
+      by (OnFile to) o s = s.change_is.sent.sends.1 ∙ o.way_open.link
+      by (OnLink address) o s =
+          let datagrams = sent_datagrams source s.change_is.least.before in (
+            datagrams,
+            resent p b source marks first s.change_is.least.before s.change_is.sent.agree s.change_is.sent.tables,
+            passes.link.aimed ∙ o.way_open.aimed,
+            sent_since datagrams old.link mid.link new.link o.way_open.sent s.change_is.sent.sends.0,
+          )
 
-  -- what is told of the answer, where the input is the stream of the first pass
-  abbrev Tells : Result Unit SendFault → Type 0
-  Tells r = (p b : List ℕ) → IsFirstPass p b source marks → mid.rest ≡ Some b → MatchResult r (λ _. Puts (text_of p b) mid new) (IsToldStop (text_of p b) mid new)
+  pub session_stops : (r : Result Unit SendFault) → old.place.faults ≤ mid.place.faults → IfErr r (IsSendStop way source marks mid new) → IfErr r (SessionStops source marks stream way old new)
+  session_stops (Ok x) later stops = tt
+  session_stops (Err (Stopped stop.NoMemory)) later stops = tt
+  session_stops (Err (Stopped stop.Place)) later stops = fault_again stream way old mid new opened later stops.0
+  session_stops (Err (Stopped stop.Link)) later stops = aimed_again stream way old mid new opened stops.0
+  session_stops (Err (Stopped stop.Out)) later stops = absurd stops.0
+  session_stops (Err (Refused fault)) later stops = absurd stops
+  session_stops (Err (Changed change)) later stops = (
+    stops.stream,
+    stops.change_is.least,
+    λ p b first is. (untold stream way old mid opened b is (λ rest. told_changed way p b source marks change mid new first rest stops), sent_before change stops p b first),
+  )
 
-  abbrev Faults : Type 0
-  Faults = HadFault mid new (λ b. Blames Read mid.source b ⊎ Blames Written mid.target b)
+-- the route could not be made ready, or the stream not be opened again
+pub not_reopened : (stream : List ℕ) (way : Way) (old new : Routes) (source : Source) (marks : List GroupMark) → IsLeftEmpty way old new → SessionLeft source marks stream way old new
+not_reopened stream (OnFile to) old new source marks (inl same) = λ p b first is. inl (Wrote-nothing old.place new.place same)
+not_reopened stream (OnFile to) old new source marks (inr empty) = λ p b first is. inr ([], (datagrams_text (session_of p b), refl), empty)
+not_reopened stream (OnLink address) old new source marks left = (λ p b first is. inl left.1, left.0)
 
-  pub session_sent : (r : Result Unit SendFault) → OnOk r (HasSentAll source marks mid new) → Tells r → OnOk r (SessionSent source marks stream to old new)
-  session_sent (Ok x) sent told = λ p b first is. all_sent stream to old mid new opened (text_of p b) (sent_text source sent.all.groups) b is (told p b first) sent.all.sent.puts
-  session_sent (Err e) sent told = tt
+-- the way is open
+pub reopened_open : (stream : List ℕ) (way : Way) (old mid : Routes) → IsReopened stream way old mid → IsOpen way mid
+reopened_open stream (OnFile to) old mid opened = opened.way_open.has_output
+reopened_open stream (OnLink address) old mid opened = tt
 
-  pub session_left : (r : Result Unit SendFault) → IfErr r (IsSendStop source marks mid new Faults) → Tells r → OnErr r (SessionLeft source marks stream to old new)
-  session_left (Ok x) stops told = tt
-  session_left (Err (Stopped stop)) stops told = λ p b first is. part_sent stream to old mid new opened (text_of p b) (sent_text source stops.1.part.groups) b is (told p b first) stops.1.part.puts
-  session_left (Err (Refused fault)) stops told = absurd stops
-  session_left (Err (Changed change)) stops told = λ p b first is.
-      let sent = stops.change_is.sent in
-      part_sent stream to old mid new opened (text_of p b) (sent_text source stops.change_is.least.before) b is (λ rest. absurd (told p b first rest)) (part_whole (sent_text source stops.change_is.least.before) mid new sent.puts)
+-- what the link is left as
+file_link : (to : List ℕ) (mid new : Routes) (source : Source) (marks : List GroupMark) (r : Result Unit SendFault) → OnOk r (HasSentAll (OnFile to) source marks mid new) → IfErr r (IsSendStop (OnFile to) source marks mid new) → new.link ≡ mid.link
+file_link to mid new source marks (Ok x) sent stops = sent.all.sent.sends.1
+file_link to mid new source marks (Err (Stopped stop)) sent stops = stops.1.part.sends.1
+file_link to mid new source marks (Err (Refused fault)) sent stops = absurd stops
+file_link to mid new source marks (Err (Changed change)) sent stops = stops.change_is.sent.sends.1
 
-  pub session_stops : (r : Result Unit SendFault) → old.faults ≤ mid.faults → IfErr r (IsSendStop source marks mid new Faults) → Tells r → IfErr r (SessionStops source marks stream to old new)
-  session_stops (Ok x) later stops told = tt
-  session_stops (Err (Stopped stop.NoMemory)) later stops told = tt
-  session_stops (Err (Stopped stop.Failed)) later stops told = fault_again stream to old mid new opened later stops.0
-  session_stops (Err (Refused fault)) later stops told = absurd stops
-  session_stops (Err (Changed change)) later stops told = (stops.stream, stops.change_is.least, λ p b first is. untold stream to old mid new opened b is (told p b first))
-
--- the files could not be opened again
-pub not_reopened : (stream to : List ℕ) (old new : Seen) (source : Source) (marks : List GroupMark) → IsLeftEmpty to old new → SessionLeft source marks stream to old new
-not_reopened stream to old new source marks left p b first is = left_empty to (datagrams_text (session_of p b)) old new left
+pub keeps_reopened : (way : Way) (old mid new : Routes) (source : Source) (marks : List GroupMark) (r : Result Unit SendFault) → KeepsLink way old.link mid.link → OnlyPasses mid new → OnOk r (HasSentAll way source marks mid new) → IfErr r (IsSendStop way source marks mid new)
+    → KeepsLink way old.link new.link
+keeps_reopened (OnFile to) old mid new source marks r keeps passes sent stops = file_link to mid new source marks r sent stops ∙ keeps
+keeps_reopened (OnLink address) old mid new source marks r keeps passes sent stops = record {
+  feed = passes.link.feed ∙ keeps.feed;
+  port = passes.link.port ∙ keeps.port;
+  bound = passes.link.bound ∙ keeps.bound;
+  later = omega (arith, keeps.later, passes.link_later);
+}

@@ -6,7 +6,6 @@ use Rattle.std.specs.Io.KnownBytes.{prepend_known, IsAtEnd}
 use Rattle.std.proofs.lemmas.List.{append-nil, length-append, length-map, map-append}
 use Rattle.std.proofs.lemmas.Option.{MatchOption-at_some, none-some, same_Some}
 use lib.Seq.{get_or-append_seam}
-use Rattle.pet_base.specs.declared.faults.Stop.{Stop}
 use Rattle.pet_base.specs.declared.limits.TheConstants.{MAX_STREAM}
 use Rattle.pet_base.specs.Seen.{Seen}
 use Rattle.mpeg_scan.specs.declared.piece.Piece.{Piece}
@@ -32,10 +31,12 @@ use Rattle.stream_session.specs.Accepted.{session_of, group_of}
 use Rattle.command_send.specs.declared.fault.SendFault.{SendFault}
 use Rattle.command_send.specs.declared.fault.SendFault.TheVariants.{Stopped}
 use Rattle.command_send.specs.declared.sent_group.Change.{Change}
-use Rattle.session_packets.specs.Packets.{datagrams_text, AreEncoders, group_entries}
-use Rattle.command_files.specs.Outputs.{IsPrefix, Puts, PutsPart}
-use Rattle.command_send.specs.Sending.{encoding_of, encodings_from, sent_text, IsFront, IsNext, IsLost, IsChange, IsAllSent, IsTaken, HasSentAll, HasSentToChange, SentPart, IsFirstPass, IsToldStop}
-use Rattle.command_files.specs.laws.PartLaws.{part_within}
+use Rattle.session_packets.specs.Packets.{session_datagrams, AreEncoders, group_datagrams}
+use Rattle.datagram_route.specs.declared.fault.RouteStop.{RouteStop}
+use Rattle.datagram_route.specs.Sending.{Routes, AreFirst, Sends, SendsPart}
+use Rattle.datagram_route.specs.Way.{Way}
+use Rattle.command_send.specs.Sending.{encoding_of, encodings_from, sent_datagrams, IsFront, IsNext, IsLost, IsChange, IsTaken, HasSentAll, HasSentToChange, SentPart, IsFirstPass, IsToldStop}
+use Rattle.datagram_route.specs.laws.SendingLaws.{part_within}
 use Rattle.session_packets.specs.laws.DatagramLaws.{groups_make_datagrams}
 use Rattle.command_send.proofs.FoundGroups.{found_front}
 use Rattle.command_send.proofs.ReadPortions.{short_stream}
@@ -117,17 +118,17 @@ session_here p b source marks f = ap₂ (λ (n : List ℕ) (r : Priorities). mad
     made : List ℕ → Priorities → Session
     made n r = record { number = n; groups = map (group_of r b) (cuts_of_stream r b) }
 
--- the entries of all groups are the datagram file
-text_all : (p b : List ℕ) (source : Source) (marks : List GroupMark) → IsFirstPass p b source marks → sent_text source (cut_groups source.priority b) ≡ datagrams_text (session_of p b)
-unfolding sent_text
+-- the datagrams of all groups are those of the session
+text_all : (p b : List ℕ) (source : Source) (marks : List GroupMark) → IsFirstPass p b source marks → sent_datagrams source (cut_groups source.priority b) ≡ session_datagrams (session_of p b)
+unfolding sent_datagrams
 text_all p b source marks f =
     groups_make_datagrams (session_with source b) (encodings_from source 0 (cut_groups source.priority b)) (are_encoders source b (tables_here p b source marks f))
-    ∙ ap datagrams_text (session_here p b source marks f)
+    ∙ ap session_datagrams (session_here p b source marks f)
 
--- and those of its first groups stand at its front
-text_front : (p b : List ℕ) (source : Source) (marks : List GroupMark) → IsFirstPass p b source marks → (groups : List CutGroup) → IsFront source.priority b groups → IsPrefix (sent_text source groups) (datagrams_text (session_of p b))
+-- and those of its first groups are the first of them
+text_front : (p b : List ℕ) (source : Source) (marks : List GroupMark) → IsFirstPass p b source marks → (groups : List CutGroup) → IsFront source.priority b groups → AreFirst (sent_datagrams source groups) (session_datagrams (session_of p b))
 text_front p b source marks f groups front =
-    (flat_map group_entries (encodings_from source (length groups) front.0), sym (text_all p b source marks f) ∙ ap (sent_text source) front.1 ∙ text_append source groups front.0)
+    (flat_map group_datagrams (encodings_from source (length groups) front.0), sym (text_all p b source marks f) ∙ ap (sent_datagrams source) front.1 ∙ text_append source groups front.0)
 
 taken_some : (stream b : List ℕ) (now : Option (List ℕ)) → Some b ≡ prepend_known stream now → length b ≤ MAX_STREAM → (length stream ≤ MAX_STREAM → IsAtEnd now) → stream ≡ b
 taken_some stream b None e short whole = absurd (none-some b (sym e))
@@ -147,16 +148,21 @@ mark_seam groups g later =
     ∙ ap (λ n. get_or (group_marks groups ++ mark_of g.bytes ∷ group_marks later) n no_mark) (sym (length-map groups (λ (x : CutGroup). mark_of x.bytes)))
     ∙ get_or-append_seam (group_marks groups) (mark_of g.bytes) (group_marks later) no_mark
 
-pub told_sent : (p b : List ℕ) (source : Source) (marks : List GroupMark) (old new : Seen) → IsFirstPass p b source marks → old.rest ≡ Some b → HasSentAll source marks old new → Puts (datagrams_text (session_of p b)) old new
-told_sent p b source marks old new f told h =
-    let all = subst (λ s. IsAllSent source marks s old new) (taken_told p b h.stream source marks old new f told h.taken) h.all in
-    let groups : all.groups ≡ cut_groups source.priority b = sym (all.all.all (cuttable_here p b source marks f)) in
-    subst (λ (t : List ℕ). Puts t old new) (ap (sent_text source) groups ∙ text_all p b source marks f) all.sent.puts
+pub told_groups : (way : Way) (p b : List ℕ) (source : Source) (marks : List GroupMark) (old new : Routes) → IsFirstPass p b source marks → old.place.rest ≡ Some b → (h : HasSentAll way source marks old new)
+    → sent_datagrams source h.all.groups ≡ session_datagrams (session_of p b)
+told_groups way p b source marks old new f told h =
+    let same = taken_told p b h.stream source marks old.place new.place f told h.taken in
+    let groups : h.all.groups ≡ cut_groups source.priority b =
+    sym (h.all.all.all (subst (IsCuttable source.priority) (sym same) (cuttable_here p b source marks f))) ∙ ap (cut_groups source.priority) same in
+    ap (sent_datagrams source) groups ∙ text_all p b source marks f
 
-pub told_part : (p b : List ℕ) (source : Source) (marks : List GroupMark) (old new : Seen) → IsFirstPass p b source marks → old.rest ≡ Some b → SentPart source marks old new → PutsPart (datagrams_text (session_of p b)) old new
-told_part p b source marks old new f told h =
-    let front = MatchOption-at_some {o = old.rest} (Unit {0}) (λ bytes. IsFront source.priority bytes h.part.groups) b told h.told in
-    part_within (sent_text source h.part.groups) (datagrams_text (session_of p b)) old new (text_front p b source marks f h.part.groups front) h.part.puts
+pub told_sent : (way : Way) (p b : List ℕ) (source : Source) (marks : List GroupMark) (old new : Routes) → IsFirstPass p b source marks → old.place.rest ≡ Some b → HasSentAll way source marks old new → Sends way (session_datagrams (session_of p b)) old new
+told_sent way p b source marks old new f told h = subst (λ (t : List (List ℕ)). Sends way t old new) (told_groups way p b source marks old new f told h) h.all.sent.sends
+
+pub told_part : (way : Way) (p b : List ℕ) (source : Source) (marks : List GroupMark) (old new : Routes) → IsFirstPass p b source marks → old.place.rest ≡ Some b → SentPart way source marks old new → SendsPart way (session_datagrams (session_of p b)) old new
+told_part way p b source marks old new f told h =
+    let front = MatchOption-at_some {o = old.place.rest} (Unit {0}) (λ bytes. IsFront source.priority bytes h.part.groups) b told h.told in
+    part_within way (sent_datagrams source h.part.groups) (session_datagrams (session_of p b)) old new (text_front p b source marks f h.part.groups front) h.part.sends
 
 tables_by : (priority : Priorities) (s : List ℕ) (groups : List (List Piece)) → tables_of priority (cuts_of priority groups) ≡ map (λ (g : CutGroup). table_of priority g.cut) (map (cut_group priority s) groups)
 tables_by priority s [] = refl
@@ -189,9 +195,9 @@ same_lost p b source marks before group second f l =
     let groups = l.all.all (cuttable_here p b source marks f) in
     ap (λ ms. mark_at ms group) (marks_here p b source marks f ∙ ap group_marks groups) ∙ mark_past before group l.beyond ∙ sym l.none
 
-pub told_changed : (p b : List ℕ) (source : Source) (marks : List GroupMark) (change : Change) (old new : Seen) → IsFirstPass p b source marks → old.rest ≡ Some b → HasSentToChange source marks change old new → ⊥
-told_changed p b source marks change old new f told h =
-    let at = subst (λ s. IsChange source marks s change old new) (taken_told p b h.stream source marks old new f told h.taken) h.change_is in
+pub told_changed : (way : Way) (p b : List ℕ) (source : Source) (marks : List GroupMark) (change : Change) (old new : Routes) → IsFirstPass p b source marks → old.place.rest ≡ Some b → HasSentToChange way source marks change old new → ⊥
+told_changed way p b source marks change old new f told h =
+    let at = subst (λ s. IsChange way source marks s change old new) (taken_told p b h.stream source marks old.place new.place f told h.taken) h.change_is in
     let least = at.least in
     let same : mark_at marks change.group ≡ change.second = elim least.second_is [
       | inl n ↦ same_next p b source marks least.before change.group change.second f n
@@ -200,7 +206,7 @@ told_changed p b source marks change old new f told h =
     least.differ (least.first_is ∙ same)
 
 -- an early stop, through `?`
-pub told_stop : {A : Type 0} (P : A → Type 0) (text : List ℕ) (old new : Seen) (stop : Stop) (result : Result A SendFault) → IsErrAnd result (λ answer. answer ≡ Stopped stop) → PutsPart text old new
-    → MatchResult result P (IsToldStop text old new)
-told_stop P text old new stop (Ok x) is part = absurd is
-told_stop P text old new stop (Err answer) is part = subst (IsToldStop text old new) (sym is) part
+pub told_stop : {A : Type 0} (P : A → Type 0) (way : Way) (datagrams : List (List ℕ)) (old new : Routes) (stop : RouteStop) (result : Result A SendFault) → IsErrAnd result (λ answer. answer ≡ Stopped stop) → SendsPart way datagrams old new
+    → MatchResult result P (IsToldStop way datagrams old new)
+told_stop P way datagrams old new stop (Ok x) is part = absurd is
+told_stop P way datagrams old new stop (Err answer) is part = subst (IsToldStop way datagrams old new) (sym is) part

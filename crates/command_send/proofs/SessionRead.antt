@@ -1,8 +1,13 @@
 -- The session that was read with its marks, and what of it was sent.
-use Rattle.std.proofs.Common.{◌≡◌, ℕ, ◌+◌, ◌*◌, ◌≤◌, List, [], ◌∷◌, length, Option, Some, None, sym, ap, subst, ◌∙◌, inl, inr}
-use Rattle.std.specs.Prelude.{◌⊎◌, option_map, Result, Ok, Err, IfErr, IsErrAnd}
+use Rattle.std.proofs.Common.{◌≡◌, ℕ, ◌+◌, ◌*◌, ◌≤◌, List, [], ◌∷◌, length, Option, Some, None, refl, sym, ap, subst, ◌∙◌, inl, inr, arith}
+use Rattle.std.proofs.lemmas.List.{append-nil}
+use Rattle.std.specs.Prelude.{◌⊎◌, IfSome, option_map, Result, Ok, Err, IfErr, IsErrAnd}
 use Rattle.std.specs.List.{sum_by}
-use Rattle.pet_base.specs.declared.faults.Stop.TheVariants as stop
+use Rattle.datagram_route.specs.declared.fault.RouteStop.TheVariants as stop
+use Rattle.datagram_route.specs.RouteFaults.{AimedFailed}
+use Rattle.datagram_route.specs.Sending.{Routes, Sent, SentFirst}
+use Rattle.datagram_route.specs.Way.{Way, OnFile, OnLink}
+use Rattle.pet_base.specs.LinkSeen.{LinkSeen}
 use Rattle.pet_base.specs.Seen.{Seen, Files, Blame}
 use Rattle.pet_base.specs.laws.SeenLaws.{HadFault-since}
 use Rattle.stripe_plan.specs.Sizes.{Sizes}
@@ -10,19 +15,19 @@ use Rattle.priority_file.specs.Priority.{Priorities}
 use Rattle.priority_file.specs.Refusals.{priorities_of}
 use Rattle.stream_session.specs.declared.mark.GroupMark.{GroupMark}
 use Rattle.stream_session.specs.declared.source.Source.{Source}
-use Rattle.stream_session.specs.Marks.{marks_of}
+use Rattle.stream_session.specs.Marks.{mark_at, marks_of}
 use Rattle.stream_session.specs.Number.{session_number}
 use Rattle.stream_session.specs.Sources.{IsSource}
 use Rattle.plan_text.specs.PlanLines.{send_text}
 use Rattle.command_files.specs.Inputs.{IsFile}
 use Rattle.command_files.specs.Wrote.{File, Wrote, with_files}
-use Rattle.command_files.specs.laws.WroteLaws.{Wrote-as_front}
+use Rattle.command_files.specs.laws.WroteLaws.{Wrote-as_front, Wrote-nothing}
 use Rattle.command_send.specs.declared.fault.SendFault.{SendFault}
 use Rattle.command_send.specs.declared.fault.SendFault.TheVariants as fault
 use Rattle.command_send.specs.declared.sent_group.Change.{Change}
-use Rattle.command_send.specs.Sending.{words_cost, IsLeastChange, IsFirstPass}
+use Rattle.command_send.specs.Sending.{words_cost, AgreeBelow, AreFound, IsLeastChange, IsFirstPass, IsNext, IsLost}
 use Rattle.command_send.specs.SendParts.{IsOfReopened, IsReadFrom, SessionSent, SessionLeft, SessionStops, IsSendFault}
-use Rattle.command_send.specs.Sends.{packets_file, sent_line_text, HasPackets, LeavesFront, MayBlame, Costs}
+use Rattle.command_send.specs.Sends.{packets_file, sent_line_text, packets_in, HasPackets, HasSentBefore, KeepsLink, LeavesFront, LinkSentAll, LinkSentFirst, MayBlame, Costs}
 use Rattle.stream_session.specs.Sessions.{HasSession, tables_in}
 
 -- the line of a session that was read
@@ -47,58 +52,114 @@ session_read old stream priority source marks read =
       first = record { accepted = is.accepted; rules = is.rules; number = is.number; tables = is.tables; marks_are = read.1 };
     }
 
-module _ (old mid new : Seen) (stream priority to : List ℕ) (source : Source) (marks : List GroupMark) (s : HasSession old stream priority) (first : IsFirstPass s.priority_bytes s.stream_bytes source marks) (same : mid.files ≡ old.files) where
-  there : IsFile mid.files stream s.stream_bytes
+module _ (old mid new : Routes) (stream priority : List ℕ) (source : Source) (marks : List GroupMark) (s : HasSession old.place stream priority) (first : IsFirstPass s.priority_bytes s.stream_bytes source marks) (same : mid.place.files ≡ old.place.files) (link : mid.link ≡ old.link) where
+  there : IsFile mid.place.files stream s.stream_bytes
   there = subst (λ (o : Option Files). IsFile o stream s.stream_bytes) (sym same) s.stream_file
 
-  abbrev packets : File
-  packets = packets_file to s.priority_bytes s.stream_bytes
+  abbrev packets : List ℕ → File
+  packets to = packets_file to s.priority_bytes s.stream_bytes
 
   -- what is left of the session that was read
-  pub left_of : SessionLeft source marks stream to mid new → LeavesFront stream priority to old new
-  left_of left = by (left s.priority_bytes s.stream_bytes first there)
+  pub left_of : (way : Way) → SessionLeft source marks stream way mid new → LeavesFront stream priority way old new
+  left_of (OnFile to) left = by (left s.priority_bytes s.stream_bytes first there)
     where
-      by : Wrote [] None mid new ⊎ Wrote [] (Some packets) mid new → LeavesFront stream priority to old new
+      by : Wrote [] None mid.place new.place ⊎ Wrote [] (Some (packets to)) mid.place new.place → LeavesFront stream priority (OnFile to) old new
       by (inl none) = inl (none ∙ ap (option_map (with_files [])) same)
       by (inr front) = inr (s, (front.0, front.1, front.2 ∙ ap (option_map (with_files (record { name = to; bytes = front.0 } ∷ []))) same))
+  left_of (OnLink address) left = (by (left.0 s.priority_bytes s.stream_bytes first there), left.1 ∙ same)
+    where
+      by : (new.link.sent ≡ mid.link.sent) ⊎ LinkSentFirst address s.priority_bytes s.stream_bytes mid.place.files mid.link new.link
+          → (new.link.sent ≡ old.link.sent) ⊎ ((t : HasSession old.place stream priority) × LinkSentFirst address t.priority_bytes t.stream_bytes old.place.files old.link new.link)
+      by (inl none) = inl (none ∙ ap (λ l. l.sent) link)
+      by (inr sent) = inr (
+        s,
+        subst (λ (l : LinkSeen). LinkSentFirst address s.priority_bytes s.stream_bytes old.place.files l new.link) link
+            (subst (λ (o : Option Files). LinkSentFirst address s.priority_bytes s.stream_bytes o mid.link new.link) same sent),
+      )
 
   -- all of it was sent
-  pub sent_of : SessionSent source marks stream to mid new → HasPackets s to new
-  sent_of sent = sent s.priority_bytes s.stream_bytes first there ∙ ap (option_map (with_files (packets ∷ []))) same
+  pub sent_of : (way : Way) → SessionSent source marks stream way mid new → HasPackets old s way new
+  sent_of (OnFile to) sent = sent s.priority_bytes s.stream_bytes first there ∙ ap (option_map (with_files (packets to ∷ []))) same
+  sent_of (OnLink address) sent = (
+    subst (λ (l : LinkSeen). LinkSentAll address s.priority_bytes s.stream_bytes old.place.files l new.link) link
+        (subst (λ (o : Option Files). LinkSentAll address s.priority_bytes s.stream_bytes o mid.link new.link) same (sent.0 s.priority_bytes s.stream_bytes first there)),
+    sent.1 ∙ same,
+  )
 
   -- the change is one of the session's marks
   least_of : (again : List ℕ) (change : Change) → IsLeastChange source.priority source.tables.items marks again change
       → IsLeastChange (priorities_of s.priority_bytes) (tables_in s.priority_bytes s.stream_bytes) (marks_of (priorities_of s.priority_bytes) s.stream_bytes) again change
-  least_of again change least =
-      let p = s.priority_bytes in
-      let b = s.stream_bytes in
-      subst (λ (r : Priorities). IsLeastChange r (tables_in p b) (marks_of (priorities_of p) b) again change) first.rules
-      (subst (λ (ts : List Sizes). IsLeastChange source.priority ts (marks_of (priorities_of p) b) again change) first.tables
-      (subst (λ (ms : List GroupMark). IsLeastChange source.priority source.tables.items ms again change) first.marks_are least))
-
-  may_blame : (blame : Blame) → IsOfReopened stream to blame → MayBlame stream priority to old blame
-  may_blame blame (inl read) = inl (inr (read, s.priority_bytes, s.priority_file, s.session.priority_read))
-  may_blame blame (inr written) = inr (written, s)
-
-  -- why the sending stopped
-  pub stops_of : old.faults ≤ mid.faults → (f : SendFault) → SessionStops source marks stream to mid new f → IsSendFault old new stream priority to f
-  stops_of later (fault.Stopped stop.NoMemory) stops = tt
-  stops_of later (fault.Stopped stop.Failed) stops = HadFault-since old mid new _ _ later may_blame stops
-  stops_of later (fault.Source refused) stops = absurd stops
-  stops_of later (fault.Changed change) stops = record {
-    session = s;
-    again = stops.0;
-    least = least_of stops.0 change stops.1;
-    untold = sym same ∙ stops.2 s.priority_bytes s.stream_bytes first there;
+  least_of again change least = record {
+    before = least.before;
+    found = subst (λ (r : Priorities). AreFound r again least.before) first.rules least.found;
+    agree = subst (λ (ms : List GroupMark). AgreeBelow ms least.before change.group) first.marks_are least.agree;
+    first_is = least.first_is ∙ ap (λ (ms : List GroupMark). mark_at ms change.group) first.marks_are;
+    second_is =
+        let p = s.priority_bytes in
+        let b = s.stream_bytes in
+        subst (λ (r : Priorities). IsNext r (tables_in p b) (marks_of (priorities_of p) b) again least.before change.group change.second ⊎ IsLost r again least.before change.group change.second) first.rules
+        (subst (λ (ts : List Sizes). IsNext source.priority ts (marks_of (priorities_of p) b) again least.before change.group change.second ⊎ IsLost source.priority again least.before change.group change.second) first.tables
+        (subst (λ (ms : List GroupMark). IsNext source.priority source.tables.items ms again least.before change.group change.second ⊎ IsLost source.priority again least.before change.group change.second) first.marks_are least.second_is));
+    differ = least.differ;
   }
 
+  may_blame : (way : Way) (blame : Blame) → IsOfReopened stream way blame → MayBlame stream priority way old.place blame
+  may_blame (OnFile to) blame (inl read) = inl (inr (read, s.priority_bytes, s.priority_file, s.session.priority_read))
+  may_blame (OnFile to) blame (inr written) = inr (written, s)
+  may_blame (OnLink address) blame read = inr (read, s.priority_bytes, s.priority_file, s.session.priority_read)
+
+  -- why the sending stopped
+  pub stops_of : (way : Way) → old.place.faults ≤ mid.place.faults → (f : SendFault) → SessionStops source marks stream way mid new f → IsSendFault old new stream priority way f
+  unfolding least_of
+  stops_of way later (fault.Stopped stop.NoMemory) stops = tt
+  stops_of way later (fault.Stopped stop.Place) stops = HadFault-since old.place mid.place new.place _ _ later (may_blame way) stops
+  stops_of way later (fault.Stopped stop.Link) stops = (subst (λ (l : LinkSeen). AimedFailed way l new.link) link stops, s)
+  stops_of way later (fault.Stopped stop.Out) stops = absurd stops
+  stops_of way later (fault.Source refused) stops = absurd stops
+  stops_of way later (fault.Changed change) stops =
+      let told = stops.2 s.priority_bytes s.stream_bytes first there in
+      record {
+        session = s;
+        again = stops.0;
+        least = least_of stops.0 change stops.1;
+        untold = sym same ∙ told.0;
+        sent = subst (λ (l : LinkSeen). HasSentBefore s.priority_bytes s.stream_bytes stops.1.before way l new.link) link told.1;
+      }
+
   -- how many steps it may have counted
-  pub costs_of : (before after : ℕ) → after ≤ before + sum_by words_cost source.tables.items → Costs stream priority old before after
+  pub costs_of : (before after : ℕ) → after ≤ before + sum_by words_cost source.tables.items → Costs stream priority old.place before after
   costs_of before after few = inr (s, subst (λ (ts : List Sizes). after ≤ before + sum_by words_cost ts) first.tables few)
 
 -- nothing is printed of a session that was sent, where no memory is found for the line
-pub sent_left : (source : Source) (marks : List GroupMark) (stream to : List ℕ) (old new : Seen) → SessionSent source marks stream to old new → SessionLeft source marks stream to old new
-sent_left source marks stream to old new sent p b first is = inr (Wrote-as_front [] (packets_file to p b) old new (sent p b first is))
+pub sent_left : (source : Source) (marks : List GroupMark) (stream : List ℕ) (way : Way) (old new : Routes) → SessionSent source marks stream way old new → SessionLeft source marks stream way old new
+sent_left source marks stream (OnFile to) old new sent = λ p b first is. inr (Wrote-as_front [] (packets_file to p b) old.place new.place (sent p b first is))
+sent_left source marks stream (OnLink address) old new sent = (λ p b first is. inr (all_first address p b old.place.files old.link new.link (sent.0 p b first is)), sent.1)
+  where
+    told_first : (p b : List ℕ) (files : Option Files) (old new : LinkSeen) (datagrams : List (List ℕ)) → Sent datagrams old new → IfSome files (λ _. datagrams ≡ packets_in p b) → IfSome files (λ _. SentFirst (packets_in p b) old new)
+    told_first p b None old new datagrams sent told = tt
+    told_first p b (Some f) old new datagrams sent told = (packets_in p b, ([], sym (append-nil (packets_in p b))), subst (λ (ds : List (List ℕ)). Sent ds old new) told sent)
+
+    all_first : (address p b : List ℕ) (files : Option Files) (old new : LinkSeen) → LinkSentAll address p b files old new → LinkSentFirst address p b files old new
+    all_first address p b files old new all = record {
+      groups = all.groups;
+      datagrams = all.datagrams;
+      resent = all.resent;
+      aimed = all.aimed;
+      sent = (all.datagrams, ([], sym (append-nil all.datagrams)), all.sent);
+      told = told_first p b files old new all.datagrams all.sent all.told;
+    }
+
+-- where the link is as before, before it is used
+pub keeps_since : (way : Way) (old mid new : LinkSeen) → mid ≡ old → KeepsLink way mid new → KeepsLink way old new
+keeps_since way old mid new same keeps = subst (λ (l : LinkSeen). KeepsLink way l new) same keeps
+
+pub keeps_same : (way : Way) (old : LinkSeen) → KeepsLink way old old
+keeps_same (OnFile to) old = refl
+keeps_same (OnLink address) old = record { feed = refl; port = refl; bound = refl; later = omega arith }
+
+pub leaves_nothing : (stream priority : List ℕ) (way : Way) (old new : Routes) → new.place.files ≡ old.place.files → new.link ≡ old.link → LeavesFront stream priority way old new
+leaves_nothing stream priority (OnFile to) old new files link = inl (Wrote-nothing old.place new.place files)
+leaves_nothing stream priority (OnLink address) old new files link = (inl (ap (λ l. l.sent) link), files)
 
 -- through `?`, which hands the same fault on
 pub cause_on : {A : Type 0} (P Q : SendFault → Type 0) (result : Result A SendFault) (f : SendFault) → IsErrAnd result (λ answer. answer ≡ f) → (P f → Q f) → P f → IfErr result Q

@@ -1,5 +1,5 @@
 -- What the parts of `send` do: the files are opened again, and the groups of the stream are sent. This project's own.
-use Rattle.std.specs.Prelude.{◌≡◌, ◌⊎◌, ℕ, List, [], ◌∷◌, true, take, Option, None, Some, option_map}
+use Rattle.std.specs.Prelude.{◌≡◌, ◌⊎◌, ℕ, ◌≤◌, List, [], ◌∷◌, true, take, Option, None, Some, option_map}
 use Rattle.std.specs.Io.KnownBytes.{append_known}
 use Rattle.pet_base.specs.Causes.{Rose}
 use Rattle.pet_base.specs.Seen.{Seen, Blame, Names, HadFault, bytes_at, with_file}
@@ -8,17 +8,20 @@ use Rattle.stream_session.specs.declared.source.Source.{Source}
 use Rattle.stream_session.specs.declared.source.SourceFault.{SourceFault}
 use Rattle.stream_session.specs.declared.source.SourceFault.TheVariants as source
 use Rattle.stream_session.specs.Sources.{IsSourceFault}
-use Rattle.pet_base.specs.declared.faults.Stop.{Stop}
-use Rattle.pet_base.specs.declared.faults.Stop.TheVariants as stop
-use Rattle.command_files.specs.Inputs.{IsFile, Licensed}
+use Rattle.command_files.specs.Inputs.{IsFile}
 use Rattle.command_files.specs.Uses.{reading, writing}
 use Rattle.command_files.specs.Wrote.{Wrote}
+use Rattle.datagram_route.specs.RouteFaults.{IsStop, AimedFailed}
+use Rattle.datagram_route.specs.Sending.{Routes}
+use Rattle.datagram_route.specs.Way.{Way, OnFile, OnLink}
+use Rattle.datagram_route.specs.declared.fault.RouteStop.{RouteStop}
+use Rattle.datagram_route.specs.declared.fault.RouteStop.TheVariants as stop
 use Rattle.command_send.specs.declared.command.SendEnd.{SendEnd}
-use Rattle.command_send.specs.declared.command.SendEnd.TheVariants.{Done, NoMemory, PlaceFault, OutFault, BadPriority, BadStream, BadPlan, Changed}
+use Rattle.command_send.specs.declared.command.SendEnd.TheVariants.{Done, NoMemory, PlaceFault, LinkFault, OutFault, BadPriority, BadStream, BadPlan, Changed}
 use Rattle.command_send.specs.declared.fault.SendFault.{SendFault}
 use Rattle.command_send.specs.declared.fault.SendFault.TheVariants as fault
 use Rattle.command_send.specs.Sending.{IsLeastChange, IsFirstPass}
-use Rattle.command_send.specs.Sends.{packets_file, MayBlame, StreamChanged}
+use Rattle.command_send.specs.Sends.{packets_file, IsAimedAt, LinkSentAll, LinkSentFirst, HasSentBefore, MayBlame, SendsNothing, StreamChanged}
 use Rattle.stream_session.specs.Sessions.{HasSession}
 
 -- The session of the two files, and what the first reading found of it.
@@ -26,48 +29,78 @@ pub record IsReadFrom (old : Seen) (stream priority : List ℕ) (source : Source
   pub session : HasSession old stream priority
   pub first : IsFirstPass session.priority_bytes session.stream_bytes source marks
 
--- the stream is the input, from its front, and the other file an empty output
-pub record IsReopened (stream to : List ℕ) (old new : Seen) : Type 0 where
-  pub rest : new.rest ≡ bytes_at old.files stream
-  pub files : new.files ≡ option_map (with_file to []) old.files
-  pub source : Names old.files new.source stream
-  pub target : Names old.files new.target to
-  pub has_input : new.has_input ≡ true
-  pub has_output : new.has_output ≡ true
+-- the file is an empty output, or the link sends to the address
+pub record IsEmptied (to : List ℕ) (old new : Routes) : Type 0 where
+  pub files : new.place.files ≡ option_map (with_file to []) old.place.files
+  pub target : Names old.place.files new.place.target to
+  pub has_output : new.place.has_output ≡ true
+  pub link : new.link ≡ old.link
 
--- or that failed: the files are as before, or the other file is empty
-abbrev pub IsLeftEmpty : List ℕ → Seen → Seen → Type 0
-IsLeftEmpty to old new = (new.files ≡ old.files) ⊎ (new.files ≡ option_map (with_file to []) old.files)
+pub record IsReady (address : List ℕ) (old new : Routes) : Type 0 where
+  pub files : new.place.files ≡ old.place.files
+  pub sent : new.link.sent ≡ old.link.sent
+  pub aimed : IsAimedAt address old.link new.link
+  pub later : old.link.faults ≤ new.link.faults
 
--- a fault then was at one of the two files
-abbrev pub IsOfReopened : List ℕ → List ℕ → Blame → Type 0
-IsOfReopened stream to b = (b ≡ reading stream) ⊎ (b ≡ writing to)
+abbrev pub IsWayOpen : Way → Routes → Routes → Type 0
+IsWayOpen (OnFile to) old new = IsEmptied to old new
+IsWayOpen (OnLink address) old new = IsReady address old new
 
--- all packets of the session are in the file, where the stream is that of the first pass
-abbrev pub SessionSent : Source → List GroupMark → List ℕ → List ℕ → Seen → Seen → Type 0
-SessionSent source marks stream to old new =
-    (p b : List ℕ) → IsFirstPass p b source marks → IsFile old.files stream b → Wrote (packets_file to p b ∷ []) None old new
+-- the stream is the input, from its front, and the way is open
+pub record IsReopened (stream : List ℕ) (way : Way) (old new : Routes) : Type 0 where
+  pub rest : new.place.rest ≡ bytes_at old.place.files stream
+  pub source : Names old.place.files new.place.source stream
+  pub has_input : new.place.has_input ≡ true
+  pub way_open : IsWayOpen way old new
+
+-- or that failed: the files are as before, or the file TO is empty, and nothing was sent
+abbrev pub IsLeftEmpty : Way → Routes → Routes → Type 0
+IsLeftEmpty (OnFile to) old new = (new.place.files ≡ old.place.files) ⊎ (new.place.files ≡ option_map (with_file to []) old.place.files)
+IsLeftEmpty (OnLink address) old new = (new.place.files ≡ old.place.files) × (new.link.sent ≡ old.link.sent)
+
+-- a fault then was at the stream, or at the file TO
+abbrev pub IsOfReopened : List ℕ → Way → Blame → Type 0
+IsOfReopened stream (OnFile to) b = (b ≡ reading stream) ⊎ (b ≡ writing to)
+IsOfReopened stream (OnLink address) b = b ≡ reading stream
+
+-- all packets of the session are sent, where the stream is that of the first pass
+abbrev pub SessionSent : Source → List GroupMark → List ℕ → Way → Routes → Routes → Type 0
+SessionSent source marks stream (OnFile to) old new =
+    (p b : List ℕ) → IsFirstPass p b source marks → IsFile old.place.files stream b → Wrote (packets_file to p b ∷ []) None old.place new.place
+SessionSent source marks stream (OnLink address) old new =
+    ((p b : List ℕ) → IsFirstPass p b source marks → IsFile old.place.files stream b → LinkSentAll address p b old.place.files old.link new.link)
+    × (new.place.files ≡ old.place.files)
 
 -- or a front of them
-abbrev pub SessionLeft : Source → List GroupMark → List ℕ → List ℕ → Seen → Seen → Type 0
-SessionLeft source marks stream to old new =
-    (p b : List ℕ) → IsFirstPass p b source marks → IsFile old.files stream b
-    → Wrote [] None old new ⊎ Wrote [] (Some (packets_file to p b)) old new
+abbrev pub SessionLeft : Source → List GroupMark → List ℕ → Way → Routes → Routes → Type 0
+SessionLeft source marks stream (OnFile to) old new =
+    (p b : List ℕ) → IsFirstPass p b source marks → IsFile old.place.files stream b
+    → Wrote [] None old.place new.place ⊎ Wrote [] (Some (packets_file to p b)) old.place new.place
+SessionLeft source marks stream (OnLink address) old new =
+    ((p b : List ℕ) → IsFirstPass p b source marks → IsFile old.place.files stream b
+    → (new.link.sent ≡ old.link.sent) ⊎ LinkSentFirst address p b old.place.files old.link new.link)
+    × (new.place.files ≡ old.place.files)
 
 -- When the sending stops: the least group whose mark is another in a stream that was read again, which happens only where
 -- the files are not told.
-abbrev pub SessionStops : Source → List GroupMark → List ℕ → List ℕ → Seen → Seen → SendFault → Type 0
-SessionStops source marks stream to old new (fault.Stopped stop) = Licensed (HadFault old new (IsOfReopened stream to)) stop
-SessionStops source marks stream to old new (fault.Changed change) =
-    (again : List ℕ) × IsLeastChange source.priority source.tables.items marks again change
-    × ((p b : List ℕ) → IsFirstPass p b source marks → IsFile old.files stream b → old.files ≡ None)
-SessionStops source marks stream to old new (fault.Source refused) = ⊥
+abbrev pub SessionStops : Source → List GroupMark → List ℕ → Way → Routes → Routes → SendFault → Type 0
+SessionStops source marks stream way old new (fault.Stopped stop) =
+    IsStop (HadFault old.place new.place (IsOfReopened stream way)) (AimedFailed way old.link new.link) ⊥ stop
+SessionStops source marks stream way old new (fault.Changed change) =
+    (again : List ℕ) × (least : IsLeastChange source.priority source.tables.items marks again change)
+    × ((p b : List ℕ) → IsFirstPass p b source marks → IsFile old.place.files stream b → (old.place.files ≡ None) × HasSentBefore p b least.before way old.link new.link)
+SessionStops source marks stream way old new (fault.Source refused) = ⊥
+
+-- when each stop comes
+abbrev pub IsEarlyStop : Routes → Routes → List ℕ → List ℕ → Way → RouteStop → Type 0
+IsEarlyStop old new stream priority way stop =
+    IsStop (HadFault old.place new.place (MayBlame stream priority way old.place)) (AimedFailed way old.link new.link × HasSession old.place stream priority) ⊥ stop
 
 -- When each fault comes.
-abbrev pub IsSendFault : Seen → Seen → List ℕ → List ℕ → List ℕ → SendFault → Type 0
-IsSendFault old new stream priority to (fault.Stopped stop) = Licensed (HadFault old new (MayBlame stream priority to old)) stop
-IsSendFault old new stream priority to (fault.Source refused) = IsSourceFault old new stream priority refused × Wrote [] None old new
-IsSendFault old new stream priority to (fault.Changed change) = StreamChanged old stream priority change
+abbrev pub IsSendFault : Routes → Routes → List ℕ → List ℕ → Way → SendFault → Type 0
+IsSendFault old new stream priority way (fault.Stopped stop) = IsEarlyStop old new stream priority way stop
+IsSendFault old new stream priority way (fault.Source refused) = IsSourceFault old.place new.place stream priority refused × SendsNothing old new
+IsSendFault old new stream priority way (fault.Changed change) = StreamChanged old new stream priority way change
 
 -- the end that whatever stops the reading of both files makes
 abbrev pub end_of_refusal : SourceFault → SendEnd
@@ -78,9 +111,11 @@ end_of_refusal (source.Stream scan) = BadStream scan
 end_of_refusal (source.Plan fault) = BadPlan fault
 
 -- the end that each makes
-abbrev pub end_of_early : Stop → SendEnd
+abbrev pub end_of_early : RouteStop → SendEnd
 end_of_early stop.NoMemory = NoMemory
-end_of_early stop.Failed = PlaceFault
+end_of_early stop.Place = PlaceFault
+end_of_early stop.Link = LinkFault
+end_of_early stop.Out = OutFault
 
 abbrev pub end_of_fault : SendFault → SendEnd
 end_of_fault (fault.Stopped stop) = end_of_early stop

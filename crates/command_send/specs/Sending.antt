@@ -3,7 +3,9 @@ use Rattle.std.specs.Prelude.{◌≡◌, ◌≢◌, ◌⊎◌, ℕ, ◌+◌, ◌
 use Rattle.std.specs.List.{flat_map}
 use Rattle.std.specs.Io.KnownBytes.{prepend_known, IsAtEnd}
 use Rattle.pet_base.specs.declared.limits.TheConstants.{MAX_STREAM}
-use Rattle.pet_base.specs.Seen.{Seen}
+use Rattle.pet_base.specs.Causes.{Blames}
+use Rattle.pet_base.specs.declared.place.Side.TheVariants.{Read, Written}
+use Rattle.pet_base.specs.Seen.{Seen, Blame, HadFault}
 use Rattle.stripe_plan.specs.Sizes.{Sizes}
 use Rattle.stripe_plan.specs.Layers.{needs_of}
 use Rattle.layer_split.specs.Layers.{message}
@@ -12,7 +14,6 @@ use Rattle.stream_session.specs.declared.mark.GroupMark.{GroupMark}
 use Rattle.stream_session.specs.declared.source.Source.{Source}
 use Rattle.group_cutter.specs.CutGroups.{CutGroup}
 use Rattle.group_cutter.specs.Cutting.{HaveEnded, NoneFurther, IsCuttable, cut_groups}
-use Rattle.command_files.specs.Inputs.{Licensed}
 use Rattle.stream_session.specs.Marks.{mark_of, no_mark, mark_at, group_marks, marks_of}
 use Rattle.stream_session.specs.Tables.{table_of, tables_of, cuts_of_stream}
 use Rattle.stream_session.specs.Number.{session_number}
@@ -22,8 +23,11 @@ use Rattle.priority_file.specs.Refusals.{priorities_of}
 use Rattle.command_send.specs.declared.sent_group.Change.{Change}
 use Rattle.command_send.specs.declared.fault.SendFault.{SendFault}
 use Rattle.command_send.specs.declared.fault.SendFault.TheVariants.{Stopped, Source as Refused, Changed}
-use Rattle.session_packets.specs.Packets.{group_entries}
-use Rattle.command_files.specs.Outputs.{IsPrefix, Puts, PutsPart}
+use Rattle.session_packets.specs.Packets.{group_datagrams}
+use Rattle.command_files.specs.Outputs.{IsPrefix}
+use Rattle.datagram_route.specs.RouteFaults.{IsStop}
+use Rattle.datagram_route.specs.Sending.{Routes, Sends, SendsPart, SendingFailed}
+use Rattle.datagram_route.specs.Way.{Way, OnFile, OnLink}
 
 -- a group of the second pass as its packets are made: under this number, of the first pass's session
 abbrev pub encoding_of : Source → ℕ → CutGroup → Encoding
@@ -37,9 +41,9 @@ abbrev pub encodings_from : Source → ℕ → List CutGroup → List Encoding
 encodings_from source first [] = []
 encodings_from source first (g ∷ groups) = encoding_of source first g ∷ encodings_from source (first + 1) groups
 
--- the entries of the packets of these groups, from group 0 on
-unfoldable pub sent_text : Source → List CutGroup → List ℕ
-sent_text source groups = flat_map group_entries (encodings_from source 0 groups)
+-- the packets of these groups as datagrams, from group 0 on
+unfoldable pub sent_datagrams : Source → List CutGroup → List (List ℕ)
+sent_datagrams source groups = flat_map group_datagrams (encodings_from source 0 groups)
 
 -- packets times words
 abbrev pub words_cost : Sizes → ℕ
@@ -92,32 +96,32 @@ pub record IsLeastChange (priority : Priorities) (tables : List Sizes) (marks : 
 abbrev pub HaveTables : Source → List CutGroup → Type 0
 HaveTables source groups = (later : List Sizes) × (source.tables.items ≡ map (λ (g : CutGroup). table_of source.priority g.cut) groups ++ later)
 
--- the groups so far: each has the mark and the table of the first pass, and the output has grown by their packets
-pub record HasSentSome (source : Source) (marks : List GroupMark) (groups : List CutGroup) (old new : Seen) : Type 0 where
+-- the groups so far: each has the mark and the table of the first pass, and their packets were sent
+pub record HasSentSome (way : Way) (source : Source) (marks : List GroupMark) (groups : List CutGroup) (old new : Routes) : Type 0 where
   pub agree : AgreeBelow marks groups (length groups)
   pub tables : HaveTables source groups
-  pub target : new.target ≡ old.target
-  pub puts : Puts (sent_text source groups) old new
+  pub target : new.place.target ≡ old.place.target
+  pub sends : Sends way (sent_datagrams source groups) old new
 
--- The least group whose marks differ: the output has grown by the packets of the groups before it.
-pub record IsChange (source : Source) (marks : List GroupMark) (stream : List ℕ) (change : Change) (old new : Seen) : Type 0 where
+-- The least group whose marks differ: the packets of the groups before it were sent.
+pub record IsChange (way : Way) (source : Source) (marks : List GroupMark) (stream : List ℕ) (change : Change) (old new : Routes) : Type 0 where
   pub least : IsLeastChange source.priority source.tables.items marks stream change
-  pub sent : HasSentSome source marks least.before old new
+  pub sent : HasSentSome way source marks least.before old new
 
--- All marks agree: the output has grown by the packets of all groups that both passes found.
-pub record IsAllSent (source : Source) (marks : List GroupMark) (stream : List ℕ) (old new : Seen) : Type 0 where
+-- All marks agree: the packets of all groups that both passes found were sent.
+pub record IsAllSent (way : Way) (source : Source) (marks : List GroupMark) (stream : List ℕ) (old new : Routes) : Type 0 where
   pub groups : List CutGroup
   pub all : AreAllFound source.priority stream groups
-  pub sent : HasSentSome source marks groups old new
+  pub sent : HasSentSome way source marks groups old new
   pub agree : (k : ℕ) → mark_at marks k ≡ mark_at (group_marks groups) k
 
--- the output has grown by a front of the packets of groups whose marks and tables agree
-pub record IsPart (source : Source) (marks : List GroupMark) (AreFirstGroups : List CutGroup → Type 0) (old new : Seen) : Type 0 where
+-- a front of the packets of groups whose marks and tables agree was sent
+pub record IsPart (way : Way) (source : Source) (marks : List GroupMark) (AreFirstGroups : List CutGroup → Type 0) (old new : Routes) : Type 0 where
   pub groups : List CutGroup
   pub first_groups : AreFirstGroups groups
   pub agree : AgreeBelow marks groups (length groups)
   pub tables : HaveTables source groups
-  pub puts : PutsPart (sent_text source groups) old new
+  pub sends : SendsPart way (sent_datagrams source groups) old new
 
 -- These bytes were taken from the front of the input, to its end or past the most that a stream may have.
 pub record IsTaken (stream : List ℕ) (old new : Seen) : Type 0 where
@@ -126,28 +130,37 @@ pub record IsTaken (stream : List ℕ) (old new : Seen) : Type 0 where
   pub whole : length stream ≤ MAX_STREAM → IsAtEnd new.rest
 
 -- what the pass has done of what it has read, to the end
-pub record HasSentAll (source : Source) (marks : List GroupMark) (old new : Seen) : Type 0 where
+pub record HasSentAll (way : Way) (source : Source) (marks : List GroupMark) (old new : Routes) : Type 0 where
   pub stream : List ℕ
-  pub taken : IsTaken stream old new
-  pub all : IsAllSent source marks stream old new
+  pub taken : IsTaken stream old.place new.place
+  pub all : IsAllSent way source marks stream old new
 
-pub record HasSentToChange (source : Source) (marks : List GroupMark) (change : Change) (old new : Seen) : Type 0 where
+pub record HasSentToChange (way : Way) (source : Source) (marks : List GroupMark) (change : Change) (old new : Routes) : Type 0 where
   pub stream : List ℕ
-  pub taken : IsTaken stream old new
-  pub change_is : IsChange source marks stream change old new
+  pub taken : IsTaken stream old.place new.place
+  pub change_is : IsChange way source marks stream change old new
 
 -- or to a failure
-pub record SentPart (source : Source) (marks : List GroupMark) (old new : Seen) : Type 0 where
+pub record SentPart (way : Way) (source : Source) (marks : List GroupMark) (old new : Routes) : Type 0 where
   pub stream : List ℕ
-  pub read : IfSome old.rest (IsPrefix stream)
-  pub part : IsPart source marks (AreFound source.priority stream) old new
-  pub told : IfSome old.rest (λ bytes. IsFront source.priority bytes part.groups)
+  pub read : IfSome old.place.rest (IsPrefix stream)
+  pub part : IsPart way source marks (AreFound source.priority stream) old new
+  pub told : IfSome old.place.rest (λ bytes. IsFront source.priority bytes part.groups)
+
+-- where a file is written, the output
+abbrev pub IsOfOutput : Way → Seen → Blame → Type 0
+IsOfOutput (OnFile name) place blame = Blames Written place.target blame
+IsOfOutput (OnLink address) place blame = ⊥
+
+-- the place had a fault at its input, or at such an output, where it is told at which
+abbrev pub PassFailed : Way → Seen → Seen → Type 0
+PassFailed way old new = HadFault old new (λ blame. Blames Read old.source blame ⊎ IsOfOutput way old blame)
 
 -- when the pass stops with each cause, and what then holds
-abbrev pub IsSendStop : Source → List GroupMark → Seen → Seen → Type 0 → SendFault → Type 0
-IsSendStop source marks old new fault (Stopped stop) = Licensed fault stop × SentPart source marks old new
-IsSendStop source marks old new fault (Changed change) = HasSentToChange source marks change old new
-IsSendStop source marks old new fault (Refused refusal) = ⊥
+abbrev pub IsSendStop : Way → Source → List GroupMark → Routes → Routes → SendFault → Type 0
+IsSendStop way source marks old new (Stopped stop) = IsStop (PassFailed way old.place new.place) (SendingFailed way old.link new.link) ⊥ stop × SentPart way source marks old new
+IsSendStop way source marks old new (Changed change) = HasSentToChange way source marks change old new
+IsSendStop way source marks old new (Refused refusal) = ⊥
 
 -- The source and the marks are those of an accepted session.
 pub record IsFirstPass (p b : List ℕ) (source : Source) (marks : List GroupMark) : Type 0 where
@@ -158,7 +171,7 @@ pub record IsFirstPass (p b : List ℕ) (source : Source) (marks : List GroupMar
   pub marks_are : marks ≡ marks_of (priorities_of p) b
 
 -- what the pass may answer where the place tells the stream of the first pass: never a change
-abbrev pub IsToldStop : List ℕ → Seen → Seen → SendFault → Type 0
-IsToldStop text old new (Stopped stop) = PutsPart text old new
-IsToldStop text old new (Changed change) = ⊥
-IsToldStop text old new (Refused refusal) = ⊥
+abbrev pub IsToldStop : Way → List (List ℕ) → Routes → Routes → SendFault → Type 0
+IsToldStop way datagrams old new (Stopped stop) = SendsPart way datagrams old new
+IsToldStop way datagrams old new (Changed change) = ⊥
+IsToldStop way datagrams old new (Refused refusal) = ⊥

@@ -1,85 +1,167 @@
 -- What `send` leaves at each of its ends. This project's own.
-use Rattle.std.specs.Prelude.{◌≡◌, ◌⊎◌, ℕ, ◌+◌, ◌*◌, ◌≤◌, List, [], ◌∷◌, length, None, Some}
+use Rattle.std.specs.Prelude.{◌≡◌, ◌⊎◌, ℕ, ◌+◌, ◌*◌, ◌≤◌, List, [], ◌∷◌, length, Option, None, Some, option_map, IfSome, false}
 use Rattle.std.specs.List.{sum_by}
-use Rattle.pet_base.specs.Seen.{Seen, Blame, HadFault}
+use Rattle.std.specs.Str.{bytes_eq}
+use Rattle.pet_base.specs.Seen.{Seen, Files, Blame, HadFault}
+use Rattle.pet_base.specs.LinkSeen.{LinkSeen}
 use Rattle.pet_base.specs.OutsideSeen.{OutsideSeen}
 use Rattle.priority_file.specs.Refusals.{priorities_of}
+use Rattle.group_cutter.specs.CutGroups.{CutGroup}
 use Rattle.stream_session.specs.Accepted.{session_of}
-use Rattle.stream_session.specs.Marks.{marks_of}
+use Rattle.stream_session.specs.Marks.{marks_of, mark_at, group_marks}
 use Rattle.stream_session.specs.Number.{session_number}
 use Rattle.stream_session.specs.Sources.{IsOfSource, IsSourceFault}
+use Rattle.stream_session.specs.declared.source.Source.{Source}
 use Rattle.stream_session.specs.declared.source.SourceFault.TheVariants as source
 use Rattle.plan_text.specs.PlanLines.{send_text}
 use Rattle.command_files.specs.Printed.{Printed, Unprinted, PrintedFront}
 use Rattle.command_files.specs.Uses.{writing}
 use Rattle.command_files.specs.Wrote.{File, Wrote}
-use Rattle.session_packets.specs.Packets.{datagrams_text}
+use Rattle.datagram_route.specs.RouteFaults.{AimedFailed}
+use Rattle.datagram_route.specs.Sending.{Routes, Sent, SentFirst}
+use Rattle.datagram_route.specs.Way.{Way, OnFile, OnLink}
+use Rattle.session_packets.specs.Packets.{datagrams_text, session_datagrams}
 use Rattle.command_send.specs.declared.command.SendEnd.{SendEnd}
-use Rattle.command_send.specs.declared.command.SendEnd.TheVariants.{Done, NoMemory, PlaceFault, OutFault, BadPriority, BadStream, BadPlan, Changed}
+use Rattle.command_send.specs.declared.command.SendEnd.TheVariants.{Done, NoMemory, PlaceFault, LinkFault, OutFault, BadPriority, BadStream, BadPlan, Changed}
 use Rattle.command_send.specs.declared.sent_group.Change.{Change}
-use Rattle.command_send.specs.Sending.{words_cost, IsLeastChange}
+use Rattle.command_send.specs.Sending.{words_cost, sent_datagrams, AgreeBelow, HaveTables, IsFirstPass, IsLeastChange}
 use Rattle.stream_session.specs.Sessions.{HasSession, tables_in}
 
 -- the datagram file of the session that a priority file and a stream are, under this name
 abbrev pub packets_file : List ℕ → List ℕ → List ℕ → File
 packets_file to priority stream = record { name = to; bytes = datagrams_text (session_of priority stream) }
 
+-- the packets of that session as datagrams, by group, then number
+abbrev pub packets_in : List ℕ → List ℕ → List (List ℕ)
+packets_in priority stream = session_datagrams (session_of priority stream)
+
 -- the line that is printed once all packets are sent: each group has as many as the priority says
 abbrev pub sent_line_text : List ℕ → List ℕ → List ℕ
 sent_line_text priority stream =
     send_text (session_number priority stream) (length (tables_in priority stream)) (length (tables_in priority stream) * (priorities_of priority).packets)
 
--- the file TO has all packets of the session, and no other file has changed
-abbrev pub HasPackets : {stream priority : List ℕ} {old : Seen} → HasSession old stream priority → List ℕ → Seen → Type 0
-HasPackets {old = old} s to new = Wrote (packets_file to s.priority_bytes s.stream_bytes ∷ []) None old new
+-- where a file is written, it is another than the stream
+abbrev pub IsOther : Way → List ℕ → Type 0
+IsOther (OnFile to) stream = bytes_eq to stream ≡ false
+IsOther (OnLink address) stream = Unit {0}
 
--- no file has changed, or the file TO alone, which has a front of the packets
-abbrev pub LeavesFront : List ℕ → List ℕ → List ℕ → Seen → Seen → Type 0
-LeavesFront stream priority to old new =
-    Wrote [] None old new
-    ⊎ ((s : HasSession old stream priority) × Wrote [] (Some (packets_file to s.priority_bytes s.stream_bytes)) old new)
+-- what is seen of the files and of the link
+abbrev pub routes_in : OutsideSeen → Routes
+routes_in outside = record { place = outside.place; link = outside.link }
+
+-- Datagrams of a session that the second reading found: those of groups that have marks and tables of the first reading, up to
+-- so many. A group with the mark of another is that other, but for two digests that are the same.
+pub record AreResent (p b : List ℕ) (groups : List CutGroup) (datagrams : List (List ℕ)) : Type 0 where
+  pub source : Source
+  pub first : IsFirstPass p b source (marks_of (priorities_of p) b)
+  pub agree : AgreeBelow (marks_of (priorities_of p) b) groups (length groups)
+  pub tables : HaveTables source groups
+  pub are : datagrams ≡ sent_datagrams source groups
+
+-- the link was aimed at this address
+abbrev pub IsAimedAt : List ℕ → LinkSeen → LinkSeen → Type 0
+IsAimedAt address old new = new.aimed ≡ option_map (λ _. address) old.aimed
+
+-- The link has sent all packets of the session to this address; where the files are not told, those of groups with all its marks.
+pub record LinkSentAll (address p b : List ℕ) (files : Option Files) (old new : LinkSeen) : Type 0 where
+  pub groups : List CutGroup
+  pub datagrams : List (List ℕ)
+  pub resent : AreResent p b groups datagrams
+  pub all : (k : ℕ) → mark_at (marks_of (priorities_of p) b) k ≡ mark_at (group_marks groups) k
+  pub aimed : IsAimedAt address old new
+  pub sent : Sent datagrams old new
+  pub told : IfSome files (λ _. datagrams ≡ packets_in p b)
+
+-- or the first of them
+pub record LinkSentFirst (address p b : List ℕ) (files : Option Files) (old new : LinkSeen) : Type 0 where
+  pub groups : List CutGroup
+  pub datagrams : List (List ℕ)
+  pub resent : AreResent p b groups datagrams
+  pub aimed : IsAimedAt address old new
+  pub sent : SentFirst datagrams old new
+  pub told : IfSome files (λ _. SentFirst (packets_in p b) old new)
+
+-- The file TO has all packets of the session, and no other file has changed; or the link has sent them to the address TO, and no
+-- file has changed.
+abbrev pub HasPackets : {stream priority : List ℕ} (old : Routes) → HasSession old.place stream priority → Way → Routes → Type 0
+HasPackets old s (OnFile to) new = Wrote (packets_file to s.priority_bytes s.stream_bytes ∷ []) None old.place new.place
+HasPackets old s (OnLink address) new = LinkSentAll address s.priority_bytes s.stream_bytes old.place.files old.link new.link × (new.place.files ≡ old.place.files)
+
+-- No file has changed, or the file TO alone, which has a front of the packets; or the link has sent nothing,
+-- or the first packets to the address TO.
+abbrev pub LeavesFront : List ℕ → List ℕ → Way → Routes → Routes → Type 0
+LeavesFront stream priority (OnFile to) old new =
+    Wrote [] None old.place new.place
+    ⊎ ((s : HasSession old.place stream priority) × Wrote [] (Some (packets_file to s.priority_bytes s.stream_bytes)) old.place new.place)
+LeavesFront stream priority (OnLink address) old new =
+    ((new.link.sent ≡ old.link.sent) ⊎ ((s : HasSession old.place stream priority) × LinkSentFirst address s.priority_bytes s.stream_bytes old.place.files old.link new.link))
+    × (new.place.files ≡ old.place.files)
+
+-- no file has changed, and nothing was sent
+abbrev pub SendsNothing : Routes → Routes → Type 0
+SendsNothing old new = Wrote [] None old.place new.place × (new.link ≡ old.link)
+
+-- of these groups, by a link to its address; what stands in a file is not told
+abbrev pub HasSentBefore : List ℕ → List ℕ → List CutGroup → Way → LinkSeen → LinkSeen → Type 0
+HasSentBefore p b groups (OnFile to) old new = new ≡ old
+HasSentBefore p b groups (OnLink address) old new = (datagrams : List (List ℕ)) × AreResent p b groups datagrams × IsAimedAt address old new × Sent datagrams old new
 
 -- A failure may be at the priority file, at the stream where that is accepted, and at the file TO where the two are a session.
-abbrev pub MayBlame : List ℕ → List ℕ → List ℕ → Seen → Blame → Type 0
-MayBlame stream priority to old blame = IsOfSource old.files stream priority blame ⊎ ((blame ≡ writing to) × HasSession old stream priority)
+abbrev pub MayBlame : List ℕ → List ℕ → Way → Seen → Blame → Type 0
+MayBlame stream priority (OnFile to) old blame = IsOfSource old.files stream priority blame ⊎ ((blame ≡ writing to) × HasSession old stream priority)
+MayBlame stream priority (OnLink address) old blame = IsOfSource old.files stream priority blame
 
 -- The stream was another when it was read again, and this is the least group whose marks differ: that happens only where the
--- files are not told.
-pub record StreamChanged (old : Seen) (stream priority : List ℕ) (change : Change) : Type 0 where
-  pub session : HasSession old stream priority
+-- files are not told. By a link exactly the packets of the groups before it were sent, to its address.
+pub record StreamChanged (old new : Routes) (stream priority : List ℕ) (way : Way) (change : Change) : Type 0 where
+  pub session : HasSession old.place stream priority
   pub again : List ℕ
   pub least : IsLeastChange (priorities_of session.priority_bytes) (tables_in session.priority_bytes session.stream_bytes)
       (marks_of (priorities_of session.priority_bytes) session.stream_bytes) again change
-  pub untold : old.files ≡ None
+  pub untold : old.place.files ≡ None
+  pub sent : HasSentBefore session.priority_bytes session.stream_bytes least.before way old.link new.link
 
--- What each end tells: the file TO has all packets of the session, and the line was printed, or a front of it where the output
--- failed. At every other end its cause holds and nothing was printed; a refusal comes before any file is written, and what stops
--- `send` later leaves a front of the packets.
-abbrev pub SendTells : List ℕ → List ℕ → List ℕ → OutsideSeen → OutsideSeen → SendEnd → Type 0
-SendTells stream priority to before after Done =
-    (s : HasSession before.place stream priority) × HasPackets s to after.place × Printed (sent_line_text s.priority_bytes s.stream_bytes) before after
-SendTells stream priority to before after OutFault =
-    (s : HasSession before.place stream priority) × HasPackets s to after.place × PrintedFront (sent_line_text s.priority_bytes s.stream_bytes) before after
-SendTells stream priority to before after NoMemory = LeavesFront stream priority to before.place after.place × Unprinted before after
-SendTells stream priority to before after PlaceFault =
-    HadFault before.place after.place (MayBlame stream priority to before.place) × LeavesFront stream priority to before.place after.place × Unprinted before after
-SendTells stream priority to before after (BadPriority fault) =
-    IsSourceFault before.place after.place stream priority (source.Priority fault) × Wrote [] None before.place after.place × Unprinted before after
-SendTells stream priority to before after (BadStream scan) =
-    IsSourceFault before.place after.place stream priority (source.Stream scan) × Wrote [] None before.place after.place × Unprinted before after
-SendTells stream priority to before after (BadPlan fault) =
-    IsSourceFault before.place after.place stream priority (source.Plan fault) × Wrote [] None before.place after.place × Unprinted before after
-SendTells stream priority to before after (Changed change) =
-    StreamChanged before.place stream priority change × LeavesFront stream priority to before.place after.place × Unprinted before after
+-- What each end tells: all packets of the session were sent, and the line was printed, or a front of it where the output failed.
+-- At every other end its cause holds and nothing was printed; a refusal comes before any file is written or any datagram sent,
+-- and what stops `send` later leaves a front of the packets.
+abbrev pub SendTells : List ℕ → List ℕ → Way → OutsideSeen → OutsideSeen → SendEnd → Type 0
+SendTells stream priority way before after Done =
+    (s : HasSession before.place stream priority) × HasPackets (routes_in before) s way (routes_in after) × Printed (sent_line_text s.priority_bytes s.stream_bytes) before after
+SendTells stream priority way before after OutFault =
+    (s : HasSession before.place stream priority) × HasPackets (routes_in before) s way (routes_in after) × PrintedFront (sent_line_text s.priority_bytes s.stream_bytes) before after
+SendTells stream priority way before after NoMemory = LeavesFront stream priority way (routes_in before) (routes_in after) × Unprinted before after
+SendTells stream priority way before after PlaceFault =
+    HadFault before.place after.place (MayBlame stream priority way before.place) × LeavesFront stream priority way (routes_in before) (routes_in after) × Unprinted before after
+SendTells stream priority way before after LinkFault =
+    AimedFailed way before.link after.link × HasSession before.place stream priority × LeavesFront stream priority way (routes_in before) (routes_in after) × Unprinted before after
+SendTells stream priority way before after (BadPriority fault) =
+    IsSourceFault before.place after.place stream priority (source.Priority fault) × SendsNothing (routes_in before) (routes_in after) × Unprinted before after
+SendTells stream priority way before after (BadStream scan) =
+    IsSourceFault before.place after.place stream priority (source.Stream scan) × SendsNothing (routes_in before) (routes_in after) × Unprinted before after
+SendTells stream priority way before after (BadPlan fault) =
+    IsSourceFault before.place after.place stream priority (source.Plan fault) × SendsNothing (routes_in before) (routes_in after) × Unprinted before after
+SendTells stream priority way before after (Changed change) =
+    StreamChanged (routes_in before) (routes_in after) stream priority way change × LeavesFront stream priority way (routes_in before) (routes_in after) × Unprinted before after
 
 -- No step was counted, or the two files are a session, and each group has taken at most packets times words.
 abbrev pub Costs : List ℕ → List ℕ → Seen → ℕ → ℕ → Type 0
 Costs stream priority old before after =
     (after ≡ before) ⊎ ((s : HasSession old stream priority) × (after ≤ before + sum_by words_cost (tables_in s.priority_bytes s.stream_bytes)))
 
--- what `send` does: nothing is sent to a socket, and the output's faults do not fall
-pub record Sends (stream priority to : List ℕ) (before after : OutsideSeen) (end : SendEnd) : Type 0 where
-  pub link : after.link ≡ before.link
+-- Where a file is written the link is as before; else only what it has sent, and where it sends to, has changed.
+pub record OnlySendsOn (old new : LinkSeen) : Type 0 where
+  pub feed : new.feed ≡ old.feed
+  pub port : new.port ≡ old.port
+  pub bound : new.bound ≡ old.bound
+  pub later : old.faults ≤ new.faults
+
+abbrev pub KeepsLink : Way → LinkSeen → LinkSeen → Type 0
+KeepsLink (OnFile to) old new = new ≡ old
+KeepsLink (OnLink address) old new = OnlySendsOn old new
+
+-- what `send` does; faults do not fall
+pub record Sends (stream priority : List ℕ) (way : Way) (before after : OutsideSeen) (end : SendEnd) : Type 0 where
+  pub link : KeepsLink way before.link after.link
   pub later : before.out_faults ≤ after.out_faults
   pub costs : Costs stream priority before.place before.steps after.steps
-  pub tells : SendTells stream priority to before after end
+  pub tells : SendTells stream priority way before after end

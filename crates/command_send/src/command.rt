@@ -1,13 +1,14 @@
 //! The command `send`.
-ghost use Rattle.std.specs.Prelude.{◌≡◌, ◌≤◌, false, List, ℕ};
-ghost use Rattle.std.specs.Str.{bytes_eq};
+ghost use Rattle.std.specs.Prelude.{◌≤◌, List, ℕ};
 ghost use Rattle.pet_base.specs.Lent.{seen, AreSame};
 ghost use Rattle.command_send.specs.SendParts.{PutsLine};
-ghost use Rattle.command_send.specs.Sends.{Sends};
+ghost use Rattle.datagram_route.specs.Way.{way_of};
+ghost use Rattle.command_send.specs.Sends.{IsOther, Sends};
 ghost use Rattle.command_send.specs.SendsSession.{SendsSession};
 
 use crate::sent_group::Change;
 use crate::session::sent_line;
+use datagram_route::Route;
 use mpeg_scan::Scan;
 use pet_base::{Link, Outside, Place, Sink};
 use priority_file::PriorityFault;
@@ -18,13 +19,15 @@ use stream_session::SessionFault;
 /// How `send` ended.
 #[derive(Clone, Copy, Debug, PartialEq, Eq)]
 pub enum SendEnd {
-    /// All packets were written, and the line was printed.
+    /// All packets were sent, and the line was printed.
     Done,
     /// No memory was found.
     NoMemory,
     /// A file could not be read, made or written.
     PlaceFault,
-    /// All packets were written, but the line could not be printed.
+    /// The address of a link cannot be used, or the link could not send.
+    LinkFault,
+    /// All packets were sent, but the line could not be printed.
     OutFault,
     /// The priority file is refused.
     BadPriority(PriorityFault),
@@ -36,23 +39,33 @@ pub enum SendEnd {
     Changed(Change),
 }
 
-/// Writes the packets of the session that STREAM and PRIORITY are to the datagram file TO, by group, then number, and prints
-/// how many they are. STREAM is read twice, and TO, which is another file, is made before it is read again.
+/// Sends the packets of the session that STREAM and PRIORITY are to the datagram file TO, or by the link to the address TO, each
+/// packet once, by group, then number, and prints how many they are. STREAM is read twice, and TO, which is another file where it
+/// is one, is made, or the link aimed, before it is read again.
 pub fn send<P: Place, K: Link, S: Sink, L: Ledger>(
     alloc: Global,
     stream: &str,
     priority: &str,
-    to: &str,
+    to: Route<'_>,
     outside: &mut Outside<P, K, S, L>,
 ) -> SendEnd
-    requires differ { bytes_eq to.now stream.now ≡ false }
-    ensures sends { Sends stream.now priority.now to.now (seen outside.old)
+    requires differ { IsOther (way_of to) stream.now }
+    ensures sends { Sends stream.now priority.now (way_of to.entry) (seen outside.old)
         (seen outside.new) result }
-    ensures completes { SendsSession stream.now priority.now to.now (seen outside.old)
+    ensures completes { SendsSession stream.now priority.now (way_of to.entry) (seen outside.old)
         (seen outside.new) result }
     ensures same { AreSame outside.old outside.new }
 {
-    match sent_line(alloc, stream, priority, to, outside.place, outside.steps) {
+    let sent = sent_line(
+        alloc,
+        stream,
+        priority,
+        to,
+        outside.place,
+        outside.link,
+        outside.steps,
+    );
+    match sent {
         Ok(line) => put_line(line.as_slice(), outside.out),
         Err(fault) => fault.end(),
     }

@@ -4,14 +4,15 @@ ghost use Rattle.command_send.specs.SendParts.{end_of_early, end_of_fault, end_o
 
 use crate::command::SendEnd;
 use crate::sent_group::Change;
-use pet_base::{Failed, NoMemory, Stop};
+use datagram_route::RouteStop;
+use pet_base::NoMemory;
 use stream_session::SourceFault;
 
 /// Why `send` stops.
 #[derive(Clone, Copy, Debug, PartialEq, Eq)]
 pub(crate) enum SendFault {
-    /// There was no memory, or a file could not be made, read again or written.
-    Stopped(Stop),
+    /// There was no memory, or a file could not be made, read again or written, or the link not aimed or not sent by.
+    Stopped(RouteStop),
     /// There is no session.
     Source(SourceFault),
     /// The least group whose mark was another when the stream was read again.
@@ -19,13 +20,13 @@ pub(crate) enum SendFault {
 }
 
 impl From<NoMemory> for SendFault {
-    ghost use Rattle.pet_base.specs.declared.faults.Stop.TheVariants.{NoMemory as no_memory};
+    ghost use Rattle.datagram_route.specs.declared.fault.RouteStop.TheVariants.{NoMemory as no_memory};
     ghost use Rattle.command_send.specs.declared.fault.SendFault.TheVariants.{Stopped};
 
     ghost from_gives = { λ _ fault. fault ≡ Stopped no_memory };
 
     fn from(_e: NoMemory) -> SendFault {
-        SendFault::Stopped(Stop::NoMemory)
+        SendFault::Stopped(RouteStop::NoMemory)
     }
 }
 
@@ -39,24 +40,13 @@ impl From<SourceFault> for SendFault {
     }
 }
 
-impl From<Stop> for SendFault {
+impl From<RouteStop> for SendFault {
     ghost use Rattle.command_send.specs.declared.fault.SendFault.TheVariants.{Stopped};
 
     ghost from_gives = { λ stop fault. fault ≡ Stopped stop };
 
-    fn from(stop: Stop) -> SendFault {
+    fn from(stop: RouteStop) -> SendFault {
         SendFault::Stopped(stop)
-    }
-}
-
-impl From<Failed> for SendFault {
-    ghost use Rattle.pet_base.specs.declared.faults.Stop.TheVariants.{Failed as failed};
-    ghost use Rattle.command_send.specs.declared.fault.SendFault.TheVariants.{Stopped};
-
-    ghost from_gives = { λ _ fault. fault ≡ Stopped failed };
-
-    fn from(_e: Failed) -> SendFault {
-        SendFault::Stopped(Stop::Failed)
     }
 }
 
@@ -74,12 +64,14 @@ impl SendFault {
 }
 
 /// The end that a failure or want of memory makes.
-fn end_of_stop(stop: Stop) -> SendEnd
+fn end_of_stop(stop: RouteStop) -> SendEnd
     ensures { result ≡ end_of_early stop }
 {
     match stop {
-        Stop::NoMemory => SendEnd::NoMemory,
-        Stop::Failed => SendEnd::PlaceFault,
+        RouteStop::NoMemory => SendEnd::NoMemory,
+        RouteStop::Place => SendEnd::PlaceFault,
+        RouteStop::Link => SendEnd::LinkFault,
+        RouteStop::Out => SendEnd::OutFault,
     }
 }
 

@@ -1,16 +1,18 @@
-//! What the first reading of both files found, and the field in which its packets are made.
+//! What the first reading of both files found, the field in which its packets are made, and where they go.
 ghost use Rattle.std.specs.Prelude.{◌≡◌, ◌≤◌, length};
 ghost use Rattle.pet_base.specs.declared.limits.TheConstants.{MAX_GROUPS};
 
+use datagram_route::Route;
 use pet_tables::Gf16Tables;
 use stream_session::{GroupMark, Source};
 
-/// The session that was read, a mark for each of its groups, and the field in which they are coded.
+/// The session that was read, a mark for each of its groups, the field in which they are coded, and where their packets go.
 #[derive(Drop)]
-pub(crate) struct FirstPass {
+pub(crate) struct FirstPass<'a> {
     pub(crate) source: Source,
     pub(crate) marks: Vec<GroupMark>,
     pub(crate) field: Gf16Tables,
+    pub(crate) to: Route<'a>,
     ghost as_many: { length marks.items ≡ length source.tables.items },
     ghost few: { length source.tables.items ≤ MAX_GROUPS },
 }

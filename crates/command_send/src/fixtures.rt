@@ -2,6 +2,7 @@
 ghost use Rattle.std.specs.Prelude.{◌≡◌, ◌<◌};
 
 use crate::{SendEnd, send};
+use datagram_route::Route;
 use pet_base::{MemoryLink, MemoryPlace, MemorySink, Outside, Place, Steps};
 use std::alloc::{AllocError, Global};
 use std::marker::Brand;
@@ -61,22 +62,45 @@ pub(crate) fn place_of(
     Ok(place)
 }
 
-/// Whether `send` of the stream `s` and the priorities `f` to the file `d` ends so on the place, and prints these lines.
+/// A link to which nothing comes, and whose calls of these numbers fail.
+pub(crate) fn link_of(alloc: Global, failing: &[u64]) -> Result<MemoryLink, AllocError> {
+    let failing = Vec::from_slice(alloc, failing)?;
+    Ok(MemoryLink::new(alloc, Vec::new(alloc), failing))
+}
+
+/// Whether `send` of the stream `s` and the priorities `f` to the file `d` ends so on the place, prints these lines, and sends
+/// nothing by a link.
 pub(crate) fn ends<P: Place>(
     alloc: Global,
     place: &mut P,
     end: SendEnd,
     printed: &str,
 ) -> Result<bool, AllocError> {
-    let mut out = MemorySink::new(alloc, Vec::new(alloc));
-    let told = send_counted::<P, Brand>(alloc, place, &mut out, Blank::new(1));
-    Ok(told == end && out.bytes() == printed.as_bytes())
+    let mut link = link_of(alloc, &[])?;
+    let ended = ends_on(alloc, false, place, &mut link, end, printed);
+    Ok(ended && link.sent().is_empty())
 }
 
-/// How `send` ends on the place, with the line on the sink.
+/// Whether `send` of the stream `s` and the priorities `f` to the address `x:1`, or to the file `d`, ends so and prints these lines.
+pub(crate) fn ends_on<P: Place>(
+    alloc: Global,
+    by_link: bool,
+    place: &mut P,
+    link: &mut MemoryLink,
+    end: SendEnd,
+    printed: &str,
+) -> bool {
+    let mut out = MemorySink::new(alloc, Vec::new(alloc));
+    let told = send_counted::<P, Brand>(alloc, by_link, place, link, &mut out, Blank::new(1));
+    told == end && out.bytes() == printed.as_bytes()
+}
+
+/// How `send` ends, with the line on the sink.
 fn send_counted<P: Place, L: Ledger>(
     alloc: Global,
+    by_link: bool,
     place: &mut P,
+    link: &mut MemoryLink,
     out: &mut MemorySink,
     blank: Blank,
 ) -> SendEnd
@@ -84,13 +108,16 @@ fn send_counted<P: Place, L: Ledger>(
     requires parts { blank.parts ≡ L.parts }
     requires some { 0 < blank.parts }
 {
-    let mut link = MemoryLink::new(alloc, Vec::new(alloc), Vec::new(alloc));
     let mut steps = Steps::<L>::new(blank);
     let mut outside = Outside {
         place,
-        link: &mut link,
+        link,
         out,
         steps: &mut steps,
     };
-    send(alloc, "s", "f", "d", &mut outside)
+    if by_link {
+        send(alloc, "s", "f", Route::Udp("x:1"), &mut outside)
+    } else {
+        send(alloc, "s", "f", Route::File("d"), &mut outside)
+    }
 }

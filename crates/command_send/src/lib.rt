@@ -1,4 +1,4 @@
-//! The command `send`: it writes the packets of the session that a stream and a priority file are to a datagram file.
+//! The command `send`: it sends the packets of the session that a stream and a priority file are to a datagram file or by a link.
 //!
 //! What it leaves at each of its ends stands in `specs/Sends.antt`; `specs/SendsSession.antt` says when it is done. The stream
 //! is read twice, and none of it is held but the group that has not ended and the last portion: the first reading gives each
@@ -17,6 +17,8 @@ pub use sent_group::Change;
 
 #[cfg(test)]
 mod fixtures;
+#[cfg(test)]
+mod link_tests;
 #[cfg(test)]
 mod second_tests;
 #[cfg(test)]

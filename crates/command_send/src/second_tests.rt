@@ -4,10 +4,12 @@ ghost use Rattle.std.specs.Prelude.{◌≡◌, ◌<◌};
 use crate::Change;
 use crate::fault::SendFault;
 use crate::fixtures::{
-    CHANGED_MARK, EXAMPLE_MARK, FIRST_MARK, GROUPS, NO_MARK, SECOND_MARK, THIRD_MARK, place_of,
+    CHANGED_MARK, EXAMPLE_MARK, FIRST_MARK, GROUPS, NO_MARK, SECOND_MARK, THIRD_MARK, link_of,
+    place_of,
 };
 use crate::second::send_groups;
 use crate::session::read_first;
+use datagram_route::Route;
 use example_session::{PRIORITIES, STREAM};
 use pet_base::{Place, Steps};
 use std::alloc::Global;
@@ -29,11 +31,14 @@ fn sends<L: Ledger>(
 {
     let mut place = place_of(alloc, first, PRIORITIES, &[])?;
     place.add("t", second).ok().ok_or("memory")?;
-    let found = read_first(alloc, "s", "f", &mut place).ok().ok_or("first")?;
+    let found = read_first(alloc, "s", "f", Route::File("d"), &mut place)
+        .ok()
+        .ok_or("first")?;
     place.create("d").ok().ok_or("create")?;
     place.enter("t").ok().ok_or("enter")?;
+    let mut link = link_of(alloc, &[])?;
     let mut steps = Steps::<L>::new(blank);
-    let told = send_groups(alloc, &mut place, &found, &mut steps);
+    let told = send_groups(alloc, &mut place, &mut link, &found, &mut steps);
     match place.bytes_of("d") {
         Some(bytes) => Ok((told, bytes.len())),
         None => Ok((told, 0)),

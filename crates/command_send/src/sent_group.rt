@@ -1,24 +1,23 @@
-//! A group of the second pass of `send`: it is compared with the first pass's, and its packets are put.
+//! A group of the second pass of `send`: it is compared with the first pass's, and its packets are sent.
 ghost use Rattle.std.specs.Prelude.{◌≡◌, ◌≢◌, ◌↔◌, ◌+◌, ◌<◌, ◌≤◌, length, true, Some, slice_get, OnOk, OnErr, IfOk, IfErr, IfSome, IsTrue, MatchOption};
-ghost use Rattle.pet_base.specs.declared.place.Side.TheVariants.{Written};
-ghost use Rattle.pet_base.specs.Causes.{Blames};
-ghost use Rattle.pet_base.specs.Seen.{Seen, OnlyWrites, HadFault};
 ghost use Rattle.group_cutter.specs.laws.FilledLaws.{IsFilled};
 ghost use Rattle.group_cutter.specs.laws.FittingLaws.{IsWhole};
 ghost use Rattle.stream_session.specs.Marks.{mark_at};
 ghost use Rattle.stream_session.specs.Tables.{table_of, sizes_with};
-ghost use Rattle.command_files.specs.Inputs.{Licensed};
-ghost use Rattle.session_packets.specs.Packets.{group_entries};
-ghost use Rattle.command_files.specs.Outputs.{Puts, PutsPart};
-ghost use Rattle.command_send.specs.Second.{SendsGroup, SendsPart, Differs, cost_at};
+ghost use Rattle.datagram_route.specs.RouteFaults.{IsStop};
+ghost use Rattle.datagram_route.specs.Sending.{routes, Sends, SendsPart, IsOpen, OnlyGrows, OutputFailed, SendingFailed};
+ghost use Rattle.datagram_route.specs.Way.{way_of};
+ghost use Rattle.session_packets.specs.Packets.{group_datagrams};
+ghost use Rattle.command_send.specs.Second.{SendsGroup, SendsGroupPart, Differs, cost_at};
 ghost use Rattle.command_send.specs.Sending.{encoding_of};
 
 use crate::first::FirstPass;
 use arrayvec::ArrayVec;
+use datagram_route::RouteStop;
 use group_cutter::Group;
 use layer_split::{GroupCut, message};
 use packet_frame::Header;
-use pet_base::{MAX_LAYERS, NoMemory, Place, Steps, Stop};
+use pet_base::{Link, MAX_LAYERS, NoMemory, Place, Steps};
 use pet_encode::Encoder;
 use pet_tables::Gf16Tables;
 use priority_file::Priority;
@@ -37,27 +36,28 @@ pub struct Change {
     pub second: GroupMark,
 }
 
-/// Puts the packets of the group under this number, where its mark and its table are those of the first pass; else it
-/// puts nothing, and answers the change. A group with that mark and another table has no mark in the second pass.
-pub(crate) fn send_group<P: Place, L: Ledger>(
+/// Sends the packets of the group under this number, where its mark and its table are those of the first pass; else it
+/// sends nothing, and answers the change. A group with that mark and another table has no mark in the second pass.
+pub(crate) fn send_group<P: Place, K: Link, L: Ledger>(
     alloc: Global,
     place: &mut P,
-    found: &FirstPass,
+    link: &mut K,
+    found: &FirstPass<'_>,
     number: u32,
     group: &Group,
     steps: &mut Steps<L>,
-) -> Result<Option<Change>, Stop>
-    requires output { (P.seen place.old).has_output ≡ true }
+) -> Result<Option<Change>, RouteStop>
+    requires open { IsOpen (way_of found.now.to) (routes P.Place K.Link place.old link.old) }
     requires whole { IsWhole (length found.now.source.priority.layers) group.now }
     requires filled { IsFilled group.now }
-    ensures sends { IfOk result (λ change. MatchOption change (SendsGroup found.now.source found.now.marks.items number group.now (P.seen place.old) (P.seen place.new))
-        (Differs found.now.source found.now.marks.items number group.now (P.seen place.old) (P.seen place.new))) }
-    ensures part { OnErr result (SendsPart found.now.source found.now.marks.items number group.now
-        (P.seen place.old) (P.seen place.new)) }
-    ensures others { OnlyWrites (P.seen place.old) (P.seen place.new) }
-    ensures later { (P.seen place.old).faults ≤ (P.seen place.new).faults }
-    ensures cause { IfErr result (Licensed (HadFault (P.seen place.old) (P.seen place.new)
-        (Blames Written (P.seen place.old).target))) }
+    ensures sends { IfOk result (λ change. MatchOption change (SendsGroup (way_of found.now.to) found.now.source found.now.marks.items number group.now (routes P.Place K.Link place.old link.old) (routes P.Place K.Link place.new link.new))
+        (Differs found.now.source found.now.marks.items number group.now (routes P.Place K.Link place.old link.old) (routes P.Place K.Link place.new link.new))) }
+    ensures part { OnErr result (SendsGroupPart (way_of found.now.to) found.now.source found.now.marks.items number group.now
+        (routes P.Place K.Link place.old link.old) (routes P.Place K.Link place.new link.new)) }
+    ensures others { OnlyGrows (routes P.Place K.Link place.old link.old)
+        (routes P.Place K.Link place.new link.new) }
+    ensures cause { IfErr result (IsStop (OutputFailed (way_of found.now.to) (P.seen place.old) (P.seen place.new))
+        (SendingFailed (way_of found.now.to) (K.seen link.old) (K.seen link.new)) ⊥) }
     ensures cost { steps.new ≤ steps.old + cost_at
         (slice_get found.now.source.tables.items number) }
     ensures idle { IfOk result (λ change. IfSome change (λ _. steps.new ≡ steps.old)) }
@@ -78,12 +78,12 @@ pub(crate) fn send_group<P: Place, L: Ledger>(
             second: GroupMark::none(),
         }));
     }
-    put_packets(alloc, place, found, number, group, steps)?;
+    put_packets(alloc, place, link, found, number, group, steps)?;
     Ok(None)
 }
 
 /// The mark of the first pass at this place, and that of no group where it has none.
-pub(crate) fn first_mark(found: &FirstPass, number: u32) -> GroupMark
+pub(crate) fn first_mark(found: &FirstPass<'_>, number: u32) -> GroupMark
     ensures { result ≡ mark_at found.now.marks.items number }
 {
     match found.marks.get(number as usize) {
@@ -126,38 +126,41 @@ fn sizes(priority: &Priority, lengths: &[u32]) -> ArrayVec<LayerSize, MAX_LAYERS
     sizes
 }
 
-/// Puts the packets of the group under this number, whose table is the first pass's.
-fn put_packets<P: Place, L: Ledger>(
+/// Sends the packets of the group under this number, whose table is the first pass's.
+fn put_packets<P: Place, K: Link, L: Ledger>(
     alloc: Global,
     place: &mut P,
-    found: &FirstPass,
+    link: &mut K,
+    found: &FirstPass<'_>,
     number: u32,
     group: &Group,
     steps: &mut Steps<L>,
-) -> Result<(), Stop>
-    requires output { (P.seen place.old).has_output ≡ true }
+) -> Result<(), RouteStop>
+    requires open { IsOpen (way_of found.now.to) (routes P.Place K.Link place.old link.old) }
     requires there { slice_get found.now.source.tables.items number
         ≡ Some (table_of found.now.source.priority group.now.cut) }
     requires whole { IsWhole (length found.now.source.priority.layers) group.now }
-    ensures puts { OnOk result (Puts (group_entries (encoding_of found.now.source number group.now))
-        (P.seen place.old) (P.seen place.new)) }
-    ensures part { OnErr result (PutsPart (group_entries
-        (encoding_of found.now.source number group.now)) (P.seen place.old) (P.seen place.new)) }
-    ensures others { OnlyWrites (P.seen place.old) (P.seen place.new) }
-    ensures later { (P.seen place.old).faults ≤ (P.seen place.new).faults }
-    ensures cause { IfErr result (Licensed (HadFault (P.seen place.old) (P.seen place.new)
-        (Blames Written (P.seen place.old).target))) }
+    ensures sends { OnOk result (Sends (way_of found.now.to)
+        (group_datagrams (encoding_of found.now.source number group.now))
+        (routes P.Place K.Link place.old link.old) (routes P.Place K.Link place.new link.new)) }
+    ensures part { OnErr result (SendsPart (way_of found.now.to)
+        (group_datagrams (encoding_of found.now.source number group.now))
+        (routes P.Place K.Link place.old link.old) (routes P.Place K.Link place.new link.new)) }
+    ensures others { OnlyGrows (routes P.Place K.Link place.old link.old)
+        (routes P.Place K.Link place.new link.new) }
+    ensures cause { IfErr result (IsStop (OutputFailed (way_of found.now.to) (P.seen place.old) (P.seen place.new))
+        (SendingFailed (way_of found.now.to) (K.seen link.old) (K.seen link.new)) ⊥) }
     ensures cost { steps.new ≤ steps.old + cost_at
         (slice_get found.now.source.tables.items number) }
 {
     let encoder = encoder_of(alloc, found, number, group)?;
-    put_group(alloc, place, &encoder, steps)
+    put_group(alloc, found.to, place, link, &encoder, steps)
 }
 
 /// The encoder of the group under this number, whose table is the first pass's.
 fn encoder_of<'f>(
     alloc: Global,
-    found: &'f FirstPass,
+    found: &'f FirstPass<'_>,
     number: u32,
     group: &Group,
 ) -> Result<Encoder<'f, Gf16Tables>, NoMemory>

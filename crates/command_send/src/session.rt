@@ -1,11 +1,13 @@
 //! The sending of a session: both files are read, and then the stream again.
-ghost use Rattle.std.specs.Prelude.{◌≡◌, ◌+◌, ◌≤◌, ◌*◌, ℕ, List, true, false, length, OnOk, OnErr, IfOk, IfErr};
+ghost use Rattle.std.specs.Prelude.{◌≡◌, ◌+◌, ◌≤◌, ◌*◌, ℕ, List, length, OnOk, OnErr, IfOk, IfErr};
 ghost use Rattle.std.specs.List.{sum_by};
-ghost use Rattle.std.specs.Str.{bytes_eq};
-ghost use Rattle.pet_base.specs.Seen.{Seen, KeepsOutput, HasBlame};
+ghost use Rattle.pet_base.specs.Seen.{Seen, KeepsOutput, HadFault};
 ghost use Rattle.stream_session.specs.Sources.{IsSourceFault};
 ghost use Rattle.plan_text.specs.PlanLines.{send_text};
-ghost use Rattle.command_send.specs.Sends.{Costs, HasPackets, LeavesFront, sent_line_text};
+ghost use Rattle.datagram_route.specs.RouteFaults.{IsStop, AimedFailed};
+ghost use Rattle.datagram_route.specs.Sending.{routes};
+ghost use Rattle.datagram_route.specs.Way.{way_of};
+ghost use Rattle.command_send.specs.Sends.{Costs, HasPackets, IsOther, KeepsLink, LeavesFront, sent_line_text};
 ghost use Rattle.command_send.specs.SendParts.{IsReadFrom, IsReopened, IsLeftEmpty, IsOfReopened, IsSendFault, SessionSent, SessionLeft, SessionStops};
 ghost use Rattle.command_send.specs.Sending.{words_cost};
 ghost use Rattle.stream_session.specs.Sessions.{HasSession};
@@ -13,7 +15,8 @@ ghost use Rattle.stream_session.specs.Sessions.{HasSession};
 use crate::fault::SendFault;
 use crate::first::FirstPass;
 use crate::second::send_groups;
-use pet_base::{Failed, NoMemory, Place, Steps};
+use datagram_route::{Route, RouteStop, open_route};
+use pet_base::{Link, NoMemory, Place, Steps};
 use pet_tables::Gf16Tables;
 use plan_text::send_line;
 use std::alloc::Global;
@@ -21,38 +24,42 @@ use std::sync::ledger::Ledger;
 use stream_session::{SourceFault, read_marked};
 
 /// Reads both files, sends all packets, and makes the line that is then printed.
-pub(crate) fn sent_line<P: Place, L: Ledger>(
+pub(crate) fn sent_line<P: Place, K: Link, L: Ledger>(
     alloc: Global,
     stream: &str,
     priority: &str,
-    to: &str,
+    to: Route<'_>,
     place: &mut P,
+    link: &mut K,
     steps: &mut Steps<L>,
 ) -> Result<Vec<u8>, SendFault>
-    requires differ { bytes_eq to.now stream.now ≡ false }
+    requires differ { IsOther (way_of to) stream.now }
     ensures line { IfOk result (λ line. (s : HasSession (P.seen place.old) stream.now priority.now)
-        × HasPackets s to.now (P.seen place.new)
+        × HasPackets (routes P.Place K.Link place.old link.old) s (way_of to.entry) (routes P.Place K.Link place.new link.new)
         × (line.items ≡ sent_line_text s.priority_bytes s.stream_bytes)) }
-    ensures cause { IfErr result (IsSendFault (P.seen place.old) (P.seen place.new) stream.now
-        priority.now to.now) }
-    ensures left { OnErr result (LeavesFront stream.now priority.now to.now (P.seen place.old)
-        (P.seen place.new)) }
+    ensures cause { IfErr result (IsSendFault (routes P.Place K.Link place.old link.old)
+        (routes P.Place K.Link place.new link.new) stream.now priority.now (way_of to.entry)) }
+    ensures left { OnErr result (LeavesFront stream.now priority.now (way_of to.entry)
+        (routes P.Place K.Link place.old link.old) (routes P.Place K.Link place.new link.new)) }
+    ensures link { KeepsLink (way_of to.entry) (K.seen link.old) (K.seen link.new) }
     ensures costs { Costs stream.now priority.now (P.seen place.old) steps.old steps.new }
 {
-    let found = read_first(alloc, stream, priority, place)?;
-    send_session(alloc, stream, to, &found, place, steps)?;
+    let found = read_first(alloc, stream, priority, to, place)?;
+    send_session(alloc, stream, &found, place, link, steps)?;
     Ok(line_of(alloc, &found)?)
 }
 
 /// Reads both files.
-pub(crate) fn read_first<P: Place>(
+pub(crate) fn read_first<'a, P: Place>(
     alloc: Global,
     stream: &str,
     priority: &str,
+    to: Route<'a>,
     place: &mut P,
-) -> Result<FirstPass, SourceFault>
+) -> Result<FirstPass<'a>, SourceFault>
     ensures read { IfOk result (λ found. IsReadFrom (P.seen place.old) stream.now priority.now
         found.source found.marks.items) }
+    ensures to { IfOk result (λ found. found.to ≡ to.entry) }
     ensures others { KeepsOutput (P.seen place.old) (P.seen place.new) }
     ensures later { (P.seen place.old).faults ≤ (P.seen place.new).faults }
     ensures cause { IfErr result (IsSourceFault (P.seen place.old) (P.seen place.new) stream.now
@@ -66,47 +73,58 @@ pub(crate) fn read_first<P: Place>(
         source: marked.source,
         marks: marked.marks,
         field,
+        to,
     })
 }
 
-/// Makes the file TO, reads the stream again and sends its groups.
-fn send_session<P: Place, L: Ledger>(
+/// Makes the route ready, reads the stream again and sends its groups.
+fn send_session<P: Place, K: Link, L: Ledger>(
     alloc: Global,
     stream: &str,
-    to: &str,
-    found: &FirstPass,
+    found: &FirstPass<'_>,
     place: &mut P,
+    link: &mut K,
     steps: &mut Steps<L>,
 ) -> Result<(), SendFault>
-    requires differ { bytes_eq to.now stream.now ≡ false }
-    ensures sent { OnOk result (SessionSent found.now.source found.now.marks.items stream.now to.now
-        (P.seen place.old) (P.seen place.new)) }
+    requires differ { IsOther (way_of found.now.to) stream.now }
+    ensures sent { OnOk result (SessionSent found.now.source found.now.marks.items stream.now
+        (way_of found.now.to) (routes P.Place K.Link place.old link.old) (routes P.Place K.Link place.new link.new)) }
     ensures left { OnErr result (SessionLeft found.now.source found.now.marks.items stream.now
-        to.now (P.seen place.old) (P.seen place.new)) }
+        (way_of found.now.to) (routes P.Place K.Link place.old link.old) (routes P.Place K.Link place.new link.new)) }
     ensures cause { IfErr result (SessionStops found.now.source found.now.marks.items stream.now
-        to.now (P.seen place.old) (P.seen place.new)) }
+        (way_of found.now.to) (routes P.Place K.Link place.old link.old) (routes P.Place K.Link place.new link.new)) }
+    ensures link { KeepsLink (way_of found.now.to) (K.seen link.old) (K.seen link.new) }
     ensures cost { steps.new ≤ steps.old + sum_by words_cost found.now.source.tables.items }
 {
-    reopen(stream, to, place)?;
-    send_groups(alloc, place, found, steps)
+    reopen(stream, found.to, place, link)?;
+    send_groups(alloc, place, link, found, steps)
 }
 
-/// Makes the one file an empty output, and the other the input again.
-fn reopen<P: Place>(stream: &str, to: &str, place: &mut P) -> Result<(), Failed>
-    requires differ { bytes_eq to.now stream.now ≡ false }
-    ensures opened { OnOk result (IsReopened stream.now to.now (P.seen place.old)
-        (P.seen place.new)) }
-    ensures err { OnErr result (IsLeftEmpty to.now (P.seen place.old) (P.seen place.new)) }
-    ensures cause { HasBlame (P.seen place.old) (P.seen place.new) result
-        (IsOfReopened stream.now to.now) }
+/// Makes the route ready: the one file is an empty output, or the link is aimed; and the other file is the input again.
+fn reopen<P: Place, K: Link>(
+    stream: &str,
+    to: Route<'_>,
+    place: &mut P,
+    link: &mut K,
+) -> Result<(), RouteStop>
+    requires differ { IsOther (way_of to) stream.now }
+    ensures opened { OnOk result (IsReopened stream.now (way_of to.entry) (routes P.Place K.Link place.old link.old)
+        (routes P.Place K.Link place.new link.new)) }
+    ensures err { OnErr result (IsLeftEmpty (way_of to.entry) (routes P.Place K.Link place.old link.old)
+        (routes P.Place K.Link place.new link.new)) }
+    ensures link { KeepsLink (way_of to.entry) (K.seen link.old) (K.seen link.new) }
+    ensures later { (P.seen place.old).faults ≤ (P.seen place.new).faults }
+    ensures cause { IfErr result (IsStop (HadFault (P.seen place.old) (P.seen place.new)
+        (IsOfReopened stream.now (way_of to.entry)))
+        (AimedFailed (way_of to.entry) (K.seen link.old) (K.seen link.new)) ⊥) }
 {
-    place.create(to)?;
+    open_route(to, place, link)?;
     place.enter(stream)?;
     Ok(())
 }
 
 /// The line for the packets of a session: each group has as many as the priority says.
-fn line_of(alloc: Global, found: &FirstPass) -> Result<Vec<u8>, NoMemory>
+fn line_of(alloc: Global, found: &FirstPass<'_>) -> Result<Vec<u8>, NoMemory>
     ensures { IfOk result (λ line. line.items
         ≡ send_text found.now.source.number (length found.now.source.tables.items)
         (length found.now.source.tables.items * found.now.source.priority.packets)) }

@@ -15,3 +15,4 @@ pub mod KeptDatagram
 pub mod DatagramAtEnd
 pub mod FewestStripesLaws
 pub mod StoreLaws
+pub mod StoreRead

@@ -16,8 +16,8 @@ ghost use Rattle.command_files.specs.Outputs.{Puts, PutsPart};
 
 use arrayvec::ArrayVec;
 use pet_base::{Failed, MAX_LAYERS, Place};
-use pet_field::Field;
 use pet_receive::{LayerSet, Receiver};
+use pet_rows::Rows;
 
 /// A layer that is shown, with its bytes.
 #[derive(Clone, Copy, Default)]
@@ -31,7 +31,7 @@ struct ShownLayer<'a> {
 /// # Errors
 ///
 /// The call of the place failed, and then its count of faults rose; a front of the records was put.
-pub fn put_shown<P: Place, F: Field>(
+pub fn put_shown<P: Place, F: Rows>(
     place: &mut P,
     receiver: &Receiver<'_, F>,
     arrival: u32,
@@ -59,7 +59,7 @@ pub fn put_shown<P: Place, F: Field>(
 }
 
 /// The layers of the set, each lent out by the receiver.
-fn shown_layers<'a, F: Field>(
+fn shown_layers<'a, F: Rows>(
     receiver: &'a Receiver<'_, F>,
     group: u32,
     shown: LayerSet,
@@ -81,7 +81,7 @@ fn shown_layers<'a, F: Field>(
 }
 
 /// The bytes of a layer that is shown.
-fn shown_layer<'a, F: Field>(receiver: &'a Receiver<'_, F>, group: u32, layer: u8) -> &'a [u8]
+fn shown_layer<'a, F: Rows>(receiver: &'a Receiver<'_, F>, group: u32, layer: u8) -> &'a [u8]
     requires { IsShown (kept_set receiver.now) group layer }
     ensures { (order : Order) (p : Packets) → HasKept F.is_element F.coding receiver.now order
         → open_group (kept_set receiver.now) group ≡ Some p

@@ -2,8 +2,7 @@
 use Rattle.std.proofs.Common.{◌≡◌, ℕ, ◌≤◌, Bool, List, [], ◌∷◌, ◌++◌, length, Option, None, Some, Result, Ok, Err, refl, sym, ap, subst, ◌∙◌, inl, inr}
 use Rattle.std.specs.Prelude.{option_map, IfSome, if◌then◌else◌}
 use Rattle.std.specs.Io.KnownBytes.{append_known}
-use Rattle.std.proofs.lemmas.Bool.{le-ltb}
-use Rattle.pet_base.specs.declared.limits.TheConstants.{MAX_SESSION, MAX_STORE}
+use Rattle.pet_base.specs.declared.limits.TheConstants.{MAX_SESSION}
 use Rattle.pet_base.specs.OutsideSeen.{OutsideSeen}
 use Rattle.pet_base.specs.Seen.{Seen, Files, Blame, HadFault, with_file}
 use Rattle.command_files.specs.Printed.{Printed}
@@ -17,82 +16,19 @@ use Rattle.pet_receive.specs.laws.FramesLaws.{frames_many}
 use Rattle.pet_receive.specs.Union.{union, absorb_fault, frames_in}
 use Rattle.pet_receive.specs.declared.union.Absorb.{Absorb}
 use Rattle.pet_receive.specs.declared.union.Absorb.TheVariants as absorb
-use Rattle.store_merge.specs.Files.{HasStore, HasBadStore, store_in, store_file}
-use Rattle.store_merge.specs.Refusals.{read_text}
-use Rattle.store_merge.specs.Store.{store_of, store_text}
-use Rattle.store_merge.specs.laws.LengthLaws.{store_fits}
-use Rattle.store_merge.specs.laws.WrittenLaws.{written_is_read}
-use Rattle.store_merge.specs.declared.fault.StoreKind.TheVariants.{Cut}
-use Rattle.store_merge.specs.declared.fault.BadStore.{BadStore}
+use Rattle.store_merge.specs.Files.{store_file}
+use Rattle.store_merge.specs.Store.{store_text}
 use Rattle.store_merge.specs.declared.fault.BadStore.TheVariants.{At}
 use Rattle.met_packets.specs.Gf16.{met_frames}
 use Rattle.met_packets.specs.Met.{Pair}
 use Rattle.met_packets.specs.MetStore.{pairs_store}
-use Rattle.met_packets.specs.laws.SetOfPairs.{IsMetSet, its_frames, store_exists, met_sets_fit, met_sets_join}
+use Rattle.met_packets.specs.laws.SetOfPairs.{IsMetSet, its_frames, met_sets_fit, met_sets_join}
+use Rattle.met_packets.specs.laws.StoreRead.{IsStoreOf, text_is, store_is, read_so, not_refused}
 use Rattle.pet_text.specs.Lines.{merged_text}
 use Rattle.command_merge.specs.Merges.{HasStores, FailedInTurn, WritesUnion, union_of, EndsMerge, Merges}
 use Rattle.command_merge.specs.MergesSession.{HasStoresOf, CanMerge, MergesSession, CompletesMerge}
 use Rattle.command_merge.specs.declared.command.MergeEnd.{MergeEnd}
 use Rattle.command_merge.specs.declared.command.MergeEnd.TheVariants.{Done, NoMemory, PlaceFault, OutFault, BadFirst, BadSecond, OtherSession, Clash, Full}
-
-same_some : (x y : List ℕ) → Some x ≡ Some y → x ≡ y
-same_some x y e = cc
-
-abbrev good : KeptSet → Result KeptSet BadStore
-good set = Ok set
-
-abbrev bad : BadStore → Result KeptSet BadStore
-bad fault = Err fault
-
-same_ok : (a b : KeptSet) → good a ≡ Ok b → a ≡ b
-same_ok a b e = cc
-
--- the store of some packets of a session is read as a set that has exactly these
-pub record IsStoreOf (s : Session) (pairs : List Pair) (set : KeptSet) : Type 0 where
-  pub is_met : IsMetSet gf16_coding s MAX_SESSION pairs set
-  pub read : store_in (pairs_store s pairs) ≡ Ok set
-
--- the store of what is kept, by the packets
-text_is : (s : Session) (pairs : List Pair) (set : KeptSet) → IsMetSet gf16_coding s MAX_SESSION pairs set → store_text set ≡ pairs_store s pairs
-text_is s pairs set is = ap (λ (n : List ℕ). store_of n (frames_in set)) is.session ∙ ap (store_of s.number) (its_frames gf16_coding s MAX_SESSION pairs set is)
-
-within : (text : List ℕ) → length text ≤ MAX_STORE → store_in text ≡ read_text MAX_SESSION text
-unfolding store_in
-within text le = ap (λ (b : Bool). if b then Err (At MAX_STORE Cut) else read_text MAX_SESSION text) (le-ltb MAX_STORE (length text) le)
-
-store_is : (s : Session) (pairs : List Pair) → IsSession 2 s → Fits s MAX_SESSION → (set : KeptSet) × IsStoreOf s pairs set
-store_is s pairs session fits =
-    let there = store_exists s MAX_SESSION pairs session fits in
-    let set = there.0 in
-    let is = there.1 in
-    let text = text_is s pairs set is in
-    let most : set.limit ≡ MAX_SESSION = is.limit_is in
-    let cost = subst (λ (l : ℕ). cost_kept set ≤ l) most is.sound.within in
-    let number : length set.session ≡ 8 = ap (λ (n : List ℕ). length n) is.session ∙ session.number in
-    let read = written_is_read set MAX_SESSION is.sound number cost ∙ ap (λ (l : ℕ). Ok (record set { limit = l })) (sym most) in (
-      set,
-      record {
-        is_met = is;
-        read = ap store_in (sym text) ∙ within (store_text set) (store_fits set is.sound number cost) ∙ read;
-      },
-    )
-
--- it is all that the file can be a store of
-read_so : (s : Session) (files : Files) (told : Option Files) (name : List ℕ) (pairs : List Pair) (set other : KeptSet) → told ≡ Some files → files name ≡ Some (pairs_store s pairs) → IsStoreOf s pairs set → HasStore told name other
-    → other ≡ set
-read_so s files told name pairs set other is found store has =
-    let at = subst (λ (o : Option Files). HasStore o name other) is has in
-    same_ok other set (sym at.2 ∙ ap store_in (same_some at.0 (pairs_store s pairs) (sym at.1 ∙ found)) ∙ store.read)
-
-no_ok : {P : Type 0} (set : KeptSet) (fault : BadStore) → bad fault ≡ Ok set → P
-no_ok set fault e = cc
-
--- and it is not refused
-not_refused : {P : Type 0} (s : Session) (files : Files) (told : Option Files) (name : List ℕ) (pairs : List Pair) (set : KeptSet) (fault : BadStore) → told ≡ Some files → files name ≡ Some (pairs_store s pairs) → IsStoreOf s pairs set
-    → HasBadStore told name fault → P
-not_refused s files told name pairs set fault is found store has =
-    let at = subst (λ (o : Option Files). HasBadStore o name fault) is has in
-    no_ok set fault (sym at.2 ∙ ap store_in (same_some at.0 (pairs_store s pairs) (sym at.1 ∙ found)) ∙ store.read)
 
 wider : (blame : Blame) {P : Blame → Type 0} → ((b : Blame) → b ≡ blame → P b) → (old new : Seen) → Failed (blame ∷ []) old new → HadFault old new P
 wider blame {P} to old new f = record { rose = f.rose; blame = by new.blamed f.blame }

@@ -23,7 +23,7 @@ use Rattle.met_packets.specs.laws.SumLaws.{sum_same, count_nothing}
 use Rattle.met_packets.specs.laws.KeptIsMet.{Follows}
 use Rattle.met_packets.specs.laws.PacketText.{count_kept_is}
 
-some_count : (first last : ℕ) (stripes : List (ℕ × ℕ)) → 0 < longest_meeting first last stripes
+pub some_count : (first last : ℕ) (stripes : List (ℕ × ℕ)) → 0 < longest_meeting first last stripes
 some_count first last [] = omega arith
 some_count first last (stripe ∷ stripes) = omega (arith, some_count first last stripes)
 
@@ -100,7 +100,7 @@ module _ {width : ℕ} (made : SessionGroup → ℕ → List ℕ) (s : Session) 
           ∙ ap (λ (m : ℕ). count_by (λ layer. leb (count_of x.layers layer) m) (range_with_len 0 (length x.layers))) count
 
   -- one open group tells the number of groups
-  told_is : 0 < length kept.groups → groups_told kept ≡ length s.groups
+  pub told_is : 0 < length kept.groups → groups_told kept ≡ length s.groups
   told_is some = by kept.groups some follows.told
     where
       by : (es : List (ℕ × Packets)) → 0 < length es → All (λ p. p.header.groups ≡ length s.groups) (Rattle.std.specs.Map.values_of es) → unwrap_or (option_map (λ (e : ℕ × Packets). e.1.header.groups) (slice_get es 0)) 0 ≡ length s.groups

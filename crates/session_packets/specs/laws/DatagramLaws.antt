@@ -1,32 +1,22 @@
--- Laws of the entries of packets, packet by packet and group by group, for the proofs of callers.
-use Rattle.std.proofs.Common.{◌≡◌, ℕ, zero, suc, ◌+◌, ◌<◌, ◌≤◌, take, drop, List, [], ◌∷◌, ◌++◌, length, append_assoc, refl, sym, ap, subst, ◌∙◌, arith, true≢false}
+-- Laws of the datagrams of packets, packet by packet and group by group, for the proofs of callers.
+use Rattle.std.proofs.Common.{◌≡◌, ℕ, zero, suc, ◌+◌, ◌<◌, ◌≤◌, take, drop, List, [], ◌∷◌, ◌++◌, length, map, append_assoc, refl, sym, ap, subst, ◌∙◌, arith, true≢false}
 use Rattle.std.specs.Prelude.{slice_get, Some, is_some, unwrap_or, Result, Ok, Err, OnOk}
 use Rattle.std.specs.Int.{w16, to_be_bytes}
 use Rattle.std.specs.List.{flat_map, range_with_len}
-use Rattle.std.proofs.lemmas.List.{append-nil, take-append-drop, take_all, map-id}
+use Rattle.std.proofs.lemmas.List.{append-nil, take-append-drop, take_all, map-append}
 use Rattle.std.proofs.lemmas.List.Folds.{flat_map-map}
 use Rattle.std.proofs.lemmas.List.FromFn.{map-range_with_len_more, take-map-range_with_len}
 use Rattle.std.proofs.lemmas.Grind.{flat_map-append}
-use Rattle.pet_base.specs.Seen.{Seen}
 use Rattle.pet_field.specs.Gf16.{gf16_coding}
 use Rattle.stripe_plan.specs.Sizes.{datagram_length_of}
 use Rattle.packet_frame.specs.Frame.{Fields, IsFrame, text}
 use Rattle.packet_frame.specs.laws.Laws.{texts_have_length}
 use Rattle.pet_encode.specs.Encoding.{Encoding, IsGroupOf}
 use Rattle.pet_encode.specs.Session.{Session, SessionGroup, packet_of, packets_of_group, packets_from}
-use Rattle.session_packets.specs.Packets.{entry_text, entries_text, packet_in, packet_entry, first_entries, group_entries, datagrams_text, first_groups_text, AreEncoders, GroupsMakeDatagrams}
-use Rattle.command_files.specs.Outputs.{IsPrefix, Puts, PutsPart}
-use Rattle.command_files.specs.laws.OutputLaws.{puts_then}
-use Rattle.command_files.specs.laws.PartLaws.{part_within, part_after}
-
--- the numbers up to one more
-range_more : (n : ℕ) → range_with_len 0 (n + 1) ≡ range_with_len 0 n ++ (n ∷ [])
-range_more n =
-    sym (map-id (range_with_len 0 (n + 1))) ∙ map-range_with_len_more (λ (x : ℕ). x) 0 n n (omega arith) ∙ ap (λ t. t ++ (n ∷ [])) (map-id (range_with_len 0 n))
-
-range_front : (n m : ℕ) → n ≤ m → take n (range_with_len 0 m) ≡ range_with_len 0 n
-range_front n m le =
-    ap (take n) (sym (map-id (range_with_len 0 m))) ∙ take-map-range_with_len (λ (x : ℕ). x) 0 m n le ∙ map-id (range_with_len 0 n)
+use Rattle.datagram_route.specs.Way.{Way}
+use Rattle.datagram_route.specs.Sending.{Routes, entry_text, entries_of, AreFirst, Sends, SendsPart}
+use Rattle.datagram_route.specs.laws.SendingLaws.{sends_then, part_after, part_within}
+use Rattle.session_packets.specs.Packets.{packet_in, packet_entry, first_datagrams, group_datagrams, session_packets, session_datagrams, datagrams_text, first_groups_datagrams, AreEncoders, GroupsMakeDatagrams}
 
 -- the buffer has the entry, where its first two bytes are the length of the table's datagrams
 pub entry_is : {A E : Type 0} (e : Encoding) (number len : ℕ) (buffer after : List ℕ) (r : Result A E) → buffer ≡ to_be_bytes w16 len → len ≡ datagram_length_of e.header.table.layers
@@ -35,29 +25,28 @@ entry_is e number len buffer after (Err x) begins is written frame = tt
 entry_is e number len buffer after (Ok x) begins is written frame =
     written ∙ ap (λ (t : List ℕ). t ++ text (packet_in e number)) (begins ∙ ap (to_be_bytes w16) (is ∙ sym (texts_have_length (packet_in e number) frame)))
 
--- the entry of one packet more
-pub entries_more : (e : Encoding) (n : ℕ) → first_entries e (n + 1) ≡ first_entries e n ++ packet_entry e n
-entries_more e n =
-    ap (flat_map (packet_entry e)) (range_more n) ∙ flat_map-append (packet_entry e) (range_with_len 0 n) (n ∷ [])
-    ∙ ap (λ (t : List ℕ). first_entries e n ++ t) (append-nil (packet_entry e n))
+-- the datagram of one packet more
+pub datagrams_more : (e : Encoding) (n : ℕ) → first_datagrams e (n + 1) ≡ first_datagrams e n ++ (text (packet_in e n) ∷ [])
+datagrams_more e n = map-range_with_len_more (λ (k : ℕ). text (packet_in e k)) 0 n n (omega arith)
 
--- the entries of the first packets stand at the front of those of more
-pub entries_front : (e : Encoding) (n m : ℕ) → n ≤ m → IsPrefix (first_entries e n) (first_entries e m)
-entries_front e n m le =
-    let all = range_with_len 0 m in
-    let f = packet_entry e in (
-      flat_map f (drop n all),
-      ap (flat_map f) (sym (take-append-drop n all)) ∙ flat_map-append f (take n all) (drop n all) ∙ ap (λ (t : List ℕ). flat_map f t ++ flat_map f (drop n all)) (range_front n m le),
+-- the first packets are the first of more
+datagrams_first : (e : Encoding) (n m : ℕ) → n ≤ m → AreFirst (first_datagrams e n) (first_datagrams e m)
+datagrams_first e n m le =
+    let all = first_datagrams e m in (
+      drop n all,
+      sym (take-append-drop n all) ∙ ap (λ (t : List (List ℕ)). t ++ drop n all) (take-map-range_with_len (λ (k : ℕ). text (packet_in e k)) 0 m n le),
     )
 
-pub puts_packet : (e : Encoding) (n : ℕ) (first before after : Seen) → before.target ≡ first.target → Puts (first_entries e n) first before → Puts (packet_entry e n) before after → Puts (first_entries e (n + 1)) first after
-puts_packet e n first before after same p q =
-    subst (λ (t : List ℕ). Puts t first after) (sym (entries_more e n)) (puts_then (first_entries e n) (packet_entry e n) first before after same p q)
+pub sends_packet : (way : Way) (e : Encoding) (n : ℕ) (first before after : Routes) → before.place.target ≡ first.place.target → Sends way (first_datagrams e n) first before
+    → Sends way (text (packet_in e n) ∷ []) before after → Sends way (first_datagrams e (n + 1)) first after
+sends_packet way e n first before after same p q =
+    subst (λ (t : List (List ℕ)). Sends way t first after) (sym (datagrams_more e n)) (sends_then way (first_datagrams e n) (text (packet_in e n) ∷ []) first before after same p q)
 
-pub part_packet : (e : Encoding) (n m : ℕ) (first before after : Seen) → n < m → before.target ≡ first.target → Puts (first_entries e n) first before → PutsPart (packet_entry e n) before after → PutsPart (first_entries e m) first after
-part_packet e n m first before after lt same p part =
-    part_within (first_entries e (n + 1)) (first_entries e m) first after (entries_front e (n + 1) m (omega arith))
-    (subst (λ (t : List ℕ). PutsPart t first after) (sym (entries_more e n)) (part_after (first_entries e n) (packet_entry e n) first before after same p part))
+pub part_packet : (way : Way) (e : Encoding) (n m : ℕ) (first before after : Routes) → n < m → before.place.target ≡ first.place.target → Sends way (first_datagrams e n) first before
+    → SendsPart way (text (packet_in e n) ∷ []) before after → SendsPart way (first_datagrams e m) first after
+part_packet way e n m first before after lt same p part =
+    part_within way (first_datagrams e (n + 1)) (first_datagrams e m) first after (datagrams_first e (n + 1) m (omega arith))
+    (subst (λ (t : List (List ℕ)). SendsPart way t first after) (sym (datagrams_more e n)) (part_after way (first_datagrams e n) (text (packet_in e n) ∷ []) first before after same p part))
 
 abbrev packet : Session → ℕ → SessionGroup → ℕ → Fields
 packet = packet_of gf16_coding
@@ -74,13 +63,17 @@ source_of e = record { packets = e.header.table.packets; layers = e.header.table
 same_texts : (f g : ℕ → List ℕ) → ((n : ℕ) → f n ≡ g n) → f ≡ g
 same_texts f g h = λ i n. h n i
 
--- the entries of a group are those of its packets in the session
-pub group_is : (s : Session) (e : Encoding) → IsGroupOf s e → group_entries e ≡ entries_text (of_group s e.header.group (source_of e))
+map_twice : {A B C : Type 0} (g : B → C) (f : A → B) (xs : List A) → map g (map f xs) ≡ map (λ x. g (f x)) xs
+map_twice g f [] = refl
+map_twice {C = C} g f (x ∷ xs) = ap (λ (t : List C). g (f x) ∷ t) (map_twice g f xs)
+
+-- the datagrams of a group are those of its packets in the session
+pub group_is : (s : Session) (e : Encoding) → IsGroupOf s e → group_datagrams e ≡ map text (of_group s e.header.group (source_of e))
 group_is s e g =
     let packets : (n : ℕ) → packet_in e n ≡ packet s e.header.group (source_of e) n = λ n. rw (g.number, g.groups) refl in
     let all = range_with_len 0 e.header.table.packets in
-    ap (λ (f : ℕ → List ℕ). flat_map f all) (same_texts (packet_entry e) (λ n. entry_text (text (packet s e.header.group (source_of e) n))) (λ n. ap (λ (f : Fields). entry_text (text f)) (packets n)))
-    ∙ sym (flat_map-map (λ (f : Fields). entry_text (text f)) (packet s e.header.group (source_of e)) all)
+    ap (λ (f : ℕ → List ℕ). map f all) (same_texts (λ n. text (packet_in e n)) (λ n. text (packet s e.header.group (source_of e) n)) (λ n. ap (λ (f : Fields). text f) (packets n)))
+    ∙ sym (map_twice text (packet s e.header.group (source_of e)) all)
 
 from_append : (s : Session) (first : ℕ) (a b : List SessionGroup) → from_group s first (a ++ b) ≡ from_group s first a ++ from_group s (first + length a) b
 from_append s first [] b = ap (λ (k : ℕ). from_group s k b) (omega arith)
@@ -97,8 +90,8 @@ take_there (y ∷ ys) (suc k) x e =
     let rest = take_there ys k x e in
     (ap (λ t. y ∷ t) rest.0, ap suc rest.1)
 
--- the entries of one group more
-pub first_groups_more : (s : Session) (e : Encoding) (n : ℕ) → IsGroupOf s e → e.header.group ≡ n → first_groups_text s (n + 1) ≡ first_groups_text s n ++ group_entries e
+-- the datagrams of one group more
+pub first_groups_more : (s : Session) (e : Encoding) (n : ℕ) → IsGroupOf s e → e.header.group ≡ n → first_groups_datagrams s (n + 1) ≡ first_groups_datagrams s n ++ group_datagrams e
 first_groups_more s e n g at =
     let source = source_of e in
     let more : n + 1 ≡ suc n = omega arith in
@@ -109,42 +102,46 @@ first_groups_more s e n g at =
     ap (λ (k : ℕ). from_group s 0 (take k s.groups)) more ∙ ap (from_group s 0) there.0 ∙ from_append s 0 before (source ∷ [])
     ∙ ap (λ (k : ℕ). from_group s 0 before ++ from_group s k (source ∷ [])) number
     ∙ ap (λ (t : List Fields). from_group s 0 before ++ t) (append-nil (of_group s e.header.group source)) in
-    ap entries_text packets ∙ flat_map-append (λ (f : Fields). entry_text (text f)) (from_group s 0 before) (of_group s e.header.group source)
-    ∙ ap (λ (t : List ℕ). first_groups_text s n ++ t) (sym (group_is s e g))
+    ap (map text) packets ∙ map-append text (from_group s 0 before) (of_group s e.header.group source)
+    ∙ ap (λ (t : List (List ℕ)). first_groups_datagrams s n ++ t) (sym (group_is s e g))
 
--- those of all groups are the datagram file
-pub first_groups_all : (s : Session) (n : ℕ) → length s.groups ≤ n → first_groups_text s n ≡ datagrams_text s
-first_groups_all s n all = ap (λ (groups : List SessionGroup). entries_text (from_group s 0 groups)) (take_all n s.groups all)
+-- those of all groups are those of the session
+pub first_groups_all : (s : Session) (n : ℕ) → length s.groups ≤ n → first_groups_datagrams s n ≡ session_datagrams s
+first_groups_all s n all = ap (λ (groups : List SessionGroup). map text (from_group s 0 groups)) (take_all n s.groups all)
 
--- and those of the first groups stand at its front
-pub first_groups_front : (s : Session) (n : ℕ) → IsPrefix (first_groups_text s n) (datagrams_text s)
-first_groups_front s n =
+-- and those of the first groups stand before the others
+pub first_groups_first : (s : Session) (n : ℕ) → AreFirst (first_groups_datagrams s n) (session_datagrams s)
+first_groups_first s n =
     let rest = from_group s (0 + length (take n s.groups)) (drop n s.groups) in (
-      entries_text rest,
-      ap (λ (groups : List SessionGroup). entries_text (from_group s 0 groups)) (sym (take-append-drop n s.groups))
-          ∙ ap entries_text (from_append s 0 (take n s.groups) (drop n s.groups))
-          ∙ flat_map-append (λ (f : Fields). entry_text (text f)) (from_group s 0 (take n s.groups)) rest,
+      map text rest,
+      ap (λ (groups : List SessionGroup). map text (from_group s 0 groups)) (sym (take-append-drop n s.groups))
+          ∙ ap (map text) (from_append s 0 (take n s.groups) (drop n s.groups))
+          ∙ map-append text (from_group s 0 (take n s.groups)) rest,
     )
+
+-- the datagram file of a session has the entries of its datagrams
+pub entries_are_text : (s : Session) → entries_of (session_datagrams s) ≡ datagrams_text s
+entries_are_text s = flat_map-map entry_text text (session_packets s)
 
 there_is : {X : Type 0} (xs : List X) (n : ℕ) → n < length xs → (x : X) × (slice_get xs n ≡ Some x)
 there_is [] n lt = absurd (omega arith)
 there_is (x ∷ xs) zero lt = (x, refl)
 there_is (x ∷ xs) (suc n) lt = there_is xs n (omega arith)
 
-groups_so_far : (s : Session) (encoders : List Encoding) → AreEncoders s encoders → (n : ℕ) → n ≤ length encoders → flat_map group_entries (take n encoders) ≡ first_groups_text s n
+groups_so_far : (s : Session) (encoders : List Encoding) → AreEncoders s encoders → (n : ℕ) → n ≤ length encoders → flat_map group_datagrams (take n encoders) ≡ first_groups_datagrams s n
 groups_so_far s encoders are zero le = refl
 groups_so_far s encoders are (suc n) le =
     let e = there_is encoders n (omega arith) in
     let is = are.each n e.0 e.1 in
     let more : n + 1 ≡ suc n = omega arith in
-    ap (flat_map group_entries) (take_there encoders n e.0 e.1).0 ∙ flat_map-append group_entries (take n encoders) (e.0 ∷ [])
-    ∙ ap (λ (t : List ℕ). flat_map group_entries (take n encoders) ++ t) (append-nil (group_entries e.0))
-    ∙ ap (λ (t : List ℕ). t ++ group_entries e.0) (groups_so_far s encoders are n (omega arith))
+    ap (flat_map group_datagrams) (take_there encoders n e.0 e.1).0 ∙ flat_map-append group_datagrams (take n encoders) (e.0 ∷ [])
+    ∙ ap (λ (t : List (List ℕ)). flat_map group_datagrams (take n encoders) ++ t) (append-nil (group_datagrams e.0))
+    ∙ ap (λ (t : List (List ℕ)). t ++ group_datagrams e.0) (groups_so_far s encoders are n (omega arith))
     ∙ sym (first_groups_more s e.0 n is.0 is.1)
-    ∙ ap (first_groups_text s) more
+    ∙ ap (first_groups_datagrams s) more
 
 pub groups_make_datagrams : GroupsMakeDatagrams
 groups_make_datagrams s encoders are =
-    ap (flat_map group_entries) (sym (take_all (length encoders) encoders (omega arith)))
+    ap (flat_map group_datagrams) (sym (take_all (length encoders) encoders (omega arith)))
     ∙ groups_so_far s encoders are (length encoders) (omega arith)
     ∙ first_groups_all s (length encoders) (omega (arith, are.many))

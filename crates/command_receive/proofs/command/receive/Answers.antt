@@ -1,16 +1,29 @@
-use Rattle.std.proofs.Common.{refl}
-use Rattle.command_receive.proofs.Ends.{ends_read}
+use Rattle.std.proofs.Common.{refl, sym, subst}
+use Rattle.command_receive.specs.Receives.{EndsReceive}
+use Rattle.pet_base.specs.Lent.{seen}
+use Rattle.pet_base.specs.OutsideSeen.{outside_seen}
+use Rattle.datagram_route.specs.Way.{way_of}
+use Rattle.command_receive.proofs.Ends.{receives_all}
+use Rattle.command_receive.specs.laws.NamedLaws.{names_what_it_stores}
 use Rattle.command_receive.specs.laws.SessionReceived.{completes_receive}
 use Rattle.command_receive.proofs.command.receive.Goals as goal
 
 pub returns-in-Ok-clause-receives : goal.returns-in-Ok-clause-receives
 returns-in-Ok-clause-receives g c =
     let done = c.in-Ok.ensures.done in
-    record {
-      link = refl;
-      later = c.print_numbers.ensures.later;
-      ends = ends_read c.args.from.now c.args.session c.args.layers.now c.args.store.now _ _ done.0 c.in-Ok.totals done.1 c.print_numbers.result c.print_numbers.ensures.ends;
-    }
+    let between = c.read_all.new.outside in
+    let after = outside_seen g.P.Place g.K.Link g.S.Sink between.place.now between.link.now c.print_numbers.new.out between.steps.now in
+    receives_all (way_of c.args.from) c.args.session c.args.layers.now c.args.store.now (seen c.args.outside.now) (seen between) after done.0 c.in-Ok.totals done.1 refl refl refl done.2 c.read_all.ensures.link c.in-Ok.ensures.listens c.read_all.ensures.later
+    c.print_numbers.ensures.later c.print_numbers.result c.print_numbers.ensures.ends
 
 pub returns-in-Ok-clause-completes : goal.returns-in-Ok-clause-completes
-returns-in-Ok-clause-completes g c = completes_receive c.args.from.now c.args.session c.args.layers.now c.args.store.now _ _ c.print_numbers.result (returns-in-Ok-clause-receives g c)
+returns-in-Ok-clause-completes g c = completes_receive (way_of c.args.from) c.args.session c.args.layers.now c.args.store.now _ _ c.print_numbers.result (returns-in-Ok-clause-receives g c)
+
+pub returns-in-Ok-clause-named : goal.returns-in-Ok-clause-named
+returns-in-Ok-clause-named g c =
+    names_what_it_stores (way_of c.args.from) c.args.session c.args.layers.now c.args.store.now _ _ c.print_numbers.result (returns-in-Ok-clause-receives g c).ends
+
+pub returns-in-Err-clause-named : goal.returns-in-Err-clause-named
+returns-in-Err-clause-named g c =
+    names_what_it_stores (way_of c.args.from) c.args.session c.args.layers.now c.args.store.now (seen c.args.outside.now) (seen c.read_all.new.outside) c.stopped.result
+    (subst (EndsReceive (way_of c.args.from) c.args.session c.args.layers.now c.args.store.now (seen c.args.outside.now) (seen c.read_all.new.outside)) (sym c.stopped.ensures) c.in-Err.ensures.stop)

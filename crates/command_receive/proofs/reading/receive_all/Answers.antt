@@ -1,56 +1,67 @@
-use Rattle.std.proofs.Common.{◌+◌, arith, refl, subst}
-use Rattle.pet_base.specs.Entries.{TakesEntry}
+use Rattle.std.proofs.Common.{◌+◌, ◌∙◌, arith, refl, subst}
+use Rattle.datagram_route.specs.Way.{way_of}
+use Rattle.datagram_route.specs.Coming.{coming, TakesDatagram}
+use Rattle.datagram_route.specs.RouteFaults.{stop_of_place, stop_of_route}
 use Rattle.pet_base.specs.laws.SeenLaws.{KeepsNames-same, KeepsNames-then, OnlyReads-KeepsNames, OnlyWrites-KeepsNames}
-use Rattle.pet_base.specs.laws.Through.{on_any_err}
 use Rattle.pet_receive.specs.Arrivals.{kept_set}
-use Rattle.command_receive.proofs.DatagramsSoFar.{so_far_start, so_far_more, received_all, part_so_far, part_of_more}
+use Rattle.command_receive.specs.SoFar.{StoppedSoFar}
+use Rattle.command_receive.proofs.DatagramsSoFar.{so_far_start, so_far_more, received_all, stopped_so_far, stopped_at_one, input_kept, receives_nothing, receives_more, put_since}
+use Rattle.command_receive.proofs.Stops.{stop_is}
 use Rattle.command_receive.proofs.reading.receive_all.Goals as goal
 
 pub loop-turn-init : goal.loop-turn-init
 loop-turn-init g c = record {
-  so_far = so_far_start (g.P.Place.seen c.args.place.now) c.args.receiver.now c.args.steps.now c.requires.held;
+  so_far = so_far_start (g.P.Place.seen c.args.place.now) (coming (way_of c.args.from) (g.P.Place.seen c.args.place.now) (g.K.Link.seen c.args.link.now)) c.args.receiver.now c.args.steps.now c.requires.held;
   sound = c.requires.sound;
-  later = omega arith;
+  input = c.requires.input;
+  place_later = omega arith;
+  link_later = omega arith;
   names = KeepsNames-same (g.P.Place.seen c.args.place.now);
+  receives = receives_nothing (way_of c.args.from) (g.K.Link.seen c.args.link.now);
 }
 
-pub returns-in-End-clause-done : goal.returns-in-End-clause-done
-returns-in-End-clause-done g c =
+pub returns-in_err-receive_one-in-Datagram-clause-stopped : goal.returns-in_err-receive_one-in-Datagram-clause-stopped
+returns-in_err-receive_one-in-Datagram-clause-stopped g c =
+    let from = way_of c.args.from in
+    let set = kept_set c.args.receiver.now in
+    let first = g.P.Place.seen c.args.place.now in
     let before = g.P.Place.seen c.loop-turn.place in
-    let after = g.P.Place.seen c.next_entry.new.place in
-    let into = c.next_entry.new.into in
-    let step = subst (λ e. TakesEntry before.rest e into after.rest) c.in-End.is c.in_ok-next_entry.ensures.entry in
-    received_all (kept_set c.args.receiver.now) _ into (g.P.Place.seen c.args.place.now) before after _ _ _ c.loop-turn.invariant.so_far (omega arith) step c.next_entry.ensures.others
-
-pub returns-in_err-next_entry-clause-part : goal.returns-in_err-next_entry-clause-part
-returns-in_err-next_entry-clause-part g c =
-    on_any_err c.from_residual.result (part_so_far (kept_set c.args.receiver.now) _ (g.P.Place.seen c.args.place.now) (g.P.Place.seen c.loop-turn.place) (g.P.Place.seen c.next_entry.new.place) _ _ _ c.loop-turn.invariant.so_far c.next_entry.ensures.others.files)
-
-pub returns-in_err-receive_one-in-Datagram-clause-part : goal.returns-in_err-receive_one-in-Datagram-clause-part
-returns-in_err-receive_one-in-Datagram-clause-part g c =
-    let before = g.P.Place.seen c.loop-turn.place in
-    let between = g.P.Place.seen c.next_entry.new.place in
-    let into = c.next_entry.new.into in
-    let step = subst (λ e. TakesEntry before.rest e into between.rest) c.in-Datagram.is c.in_ok-next_entry.ensures.entry in
-    on_any_err c.from_residual-in_err-receive_one-in-Datagram.result
-    (part_of_more (kept_set c.args.receiver.now) _ (c.loop-turn.turn + 1) c.in-Datagram.len into (g.P.Place.seen c.args.place.now) before between (g.P.Place.seen c.receive_one.new.place) _ _ _ c.loop-turn.invariant.so_far refl c.loop-turn.invariant.names step c.next_entry.ensures.others c.in_err-receive_one-in-Datagram.ensures.part)
+    let between = g.P.Place.seen c.next_datagram.new.place in
+    let now = g.P.Place.seen c.receive_one.new.place in
+    let link_first = g.K.Link.seen c.args.link.now in
+    let link_before = g.K.Link.seen c.loop-turn.link in
+    let link_now = g.K.Link.seen c.next_datagram.new.link in
+    let into = c.next_datagram.new.into in
+    let step = subst (λ e. TakesDatagram (coming from before link_before) e into (coming from between link_now)) c.in-Datagram.is c.in_ok-next_datagram.ensures.datagram in
+    let stop = c.in_err-receive_one-in-Datagram.field-0.0 in
+    stop_is (StoppedSoFar from set first now link_first link_now) c.from_residual-in_err-receive_one-in-Datagram.result (stop_of_place stop) c.from_residual-in_err-receive_one-in-Datagram.ensures.1
+    (stopped_at_one stop from set c.loop-turn.turn (c.loop-turn.turn + 1) c.in-Datagram.len into first before between now link_first link_before link_now c.loop-turn.receiver c.args.steps.now c.loop-turn.steps
+    c.loop-turn.invariant.so_far refl c.loop-turn.invariant.names step c.next_datagram.ensures.others.place c.in_err-receive_one-in-Datagram.ensures.part)
 
 pub loop-turn-preserved : goal.loop-turn-preserved
 loop-turn-preserved g c =
+    let from = way_of c.args.from in
     let first = g.P.Place.seen c.args.place.now in
     let before = g.P.Place.seen c.loop-turn.place in
-    let between = g.P.Place.seen c.next_entry.new.place in
+    let between = g.P.Place.seen c.next_datagram.new.place in
     let now = g.P.Place.seen c.receive_one.new.place in
-    let into = c.next_entry.new.into in
-    let step = subst (λ e. TakesEntry before.rest e into between.rest) c.in-Datagram.is c.in_ok-next_entry.ensures.entry in
+    let link_first = g.K.Link.seen c.args.link.now in
+    let link_before = g.K.Link.seen c.loop-turn.link in
+    let link_now = g.K.Link.seen c.next_datagram.new.link in
+    let into = c.next_datagram.new.into in
+    let step = subst (λ e. TakesDatagram (coming from before link_before) e into (coming from between link_now)) c.in-Datagram.is c.in_ok-next_datagram.ensures.datagram in
+    let takes = c.next_datagram.ensures.others in
+    let writes = c.receive_one.ensures.others in
     let one = c.in_ok-receive_one-in-Datagram.ensures in
+    let held = c.loop-turn.invariant in
     record {
-      so_far =
-          so_far_more (kept_set c.args.receiver.now) c.loop-turn.turn (c.loop-turn.turn + 1) c.in-Datagram.len into first before between now c.loop-turn.receiver c.receive_one.new.receiver
-          c.args.steps.now c.loop-turn.steps c.receive_one.new.steps c.loop-turn.invariant.so_far refl c.loop-turn.invariant.names step c.next_entry.ensures.others c.receive_one.ensures.others one.puts one.set one.held one.cost;
+      so_far = put_since from first between now link_first link_now _ _ _ _ _ writes.rest
+          (so_far_more (kept_set c.args.receiver.now) c.loop-turn.turn (c.loop-turn.turn + 1) c.in-Datagram.len into first before between now (coming from first link_first) (coming from before link_before) (coming from between link_now) c.loop-turn.receiver c.receive_one.new.receiver
+          c.args.steps.now c.loop-turn.steps c.receive_one.new.steps held.so_far refl held.names step takes.place writes one.puts one.set one.held one.cost);
       sound = one.sound;
-      later = omega (arith, c.loop-turn.invariant.later, c.next_entry.ensures.cause.later, c.receive_one.ensures.later);
-      names =
-          KeepsNames-then first between now (KeepsNames-then first before between c.loop-turn.invariant.names (OnlyReads-KeepsNames before between c.next_entry.ensures.others))
-          (OnlyWrites-KeepsNames between now c.receive_one.ensures.others);
+      input = input_kept from before now (writes.has_input ∙ takes.place.has_input) held.input;
+      place_later = omega (arith, held.place_later, takes.place_later, c.receive_one.ensures.later);
+      link_later = omega (arith, held.link_later, takes.link_later);
+      names = KeepsNames-then first between now (KeepsNames-then first before between held.names (OnlyReads-KeepsNames before between takes.place)) (OnlyWrites-KeepsNames between now writes);
+      receives = receives_more from link_first link_before link_now before between held.receives takes;
     }

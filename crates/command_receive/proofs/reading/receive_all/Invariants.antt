@@ -1,14 +1,19 @@
 use Rattle.std.proofs.Common.{◌≤◌}
 use Rattle.pet_base.specs.Seen.{KeepsNames}
+use Rattle.datagram_route.specs.Way.{way_of}
+use Rattle.datagram_route.specs.Coming.{coming, HasInput}
 use Rattle.pet_receive.specs.Arrivals.{kept_set}
 use Rattle.pet_receive.specs.KeptSet.{IsKeptSet}
-use Rattle.command_receive.specs.SoFar.{SoFar}
+use Rattle.command_receive.specs.SoFar.{SoFar, LinkReceives}
 use Rattle.command_receive.proofs.reading.receive_all.Given as goal
 
 abbrev pub invariant-loop-turn : goal.invariant-loop-turn
 invariant-loop-turn g l = record {
-  so_far : SoFar (kept_set l.initial.receiver) l.turn (g.P.Place.seen l.initial.place) (g.P.Place.seen l.place) l.receiver l.initial.steps l.steps;
+  so_far : SoFar (kept_set l.initial.receiver) l.turn (g.P.Place.seen l.initial.place) (g.P.Place.seen l.place) (coming (way_of l.from) (g.P.Place.seen l.initial.place) (g.K.Link.seen l.initial.link)) (coming (way_of l.from) (g.P.Place.seen l.place) (g.K.Link.seen l.link)) l.receiver l.initial.steps l.steps;
   sound : IsKeptSet (kept_set l.receiver);
-  later : (g.P.Place.seen l.initial.place).faults ≤ (g.P.Place.seen l.place).faults;
+  input : HasInput (way_of l.from) (g.P.Place.seen l.place);
+  place_later : (g.P.Place.seen l.initial.place).faults ≤ (g.P.Place.seen l.place).faults;
+  link_later : (g.K.Link.seen l.initial.link).faults ≤ (g.K.Link.seen l.link).faults;
   names : KeepsNames (g.P.Place.seen l.initial.place) (g.P.Place.seen l.place);
+  receives : LinkReceives (way_of l.from) (g.K.Link.seen l.initial.link) (g.K.Link.seen l.link);
 }

@@ -1,4 +1,5 @@
 use Rattle.std.proofs.Common.{refl, sym, subst, ◌∙◌, arith}
+use Rattle.datagram_route.specs.Way.{way_of}
 use Rattle.command_send.specs.Sends.{SendTells}
 use Rattle.command_send.specs.laws.EndLaws.{sends_session}
 use Rattle.command_send.proofs.Ends.{tells_put, tells_fault}
@@ -8,22 +9,22 @@ pub returns-in-Ok-clause-sends : goal.returns-in-Ok-clause-sends
 returns-in-Ok-clause-sends g c =
     let t = c.in-Ok.ensures.line in
     record {
-      link = refl;
+      link = c.sent_line-sent.ensures.link;
       later = c.put_line.ensures.later;
-      costs = c.sent_line.ensures.costs;
-      tells = tells_put c.args.stream.now c.args.priority.now c.args.to.now _ _ t.0 c.as_slice.result.now c.put_line.result (c.as_slice.ensures.value ∙ t.2) t.1 c.put_line.ensures.puts;
+      costs = c.sent_line-sent.ensures.costs;
+      tells = tells_put c.args.stream.now c.args.priority.now (way_of c.args.to) _ _ t.0 c.as_slice.result.now c.put_line.result (c.as_slice.ensures.value ∙ t.2) t.1 c.put_line.ensures.puts;
     }
 
 pub returns-in-Ok-clause-completes : goal.returns-in-Ok-clause-completes
-returns-in-Ok-clause-completes g c = sends_session c.args.stream.now c.args.priority.now c.args.to.now _ _ c.put_line.result (returns-in-Ok-clause-sends g c)
+returns-in-Ok-clause-completes g c = sends_session c.args.stream.now c.args.priority.now (way_of c.args.to) _ _ c.put_line.result (returns-in-Ok-clause-sends g c)
 
 pub returns-in-Err-clause-sends : goal.returns-in-Err-clause-sends
 returns-in-Err-clause-sends g c = record {
-  link = refl;
+  link = c.sent_line-sent.ensures.link;
   later = omega arith;
-  costs = c.sent_line.ensures.costs;
-  tells = subst (SendTells c.args.stream.now c.args.priority.now c.args.to.now _ _) (sym c.end.ensures) (tells_fault c.args.stream.now c.args.priority.now c.args.to.now _ _ c.in-Err.fault c.in-Err.ensures.cause c.in-Err.ensures.left refl);
+  costs = c.sent_line-sent.ensures.costs;
+  tells = subst (SendTells c.args.stream.now c.args.priority.now (way_of c.args.to) _ _) (sym c.end.ensures) (tells_fault c.args.stream.now c.args.priority.now (way_of c.args.to) _ _ c.in-Err.fault c.in-Err.ensures.cause c.in-Err.ensures.left refl);
 }
 
 pub returns-in-Err-clause-completes : goal.returns-in-Err-clause-completes
-returns-in-Err-clause-completes g c = sends_session c.args.stream.now c.args.priority.now c.args.to.now _ _ c.end.result (returns-in-Err-clause-sends g c)
+returns-in-Err-clause-completes g c = sends_session c.args.stream.now c.args.priority.now (way_of c.args.to) _ _ c.end.result (returns-in-Err-clause-sends g c)

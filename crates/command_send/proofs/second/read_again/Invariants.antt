@@ -1,8 +1,9 @@
 use Rattle.std.proofs.Common.{◌≡◌, ◌+◌, ◌-◌, ◌≤◌, List, ℕ, length}
 use Rattle.std.specs.Io.KnownBytes.{prepend_known}
 use Rattle.pet_base.specs.declared.limits.TheConstants.{MAX_STREAM}
-use Rattle.pet_base.specs.Seen.{KeepsNames}
-use Rattle.command_send.specs.Second.{HasReached, cost_left}
+use Rattle.command_send.specs.Second.{HasReached, OnlyPasses, cost_left}
+use Rattle.datagram_route.specs.Sending.{routes}
+use Rattle.datagram_route.specs.Way.{way_of}
 use Rattle.command_send.proofs.second.read_again.Given as goal
 
 abbrev pub invariant-loop-read : goal.invariant-loop-read
@@ -11,9 +12,8 @@ invariant-loop-read g l = record {
   count : l.read ≡ length stream;
   rest : (g.P.Place.seen l.initial.place).rest ≡ prepend_known stream (g.P.Place.seen l.place).rest;
   few : length stream ≤ MAX_STREAM + 1;
-  stands : HasReached l.found.source l.found.marks.items stream l.pass.change l.pass.groups (g.P.Place.seen l.initial.place) (g.P.Place.seen l.place);
-  names : KeepsNames (g.P.Place.seen l.initial.place) (g.P.Place.seen l.place);
-  later : (g.P.Place.seen l.initial.place).faults ≤ (g.P.Place.seen l.place).faults;
+  stands : HasReached (way_of l.found.to) l.found.source l.found.marks.items stream l.pass.change l.pass.groups (routes g.P.Place g.K.Link l.initial.place l.initial.link) (routes g.P.Place g.K.Link l.place l.link);
+  others : OnlyPasses (routes g.P.Place g.K.Link l.initial.place l.initial.link) (routes g.P.Place g.K.Link l.place l.link);
   left : l.steps + cost_left l.found.source.tables.items l.pass.groups.sent ≤ l.initial.steps + cost_left l.found.source.tables.items l.initial.pass.groups.sent;
 }
 

@@ -2,17 +2,19 @@ use Rattle.std.proofs.Common.{refl, arith}
 use Rattle.pet_base.specs.laws.Through.{on_any_err}
 use Rattle.command_send.proofs.GroupsSoFar.{cost_all}
 use Rattle.command_send.proofs.ReadPortions.{part_start, gone_start, part_end, sent_end, taken_write}
+use Rattle.datagram_route.specs.Sending.{routes}
+use Rattle.datagram_route.specs.Way.{way_of}
 use Rattle.command_send.proofs.second.send_again.Goals as goal
 
 pub returns-in_err-buffer-clause-part : goal.returns-in_err-buffer-clause-part
-returns-in_err-buffer-clause-part g c = on_any_err c.from_residual.result (part_start c.args.found.now.source c.args.found.now.marks.items (g.P.Place.seen c.args.place.now))
+returns-in_err-buffer-clause-part g c = on_any_err c.from_residual.result (part_start (way_of c.args.found.now.to) c.args.found.now.source c.args.found.now.marks.items (routes g.P.Place g.K.Link c.args.place.now c.args.link.now))
 
 pub returns-in_err-new-clause-part : goal.returns-in_err-new-clause-part
-returns-in_err-new-clause-part g c = on_any_err c.from_residual-in_err-new.result (part_start c.args.found.now.source c.args.found.now.marks.items (g.P.Place.seen c.args.place.now))
+returns-in_err-new-clause-part g c = on_any_err c.from_residual-in_err-new.result (part_start (way_of c.args.found.now.to) c.args.found.now.source c.args.found.now.marks.items (routes g.P.Place g.K.Link c.args.place.now c.args.link.now))
 
 pub read_again-requires-clause-begun : goal.read_again-requires-clause-begun
 read_again-requires-clause-begun g c =
-    (gone_start c.args.found.now.source c.args.found.now.marks.items (record { cutter = c.in_ok-new.field-0; sent = 0 }) (g.P.Place.seen c.args.place.now) c.in_ok-new.ensures.cut refl, c.in_ok-new.ensures.none_left)
+    (gone_start (way_of c.args.found.now.to) c.args.found.now.source c.args.found.now.marks.items (record { cutter = c.in_ok-new.field-0; sent = 0 }) (routes g.P.Place g.K.Link c.args.place.now c.args.link.now) c.in_ok-new.ensures.cut refl, c.in_ok-new.ensures.none_left)
 
 pub returns-in_err-read_again-clause-cost : goal.returns-in_err-read_again-clause-cost
 returns-in_err-read_again-clause-cost g c = omega (arith, c.read_again.ensures.cost, cost_all c.args.found.now.source.tables.items)
@@ -22,20 +24,20 @@ returns-in_err-finish-clause-cost g c = omega (arith, c.finish.ensures.cost, c.i
 
 pub returns-in_err-finish-clause-part : goal.returns-in_err-finish-clause-part
 returns-in_err-finish-clause-part g c =
-    let first = g.P.Place.seen c.args.place.now in
-    let mid = g.P.Place.seen c.read_again.new.place in
-    let now = g.P.Place.seen c.finish.new.place in
+    let first = routes g.P.Place g.K.Link c.args.place.now c.args.link.now in
+    let mid = routes g.P.Place g.K.Link c.read_again.new.place c.read_again.new.link in
+    let now = routes g.P.Place g.K.Link c.finish.new.place c.finish.new.link in
     let read = c.in_ok-read_again.ensures.stands in
     on_any_err c.from_residual-in_err-finish.result
-    (part_end c.args.found.now.source c.args.found.now.marks.items read.0 first mid now read.1 (c.in_err-finish.ensures.part read.0 first read.2))
+    (part_end (way_of c.args.found.now.to) c.args.found.now.source c.args.found.now.marks.items read.0 first mid now read.1 (c.in_err-finish.ensures.part read.0 first read.2))
 
 pub returns-clause-cost : goal.returns-clause-cost
 returns-clause-cost g c = omega (arith, c.finish.ensures.cost, c.in_ok-read_again.ensures.left, cost_all c.args.found.now.source.tables.items)
 
 pub returns-clause-sent : goal.returns-clause-sent
 returns-clause-sent g c =
-    let first = g.P.Place.seen c.args.place.now in
-    let mid = g.P.Place.seen c.read_again.new.place in
-    let now = g.P.Place.seen c.finish.new.place in
+    let first = routes g.P.Place g.K.Link c.args.place.now c.args.link.now in
+    let mid = routes g.P.Place g.K.Link c.read_again.new.place c.read_again.new.link in
+    let now = routes g.P.Place g.K.Link c.finish.new.place c.finish.new.link in
     let read = c.in_ok-read_again.ensures.stands in
-    sent_end c.args.found.now.source c.args.found.now.marks.items read.0 c.finish.new.self.change first now (taken_write read.0 first mid now c.finish.ensures.others.rest read.1) (c.in_ok-finish.ensures.all read.0 first read.2)
+    sent_end (way_of c.args.found.now.to) c.args.found.now.source c.args.found.now.marks.items read.0 c.finish.new.self.change first now (taken_write read.0 first.place mid.place now.place c.finish.ensures.others.place.rest read.1) (c.in_ok-finish.ensures.all read.0 first read.2)

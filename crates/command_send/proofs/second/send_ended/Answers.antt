@@ -1,27 +1,28 @@
 use Rattle.std.proofs.Common.{◌+◌, ◌++◌, ◌∙◌, sym, subst, refl, arith}
 use Rattle.std.specs.Prelude.{Option}
-use Rattle.pet_base.specs.laws.SeenLaws.{OnlyWrites-then}
+use Rattle.datagram_route.specs.laws.SendingLaws.{grows_same, grows_then, grows_open}
 use Rattle.pet_base.specs.laws.Through.{on_any_err}
 use Rattle.group_cutter.specs.CutGroups.{CutGroup}
 use Rattle.group_cutter.specs.Cutting.{HasCut, groups_in}
 use Rattle.command_send.specs.Second.{SendsGroup, Differs}
 use Rattle.command_send.proofs.LeastChange.{stands_change, sends_none}
 use Rattle.command_send.proofs.GroupsSoFar.{cost_next, gone_more, gone_part, part_gone, knows_more, knows_whole, knows_filled}
+use Rattle.datagram_route.specs.Sending.{routes}
+use Rattle.datagram_route.specs.Way.{way_of}
 use Rattle.command_send.proofs.second.send_ended.Goals as goal
 
 pub loop-group-init : goal.loop-group-init
 loop-group-init g c = record {
   known = c.requires.known;
   gone = λ stream first h. h;
-  others = record { rest = refl; source = refl; target = refl; has_input = refl; has_output = refl };
-  later = omega arith;
+  others = grows_same (routes g.P.Place g.K.Link c.args.place.now c.args.link.now);
   left = omega arith;
 }
 
 pub returns-in_err-group-clause-part : goal.returns-in_err-group-clause-part
 returns-in_err-group-clause-part g c =
     on_any_err c.from_residual.result
-    (λ stream first h. part_gone c.args.found.now.source c.args.found.now.marks.items stream c.loop-group.groups first (g.P.Place.seen c.loop-group.place) (c.loop-group.invariant.gone stream first h))
+    (λ stream first h. part_gone (way_of c.args.found.now.to) c.args.found.now.source c.args.found.now.marks.items stream c.loop-group.groups first (routes g.P.Place g.K.Link c.loop-group.place c.loop-group.link) (c.loop-group.invariant.gone stream first h))
 
 pub send_group-requires-clause-whole : goal.send_group-requires-clause-whole
 send_group-requires-clause-whole g c =
@@ -39,7 +40,7 @@ returns-in_err-change-clause-part g c =
     let priority = source.priority in
     on_any_err c.from_residual-in_err-change.result
     (λ stream first h.
-    gone_part source c.args.found.now.marks.items stream c.loop-group.groups c.next.new.self c.in-Some.group first (g.P.Place.seen c.loop-group.place) (g.P.Place.seen c.send_group.new.place) (c.loop-group.invariant.gone stream first h)
+    gone_part (way_of c.args.found.now.to) source c.args.found.now.marks.items stream c.loop-group.groups c.next.new.self c.in-Some.group first (routes g.P.Place g.K.Link c.loop-group.place c.loop-group.link) (routes g.P.Place g.K.Link c.send_group.new.place c.send_group.new.link) (c.loop-group.invariant.gone stream first h)
     (λ given cut. subst (λ (o : Option CutGroup). HasCut c.next.new.self priority stream (given ++ groups_in o)) c.in-Some.is (c.in_ok-group.ensures.cut priority stream given cut))
     c.in_err-change.ensures.part)
 
@@ -51,24 +52,27 @@ pub returns-then-is_some-clause-stands : goal.returns-then-is_some-clause-stands
 returns-then-is_some-clause-stands g c stream first h =
     let source = c.args.found.now.source in
     let priority = source.priority in
-    stands_change source c.args.found.now.marks.items stream c.loop-group.groups (record { cutter = c.next.new.self; sent = c.loop-group.groups.sent }) c.next.new.self c.in-Some.group first (g.P.Place.seen c.loop-group.place) (g.P.Place.seen c.send_group.new.place) c.in_ok-change.change
+    stands_change (way_of c.args.found.now.to) source c.args.found.now.marks.items stream c.loop-group.groups (record { cutter = c.next.new.self; sent = c.loop-group.groups.sent }) c.next.new.self c.in-Some.group first (routes g.P.Place g.K.Link c.loop-group.place c.loop-group.link) (routes g.P.Place g.K.Link c.send_group.new.place c.send_group.new.link) c.in_ok-change.change
     (sym c.is_some.ensures ∙ c.if-is_some.true) c.in_ok-change.ensures.sends (c.loop-group.invariant.gone stream first h)
     (λ given cut. subst (λ (o : Option CutGroup). HasCut c.next.new.self priority stream (given ++ groups_in o)) c.in-Some.is (c.in_ok-group.ensures.cut priority stream given cut))
 
 pub loop-group-preserved : goal.loop-group-preserved
 loop-group-preserved g c =
     let source = c.args.found.now.source in
-    let before = g.P.Place.seen c.loop-group.place in
-    let after = g.P.Place.seen c.send_group.new.place in
-    let sends = sends_none (SendsGroup source c.args.found.now.marks.items c.loop-group.groups.sent c.in-Some.group before after) (Differs source c.args.found.now.marks.items c.loop-group.groups.sent c.in-Some.group before after) c.in_ok-change.change (sym c.is_some.ensures ∙ c.if-is_some.false) c.in_ok-change.ensures.sends in
+    let before = routes g.P.Place g.K.Link c.loop-group.place c.loop-group.link in
+    let after = routes g.P.Place g.K.Link c.send_group.new.place c.send_group.new.link in
+    let sends = sends_none (SendsGroup (way_of c.args.found.now.to) source c.args.found.now.marks.items c.loop-group.groups.sent c.in-Some.group before after) (Differs source c.args.found.now.marks.items c.loop-group.groups.sent c.in-Some.group before after) c.in_ok-change.change (sym c.is_some.ensures ∙ c.if-is_some.false) c.in_ok-change.ensures.sends in
     record {
       known = knows_more c.loop-group.groups.cutter c.next.new.self source.priority c.in-Some.group c.loop-group.invariant.known
           (λ p stream given h. subst (λ (o : Option CutGroup). HasCut c.next.new.self p stream (given ++ groups_in o)) c.in-Some.is (c.in_ok-group.ensures.cut p stream given h));
       gone = λ stream first h.
-          gone_more source c.args.found.now.marks.items stream c.loop-group.groups (record { cutter = c.next.new.self; sent = c.loop-group.groups.sent + 1 }) c.in-Some.group first before after (c.loop-group.invariant.gone stream first h)
+          gone_more (way_of c.args.found.now.to) source c.args.found.now.marks.items stream c.loop-group.groups (record { cutter = c.next.new.self; sent = c.loop-group.groups.sent + 1 }) c.in-Some.group first before after (c.loop-group.invariant.gone stream first h)
           (λ given cut. subst (λ (o : Option CutGroup). HasCut c.next.new.self source.priority stream (given ++ groups_in o)) c.in-Some.is (c.in_ok-group.ensures.cut source.priority stream given cut))
-          refl sends c.send_group.ensures.others.target;
-      others = OnlyWrites-then (g.P.Place.seen c.args.place.now) before after c.loop-group.invariant.others c.send_group.ensures.others;
-      later = omega (arith, c.loop-group.invariant.later, c.send_group.ensures.later);
+          refl sends c.send_group.ensures.others.place.target;
+      others = grows_then (routes g.P.Place g.K.Link c.args.place.now c.args.link.now) before after c.loop-group.invariant.others c.send_group.ensures.others;
       left = omega (arith, c.send_group.ensures.cost, c.loop-group.invariant.left, cost_next source.tables.items c.loop-group.groups.sent);
     }
+
+pub send_group-requires-clause-open : goal.send_group-requires-clause-open
+send_group-requires-clause-open g c =
+    grows_open (way_of c.args.found.now.to) (routes g.P.Place g.K.Link c.args.place.now c.args.link.now) (routes g.P.Place g.K.Link c.loop-group.place c.loop-group.link) c.loop-group.invariant.others c.requires.open

@@ -1,15 +1,16 @@
 use Rattle.std.proofs.Common.{ℕ, ◌+◌, ◌≤◌, List}
-use Rattle.pet_base.specs.Seen.{Seen, OnlyWrites}
+use Rattle.datagram_route.specs.Sending.{Routes, OnlyGrows}
 use Rattle.group_cutter.specs.Cutting.{pieces_left}
 use Rattle.command_send.specs.Second.{Knows, HasGone, cost_left}
+use Rattle.datagram_route.specs.Sending.{routes}
+use Rattle.datagram_route.specs.Way.{way_of}
 use Rattle.command_send.proofs.second.send_ended.Given as goal
 
 abbrev pub invariant-loop-group : goal.invariant-loop-group
 invariant-loop-group g l = record {
   known : Knows l.groups.cutter l.found.source.priority;
-  gone : (stream : List ℕ) (first : Seen) → HasGone l.found.source l.found.marks.items stream l.initial.groups first (g.P.Place.seen l.initial.place) → HasGone l.found.source l.found.marks.items stream l.groups first (g.P.Place.seen l.place);
-  others : OnlyWrites (g.P.Place.seen l.initial.place) (g.P.Place.seen l.place);
-  later : (g.P.Place.seen l.initial.place).faults ≤ (g.P.Place.seen l.place).faults;
+  gone : (stream : List ℕ) (first : Routes) → HasGone (way_of l.found.to) l.found.source l.found.marks.items stream l.initial.groups first (routes g.P.Place g.K.Link l.initial.place l.initial.link) → HasGone (way_of l.found.to) l.found.source l.found.marks.items stream l.groups first (routes g.P.Place g.K.Link l.place l.link);
+  others : OnlyGrows (routes g.P.Place g.K.Link l.initial.place l.initial.link) (routes g.P.Place g.K.Link l.place l.link);
   left : l.steps + cost_left l.found.source.tables.items l.groups.sent ≤ l.initial.steps + cost_left l.found.source.tables.items l.initial.groups.sent;
 }
 

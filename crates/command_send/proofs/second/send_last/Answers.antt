@@ -10,14 +10,16 @@ use Rattle.group_cutter.specs.laws.FittingLaws.{IsWhole, groups_whole}
 use Rattle.command_send.proofs.LeastChange.{ends_lost}
 use Rattle.command_send.proofs.FoundGroups.{all_refused}
 use Rattle.command_send.proofs.GroupsSoFar.{part_gone, part_found, left_all}
+use Rattle.datagram_route.specs.Sending.{routes}
+use Rattle.datagram_route.specs.Way.{way_of}
 use Rattle.command_send.proofs.second.send_last.Goals as goal
 
 pub returns-in_err-left-clause-part : goal.returns-in_err-left-clause-part
 returns-in_err-left-clause-part g c =
     let source = c.args.found.now.source in
     let marks = c.args.found.now.marks.items in
-    let now = g.P.Place.seen c.args.place.now in
-    on_any_err c.from_residual.result (λ stream first h. part_found source marks stream first now (part_gone source marks stream c.args.groups.now first now h))
+    let now = routes g.P.Place g.K.Link c.args.place.now c.args.link.now in
+    on_any_err c.from_residual.result (λ stream first h. part_found (way_of c.args.found.now.to) source marks stream first now (part_gone (way_of c.args.found.now.to) source marks stream c.args.groups.now first now h))
 
 pub send_left-requires-clause-whole : goal.send_left-requires-clause-whole
 send_left-requires-clause-whole g c =
@@ -55,8 +57,8 @@ pub returns-in-None-clause-all : goal.returns-in-None-clause-all
 returns-in-None-clause-all g c stream first gone none =
     let source = c.args.found.now.source in
     let marks = c.args.found.now.marks.items in
-    let now = g.P.Place.seen c.args.place.now in
-    ends_lost source marks stream gone.groups c.args.groups.now.sent first now c.first_lost.result gone.number gone.sent
+    let now = routes g.P.Place g.K.Link c.args.place.now c.args.link.now in
+    ends_lost (way_of c.args.found.now.to) source marks stream gone.groups c.args.groups.now.sent first now c.first_lost.result gone.number gone.sent
     (all_refused source.priority stream gone.groups (given_ended c.args.groups.now.cutter source.priority stream gone.groups gone.cut)
     (MatchOption-at_none {o = c.in_ok-left.field-0} _ (λ k. Unit {0}) c.in-None.is c.in_ok-left.ensures.refused source.priority stream gone.groups gone.cut)
     (MatchOption-at_none {o = c.in_ok-left.field-0} _ (λ k. Unit {0}) c.in-None.is c.in_ok-left.ensures.further source.priority stream gone.groups gone.cut none))

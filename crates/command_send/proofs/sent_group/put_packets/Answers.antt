@@ -1,17 +1,19 @@
-use Rattle.std.proofs.Common.{subst}
+use Rattle.std.proofs.Common.{refl, subst}
 use Rattle.pet_base.specs.laws.Through.{on_any_err}
 use Rattle.std.specs.Prelude.{OnErr}
 use Rattle.pet_encode.specs.Encoding.{Encoding}
-use Rattle.session_packets.specs.Packets.{group_entries}
-use Rattle.command_files.specs.Outputs.{PutsPart}
+use Rattle.session_packets.specs.Packets.{group_datagrams}
 use Rattle.command_send.specs.Sending.{encoding_of}
-use Rattle.command_files.specs.laws.PartLaws.{part_nothing}
+use Rattle.datagram_route.specs.Sending.{SendsPart}
+use Rattle.datagram_route.specs.laws.SendingLaws.{part_nothing}
+use Rattle.datagram_route.specs.Way.{way_of}
+use Rattle.datagram_route.specs.Sending.{routes}
 use Rattle.command_send.proofs.sent_group.put_packets.Goals as goal
 
 pub returns-in_err-encoder-clause-part : goal.returns-in_err-encoder-clause-part
 returns-in_err-encoder-clause-part g c =
-    on_any_err c.from_residual.result (part_nothing (group_entries (encoding_of c.args.found.now.source c.args.number c.args.group.now)) (g.P.Place.seen c.args.place.now))
+    on_any_err c.from_residual.result (part_nothing (way_of c.args.found.now.to) (group_datagrams (encoding_of c.args.found.now.source c.args.number c.args.group.now)) (routes g.P.Place g.K.Link c.args.place.now c.args.link.now) (routes g.P.Place g.K.Link c.args.place.now c.args.link.now) refl refl)
 
 pub returns-clause-part : goal.returns-clause-part
 returns-clause-part g c =
-    subst (λ (e : Encoding). OnErr c.put_group.result (PutsPart (group_entries e) (g.P.Place.seen c.args.place.now) (g.P.Place.seen c.put_group.new.place))) c.in_ok-encoder.ensures c.put_group.ensures.part
+    subst (λ (e : Encoding). OnErr c.put_group.result (SendsPart (way_of c.args.found.now.to) (group_datagrams e) (routes g.P.Place g.K.Link c.args.place.now c.args.link.now) (routes g.P.Place g.K.Link c.put_group.new.place c.put_group.new.link))) c.in_ok-encoder.ensures c.put_group.ensures.part

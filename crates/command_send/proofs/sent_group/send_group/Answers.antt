@@ -45,5 +45,5 @@ returns-clause-sends g c =
         mark = sym c.first_mark-first.ensures ∙ same ∙ second;
         table = c.has_table.ensures.0 c.if-not-has_table.false ∙ ap (λ (x : CutGroup). Some (table_of c.args.found.now.source.priority x.cut)) c.group.view_is;
       },
-      c.in_ok-put_packets.ensures.puts,
+      c.in_ok-put_packets.ensures.sends,
     )

@@ -1,23 +1,33 @@
-use Rattle.command_send.proofs.ReopenedFiles.{session_sent, session_left, session_stops, not_reopened}
 use Rattle.pet_base.specs.laws.Through.{on_any_err}
+use Rattle.datagram_route.specs.Sending.{routes}
+use Rattle.datagram_route.specs.Way.{way_of}
+use Rattle.command_send.proofs.ReopenedFiles.{session_sent, session_left, session_stops, not_reopened, reopened_open, keeps_reopened}
 use Rattle.command_send.proofs.session.send_session.Goals as goal
+
+pub send_groups-requires-clause-open : goal.send_groups-requires-clause-open
+send_groups-requires-clause-open g c = reopened_open c.args.stream.now (way_of c.args.found.now.to) (routes g.P.Place g.K.Link c.args.place.now c.args.link.now) (routes g.P.Place g.K.Link c.reopen.new.place c.reopen.new.link) c.in_ok-reopen.ensures.opened
 
 pub returns-in_err-reopen-clause-left : goal.returns-in_err-reopen-clause-left
 returns-in_err-reopen-clause-left g c =
     on_any_err c.from_residual.result
-    (not_reopened c.args.stream.now c.args.to.now (g.P.Place.seen c.args.place.now) (g.P.Place.seen c.reopen.new.place) c.args.found.now.source c.args.found.now.marks.items c.in_err-reopen.ensures.err)
+    (not_reopened c.args.stream.now (way_of c.args.found.now.to) (routes g.P.Place g.K.Link c.args.place.now c.args.link.now) (routes g.P.Place g.K.Link c.reopen.new.place c.reopen.new.link) c.args.found.now.source c.args.found.now.marks.items c.in_err-reopen.ensures.err)
 
 pub returns-clause-sent : goal.returns-clause-sent
 returns-clause-sent g c =
-    session_sent c.args.stream.now c.args.to.now (g.P.Place.seen c.args.place.now) (g.P.Place.seen c.reopen.new.place) (g.P.Place.seen c.send_groups.new.place) c.args.found.now.source c.args.found.now.marks.items
-    c.in_ok-reopen.ensures.opened c.send_groups.result c.send_groups.ensures.sent c.send_groups.ensures.told
+    session_sent c.args.stream.now (way_of c.args.found.now.to) (routes g.P.Place g.K.Link c.args.place.now c.args.link.now) (routes g.P.Place g.K.Link c.reopen.new.place c.reopen.new.link) (routes g.P.Place g.K.Link c.send_groups.new.place c.send_groups.new.link) c.args.found.now.source c.args.found.now.marks.items
+    c.in_ok-reopen.ensures.opened c.send_groups.ensures.others c.send_groups.result c.send_groups.ensures.sent
 
 pub returns-clause-left : goal.returns-clause-left
 returns-clause-left g c =
-    session_left c.args.stream.now c.args.to.now (g.P.Place.seen c.args.place.now) (g.P.Place.seen c.reopen.new.place) (g.P.Place.seen c.send_groups.new.place) c.args.found.now.source c.args.found.now.marks.items
-    c.in_ok-reopen.ensures.opened c.send_groups.result c.send_groups.ensures.stops c.send_groups.ensures.told
+    session_left c.args.stream.now (way_of c.args.found.now.to) (routes g.P.Place g.K.Link c.args.place.now c.args.link.now) (routes g.P.Place g.K.Link c.reopen.new.place c.reopen.new.link) (routes g.P.Place g.K.Link c.send_groups.new.place c.send_groups.new.link) c.args.found.now.source c.args.found.now.marks.items
+    c.in_ok-reopen.ensures.opened c.send_groups.ensures.others c.send_groups.result c.send_groups.ensures.stops
 
 pub returns-clause-cause : goal.returns-clause-cause
 returns-clause-cause g c =
-    session_stops c.args.stream.now c.args.to.now (g.P.Place.seen c.args.place.now) (g.P.Place.seen c.reopen.new.place) (g.P.Place.seen c.send_groups.new.place) c.args.found.now.source c.args.found.now.marks.items
-    c.in_ok-reopen.ensures.opened c.send_groups.result c.reopen.ensures.cause.later c.send_groups.ensures.stops c.send_groups.ensures.told
+    session_stops c.args.stream.now (way_of c.args.found.now.to) (routes g.P.Place g.K.Link c.args.place.now c.args.link.now) (routes g.P.Place g.K.Link c.reopen.new.place c.reopen.new.link) (routes g.P.Place g.K.Link c.send_groups.new.place c.send_groups.new.link) c.args.found.now.source c.args.found.now.marks.items
+    c.in_ok-reopen.ensures.opened c.send_groups.ensures.others c.send_groups.result c.reopen.ensures.later c.send_groups.ensures.stops
+
+pub returns-clause-link : goal.returns-clause-link
+returns-clause-link g c =
+    keeps_reopened (way_of c.args.found.now.to) (routes g.P.Place g.K.Link c.args.place.now c.args.link.now) (routes g.P.Place g.K.Link c.reopen.new.place c.reopen.new.link) (routes g.P.Place g.K.Link c.send_groups.new.place c.send_groups.new.link) c.args.found.now.source c.args.found.now.marks.items c.send_groups.result
+    c.reopen.ensures.link c.send_groups.ensures.others c.send_groups.ensures.sent c.send_groups.ensures.stops

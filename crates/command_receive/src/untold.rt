@@ -1,0 +1,109 @@
+//! A link and a place of the tests that tell nothing: what is put to LAYERS is noted by the calls that the link had had.
+ghost use Rattle.std.specs.Prelude.{◌≡◌, ◌≤◌};
+
+use pet_base::{Failed, Got, Link, Place};
+use std::alloc::Global;
+use std::cell::Cell;
+
+/// A link that receives these datagrams, and counts on a shared counter how often it is asked for one.
+#[derive(Drop)]
+pub(crate) struct UntoldLink<'a> {
+    pub(crate) feed: &'a [&'a [u8]],
+    pub(crate) asked: &'a Cell<u32>,
+    pub(crate) port: u16,
+}
+
+impl Link for UntoldLink<'_> {
+    ghost use Rattle.std.specs.Prelude.{None};
+
+    ghost seen = { λ l. record { feed = None; sent = None; port = l.port; bound = None; aimed = None; blamed = None; faults = 0 } };
+
+    ghost small = { λ _. tt };
+
+    fn bind(&mut self, _address: &str) -> Result<u16, Failed> {
+        self.port = 7;
+        Ok(7)
+    }
+
+    fn aim(&mut self, _address: &str) -> Result<(), Failed> {
+        Ok(())
+    }
+
+    fn send(&mut self, _datagram: &[u8]) -> Result<(), Failed> {
+        Ok(())
+    }
+
+    fn next(&mut self, into: &mut [u8]) -> Result<Got, Failed> {
+        self.asked.set(self.asked.get().wrapping_add(1));
+        let [datagram, feed @ ..] = self.feed else {
+            return Ok(Got::Quiet);
+        };
+        self.feed = feed;
+        let len = datagram.len().min(65_535);
+        into[..len].copy_from_slice(&datagram[..len]);
+        Ok(Got::Datagram(len))
+    }
+}
+
+/// A place whose files are empty, and whose output is the file of layers `b` or another. It notes the counter at each put to `b`.
+#[derive(Drop)]
+pub(crate) struct UntoldPlace<'a> {
+    pub(crate) asked: &'a Cell<u32>,
+    pub(crate) moments: Vec<u32>,
+    /// Whether there is an input.
+    pub(crate) input: bool,
+    /// Whether there is an output, and whether it is `b`.
+    pub(crate) output: Option<bool>,
+    pub(crate) faults: u64,
+}
+
+impl<'a> UntoldPlace<'a> {
+    pub(crate) fn new(alloc: Global, asked: &'a Cell<u32>) -> UntoldPlace<'a> {
+        UntoldPlace {
+            asked,
+            moments: Vec::new(alloc),
+            input: false,
+            output: None,
+            faults: 0,
+        }
+    }
+}
+
+impl Place for UntoldPlace<'_> {
+    ghost use Rattle.std.specs.Prelude.{is_some, None};
+
+    ghost seen = { λ p. record {
+      files = None;
+      rest = None;
+      source = None;
+      target = None;
+      has_input = p.input;
+      has_output = is_some p.output;
+      blamed = None;
+      faults = p.faults;
+    } };
+
+    fn enter(&mut self, _name: &str) -> Result<(), Failed> {
+        self.input = true;
+        Ok(())
+    }
+
+    fn take(&mut self, _into: &mut [u8]) -> Result<usize, Failed> {
+        Ok(0)
+    }
+
+    fn create(&mut self, name: &str) -> Result<(), Failed> {
+        self.output = Some(name == "b");
+        Ok(())
+    }
+
+    fn put(&mut self, _bytes: &[u8]) -> Result<(), Failed> {
+        if self.output == Some(true) {
+            if let Err(_) = self.moments.push(self.asked.get()) {
+                self.faults = self.faults.saturating_add(1);
+                return Err(Failed);
+            }
+        }
+        Ok(())
+    }
+}

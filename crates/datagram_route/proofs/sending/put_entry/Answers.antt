@@ -1,0 +1,20 @@
+use Rattle.std.proofs.Common.{◌≡◌, ℕ, List, [], ◌∷◌, take, drop, Bor, refl, sym, subst, ◌∙◌}
+use Rattle.std.proofs.lemmas.List.{append-nil}
+use Rattle.command_files.specs.Outputs.{Puts, PutsPart}
+use Rattle.command_files.specs.laws.PartLaws.{part_of_take}
+use Rattle.datagram_route.specs.declared.route.Route.{Route}
+use Rattle.datagram_route.specs.declared.route.Route.TheVariants.{File}
+use Rattle.datagram_route.specs.Sending.{Routes, entry_text, SendsPart}
+use Rattle.datagram_route.specs.Way.{way_of}
+use Rattle.datagram_route.proofs.sending.put_entry.Goals as goal
+
+part_of_file : (to : Route) (name : Bor (List ℕ)) (k : ℕ) (entry datagram : List ℕ) (old new : Routes) → to ≡ File name → entry ≡ entry_text datagram → Puts (take k entry) old.place new.place → new.link ≡ old.link
+    → SendsPart (way_of to) (datagram ∷ []) old new
+part_of_file to name k entry datagram old new is text put link =
+    subst (λ (r : Route). SendsPart (way_of r) (datagram ∷ []) old new) (sym is)
+    (subst (λ (t : List ℕ). PutsPart t old.place new.place) (text ∙ sym (append-nil (entry_text datagram))) (part_of_take k entry old.place new.place put), link)
+
+pub returns-in-Err-clause-part : goal.returns-in-Err-clause-part
+returns-in-Err-clause-part g c =
+    let part = c.in-Err.ensures.part in
+    part_of_file c.args.to c.in-File.field-0 part.0 c.args.entry.now (drop 2 c.args.entry.now) _ _ c.in-File.is c.requires.entry part.1 refl

@@ -1,0 +1,6 @@
+pub mod Way
+pub mod Address
+pub mod Coming
+pub mod RouteFaults
+pub mod Sending
+pub mod laws

@@ -1,0 +1,2 @@
+pub mod ComingLaws
+pub mod SendingLaws

@@ -1,0 +1,70 @@
+//! The address of a link, as it is spelled: a host, a colon and a port.
+ghost use Rattle.std.specs.Prelude.{◌≡◌, ◌+◌, ◌-◌, ◌*◌, ◌^◌, ◌&&◌, Some, None, nat_lt, option_map, if◌then◌else◌};
+ghost use Rattle.datagram_route.specs.Address.{cut_at_last_colon, is_digit, is_from, number_of, is_port, is_address};
+
+/// Whether a text is a host that is not empty, a colon, which is the text's last, and a port: a decimal number without leading
+/// zeros from `least` to 65,535.
+pub fn is_host_and_port(text: &str, least: u16) -> bool
+    ensures { result ≡ is_address least text.now }
+{
+    match cut(text.as_bytes()) {
+        Some((host, port)) => !host.is_empty() && is_port_from(port, least),
+        None => false,
+    }
+}
+
+/// The bytes before the last colon and those behind it.
+fn cut(bytes: &[u8]) -> Option<(&[u8], &[u8])>
+    ensures { option_map (λ parts. (parts.0.now, parts.1.now)) result
+        ≡ cut_at_last_colon bytes.now }
+{
+    for back in 0..bytes.len() {
+        let at = bytes.len() - 1 - back;
+        if bytes[at] == b':' {
+            return Some((&bytes[..at], &bytes[at + 1..]));
+        }
+    }
+    None
+}
+
+/// Whether these digits are a port, and no less than `least`.
+fn is_port_from(digits: &[u8], least: u16) -> bool
+    ensures { result ≡ is_port least digits.now }
+{
+    match digits {
+        [] | [b'0', _, ..] => false,
+        _ => is_number_from(digits, least),
+    }
+}
+
+/// Whether these bytes are a number of 16 bits in decimal digits, and no less than `least`.
+fn is_number_from(digits: &[u8], least: u16) -> bool
+    ensures { result ≡ is_from least (number_of digits.now) }
+{
+    match read_number(digits) {
+        Some(number) => number >= least,
+        None => false,
+    }
+}
+
+/// The number of 16 bits that these bytes are in decimal digits.
+fn read_number(digits: &[u8]) -> Option<u16>
+    ensures { result ≡ number_of digits.now }
+{
+    let mut value = 0;
+    for digit in digits {
+        value = with_digit(value, *digit)?;
+    }
+    Some(value)
+}
+
+/// The value with one more decimal digit behind it, up to 65,535.
+fn with_digit(value: u16, digit: u8) -> Option<u16>
+    ensures { result ≡ (if is_digit digit && nat_lt (10 * value + (digit - 48)) (2 ^ 16) then Some
+        (10 * value + (digit - 48)) else None) }
+{
+    match digit {
+        b'0'..=b'9' => value.checked_mul(10)?.checked_add(u16::from(digit - b'0')),
+        _ => None,
+    }
+}
