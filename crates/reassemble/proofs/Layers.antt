@@ -15,7 +15,7 @@ use Rattle.pet_encode.specs.Session.{length_of_layer}
 use Rattle.pet_receive.specs.Arrivals.{layers_of}
 use Rattle.pet_receive.specs.KeptSet.{KeptSet, open_group}
 use Rattle.pet_receive.specs.ShownBytes.{IsShown, IsShownIn, IsShownBytes}
-use Rattle.pet_receive.proofs.Needs.{layer_inside, length_is}
+use Rattle.open_group.specs.laws.Needs.{layer_inside, length_is}
 use Rattle.reassemble.specs.declared.leading.ShownLayer.{ShownLayer}
 use Rattle.reassemble.specs.Leading.{AreShownBytes, lengths_in}
 

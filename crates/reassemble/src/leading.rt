@@ -11,8 +11,8 @@ ghost use Rattle.reassemble.specs.Leading.{AreLeading, AreShownBytes};
 
 use arrayvec::ArrayVec;
 use pet_base::MAX_LAYERS;
-use pet_field::Field;
 use pet_receive::Receiver;
+use pet_rows::Rows;
 
 /// The bytes of a layer that is shown.
 #[derive(Clone, Copy, Default)]
@@ -21,7 +21,7 @@ pub(crate) struct ShownLayer<'a> {
 }
 
 /// The leading layers of a group that are all shown, layer 0 first. The group has no more than 32 layers.
-pub(crate) fn leading_layers<'a, F: Field>(
+pub(crate) fn leading_layers<'a, F: Rows>(
     receiver: &'a Receiver<'_, F>,
     group: u32,
 ) -> ArrayVec<ShownLayer<'a>, MAX_LAYERS>

@@ -7,6 +7,7 @@ use example_session::{SESSION, STREAM, packets};
 use pet_base::{NoMemory, Steps};
 use pet_field::{Field, Gf16Plain};
 use pet_receive::Receiver;
+use pet_rows::Rows;
 use std::alloc::Global;
 use std::marker::Brand;
 use std::sync::ledger::{Blank, Ledger};
@@ -40,7 +41,7 @@ struct Assembled {
 }
 
 /// Hands these datagrams to a receiver.
-fn accept_all<F: Field, L: Ledger>(
+fn accept_all<F: Rows, L: Ledger>(
     receiver: &mut Receiver<'_, F>,
     datagrams: &[&[u8]],
     steps: &mut Steps<L>,

@@ -19,8 +19,8 @@ use crate::leading::{ShownLayer, leading_layers};
 use arrayvec::ArrayVec;
 use layer_split::{NamedRun, read_run_table};
 use pet_base::{MAX_LAYERS, NoMemory};
-use pet_field::Field;
 use pet_receive::Receiver;
+use pet_rows::Rows;
 use stripe_plan::LayerSize;
 
 /// The bytes of a run table before its first entry.
@@ -36,7 +36,7 @@ const ENTRY_BYTES: usize = 5;
 ///
 /// `NoTable` exactly where layer 0 of the group is not shown, `BadTable` exactly where it has no run table that fits the
 /// group's layers, and `NoMemory`. The vector is then as before.
-pub fn assemble<F: Field>(
+pub fn assemble<F: Rows>(
     receiver: &Receiver<'_, F>,
     group: u32,
     into: &mut Vec<u8>,

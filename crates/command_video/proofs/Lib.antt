@@ -1,0 +1,5 @@
+mod GroupVideos
+mod GroupAfterGroup
+mod VideoOrTable
+mod Causes
+mod Printing

@@ -1,0 +1,90 @@
+-- What `video` leaves at each of its ends. This project's own.
+use Rattle.std.specs.Prelude.{◌≡◌, ◌⊎◌, ℕ, ◌<◌, ◌≤◌, List, [], ◌∷◌, length, None, Some}
+use Rattle.pet_base.specs.OutsideSeen.{OutsideSeen}
+use Rattle.pet_base.specs.Seen.{Seen}
+use Rattle.command_files.specs.Printed.{Printed, Unprinted, PrintedFront}
+use Rattle.command_files.specs.Uses.{reading, writing, Failed}
+use Rattle.command_files.specs.Wrote.{File, Wrote}
+use Rattle.pet_receive.specs.KeptSet.{KeptSet}
+use Rattle.pet_receive.specs.ShownBytes.{groups_told}
+use Rattle.store_merge.specs.Files.{HasStore, HasBadStore}
+use Rattle.store_merge.specs.declared.fault.BadStore.TheVariants.{At}
+use Rattle.pet_text.specs.Lines.{video_text}
+use Rattle.command_video.specs.StoreVideo.{AreVideos, IsGroupVideo, HasBadTable}
+use Rattle.command_video.specs.declared.command.VideoEnd.{VideoEnd}
+use Rattle.command_video.specs.declared.command.VideoEnd.TheVariants.{Done, NoMemory, PlaceFault, OutFault, BadStore, BadTable}
+
+-- the file is a store
+abbrev pub IsStore : List ℕ → Seen → Type 0
+IsStore store old = (set : KeptSet) × HasStore old.files store set
+
+-- the file of a video
+abbrev pub video_file : List ℕ → List ℕ → File
+video_file out bytes = record { name = out; bytes = bytes }
+
+-- OUT has a front of the videos of the first groups of the store, each of which has one.
+pub record HasFront (store out : List ℕ) (old new : Seen) : Type 0 where
+  pub set : KeptSet
+  pub store_is : HasStore old.files store set
+  pub many : ℕ
+  pub few : many ≤ groups_told set
+  pub video : List ℕ
+  pub videos : AreVideos set many video
+  pub file : Wrote [] (Some (video_file out video)) old new
+
+-- no file has changed, or OUT has such a front
+abbrev pub LeavesFront : List ℕ → List ℕ → Seen → Seen → Type 0
+LeavesFront store out old new = (new.files ≡ old.files) ⊎ HasFront store out old new
+
+-- a file failed in its turn: OUT only where the first is a store
+abbrev pub FailedInTurn : List ℕ → List ℕ → Seen → Seen → Type 0
+FailedInTurn store out old new = Failed (reading store ∷ []) old new ⊎ (IsStore store old × Failed (writing out ∷ []) old new)
+
+-- Each group of the store has a video, and none a bad table; OUT has the videos, in order.
+pub record WritesVideo (store out : List ℕ) (old new : Seen) : Type 0 where
+  pub set : KeptSet
+  pub store_is : HasStore old.files store set
+  pub video : List ℕ
+  pub videos : AreVideos set (groups_told set) video
+  pub none : (group : ℕ) → group < groups_told set → HasBadTable set group → ⊥
+  pub file : Wrote (video_file out video ∷ []) None old new
+
+-- This group of the store has a bad table, and so no video; each group before it has a video, and OUT has these, in order.
+pub record StopsAtTable (store out : List ℕ) (group : ℕ) (old new : Seen) : Type 0 where
+  pub set : KeptSet
+  pub store_is : HasStore old.files store set
+  pub inside : group < groups_told set
+  pub bad : HasBadTable set group
+  pub none : (shown : List ℕ) → IsGroupVideo set group shown → ⊥
+  pub video : List ℕ
+  pub before : AreVideos set group video
+  pub file : Wrote (video_file out video ∷ []) None old new
+
+-- Why `video` ends so before it prints, and what it leaves of OUT.
+abbrev pub IsCause : List ℕ → List ℕ → Seen → Seen → VideoEnd → Type 0
+IsCause store out old new Done = ⊥
+IsCause store out old new OutFault = ⊥
+IsCause store out old new NoMemory = LeavesFront store out old new
+IsCause store out old new PlaceFault = FailedInTurn store out old new × LeavesFront store out old new
+IsCause store out old new (BadStore at kind) = HasBadStore old.files store (At at kind) × (new.files ≡ old.files)
+IsCause store out old new (BadTable group) = StopsAtTable store out group old new
+
+-- the line of so many bytes as the video has
+abbrev pub video_line : {store out : List ℕ} {old new : Seen} → WritesVideo store out old new → List ℕ
+video_line w = video_text (length w.video)
+
+-- OUT has the video of the store, and its line was printed, or a front of it where the output failed. At every other end its cause
+-- holds of the files, and nothing was printed.
+abbrev pub EndsVideo : List ℕ → List ℕ → OutsideSeen → OutsideSeen → VideoEnd → Type 0
+EndsVideo store out before after Done = (w : WritesVideo store out before.place after.place) × Printed (video_line w) before after
+EndsVideo store out before after OutFault = (w : WritesVideo store out before.place after.place) × PrintedFront (video_line w) before after
+EndsVideo store out before after NoMemory = IsCause store out before.place after.place NoMemory × Unprinted before after
+EndsVideo store out before after PlaceFault = IsCause store out before.place after.place PlaceFault × Unprinted before after
+EndsVideo store out before after (BadStore at kind) = IsCause store out before.place after.place (BadStore at kind) × Unprinted before after
+EndsVideo store out before after (BadTable group) = IsCause store out before.place after.place (BadTable group) × Unprinted before after
+
+-- what `video` does: it sends nothing, and the faults of the output do not fall
+pub record Videos (store out : List ℕ) (before after : OutsideSeen) (end : VideoEnd) : Type 0 where
+  pub link : after.link ≡ before.link
+  pub later : before.out_faults ≤ after.out_faults
+  pub ends : EndsVideo store out before after end
