@@ -1,7 +1,9 @@
--- What the real ends tell. As a place and a sink they tell nothing but their faults; beside it they say what became of
--- the bytes at a file or a writer that tells what it holds. This project's own.
+-- What the real ends tell. As a place, a link and a sink they tell nothing but their faults and the port that was
+-- answered; beside it a place and a sink say what became of the bytes at a file or a writer that tells what it holds.
+-- This project's own.
 use Rattle.std.specs.Prelude.{ℕ, Bool, List, Option, None, false}
 use Rattle.pet_base.specs.Seen.{Seen}
+use Rattle.pet_base.specs.LinkSeen.{LinkSeen}
 
 pub record Opened : Type 0 where
   pub has_input : Bool
@@ -37,3 +39,24 @@ untold o = record {
 -- what the writer of an output holds, and how many calls failed
 abbrev pub Printed : Type 0
 Printed = Option (List ℕ) × ℕ
+
+-- the port that the last `bind` answered, and how many calls failed
+pub record Numbered : Type 0 where
+  pub port : ℕ
+  pub faults : ℕ
+
+-- no `bind` yet, and no failure
+abbrev pub never_bound : Numbered
+never_bound = record { port = 0; faults = 0 }
+
+-- no datagram is told, no address and no blame
+abbrev pub untold_link : Numbered → LinkSeen
+untold_link l = record {
+  feed = None;
+  sent = None;
+  port = l.port;
+  bound = None;
+  aimed = None;
+  blamed = None;
+  faults = l.faults;
+}

@@ -1,4 +1,5 @@
 pub mod Words
+pub mod Ends
 pub mod WrittenFiles
 pub mod Forms
 pub mod Lines

@@ -1,4 +1,4 @@
--- The statuses: their numbers, and the lines that tell of them. This project's own.
+-- The statuses, their numbers and lines, and the lines of commands that run on packets. This project's own.
 use Rattle.std.specs.Prelude.{ℕ, List, [], ◌++◌, codes, decimal}
 use Rattle.pet_base.specs.declared.limits.TheConstants.{MAX_STREAM}
 use Rattle.mpeg_scan.specs.declared.refusal.Scan.{Scan}
@@ -10,13 +10,14 @@ use Rattle.store_merge.specs.declared.fault.StoreKind.TheVariants as store
 use Rattle.pet_text.specs.declared.status.PlanKind.{PlanKind}
 use Rattle.pet_text.specs.declared.status.PlanKind.TheVariants as plan
 use Rattle.pet_text.specs.declared.status.Status.{Status}
-use Rattle.pet_text.specs.declared.status.Status.TheVariants.{Done, Usage, NoMemory, PlaceFault, OutFault, BadStream, BadPriority, BadPlan, BadStore, OtherSession, Clash, Incomplete, TurnsSpent, NotLeast, Changed, Full}
+use Rattle.pet_text.specs.declared.status.Status.TheVariants.{Done, Usage, NoMemory, PlaceFault, LinkFault, OutFault, BadStream, BadPriority, BadPlan, BadStore, OtherSession, Clash, Incomplete, TurnsSpent, BadTable, NotLeast, Changed, Full}
 
 abbrev pub code_of : Status → ℕ
 code_of Done = 0
 code_of Usage = 1
 code_of NoMemory = 2
 code_of PlaceFault = 3
+code_of LinkFault = 4
 code_of OutFault = 5
 code_of (BadStream fault) = 6
 code_of (BadPriority fault) = 7
@@ -26,6 +27,7 @@ code_of OtherSession = 10
 code_of (Clash group number) = 11
 code_of Incomplete = 12
 code_of TurnsSpent = 13
+code_of (BadTable group) = 15
 code_of (NotLeast group) = 16
 code_of (Changed group first second) = 17
 code_of (Full group) = 19
@@ -84,6 +86,7 @@ fault_text Done = []
 fault_text Usage = codes "fault usage\n"
 fault_text NoMemory = codes "fault memory\n"
 fault_text PlaceFault = codes "fault place\n"
+fault_text LinkFault = codes "fault link\n"
 fault_text OutFault = []
 fault_text (BadStream fault) = codes "fault stream " ++ scan_text fault ++ codes "\n"
 fault_text (BadPriority fault) = codes "fault priority " ++ priority_text fault ++ codes "\n"
@@ -94,9 +97,14 @@ fault_text OtherSession = codes "fault session\n"
 fault_text (Clash group number) = codes "fault clash " ++ decimal group ++ codes " " ++ decimal number ++ codes "\n"
 fault_text Incomplete = codes "fault incomplete\n"
 fault_text TurnsSpent = codes "fault turns\n"
+fault_text (BadTable group) = codes "fault table " ++ decimal group ++ codes "\n"
 fault_text (NotLeast group) = codes "fault least " ++ decimal group ++ codes "\n"
 fault_text (Changed group first second) = codes "fault changed " ++ decimal group ++ codes "\n"
 fault_text (Full group) = codes "fault full " ++ decimal group ++ codes "\n"
+
+-- the port at which a link receives
+abbrev pub bound_text : ℕ → List ℕ
+bound_text port = codes "bound " ++ decimal port ++ codes "\n"
 
 -- how many datagrams were read, how many packets are kept, and how many layers were shown
 abbrev pub receive_text : ℕ → ℕ → ℕ → List ℕ
@@ -105,3 +113,7 @@ receive_text read kept shown = codes "read " ++ decimal read ++ codes " kept " +
 -- how many datagrams of two stores the merged store has
 abbrev pub merged_text : ℕ → List ℕ
 merged_text datagrams = codes "merged " ++ decimal datagrams ++ codes "\n"
+
+-- how many bytes the video of a store has
+abbrev pub video_text : ℕ → List ℕ
+video_text bytes = codes "video " ++ decimal bytes ++ codes "\n"

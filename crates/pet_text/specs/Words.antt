@@ -3,9 +3,11 @@ use Rattle.std.specs.Prelude.{ℕ, ◌+◌, ◌-◌, ◌*◌, ◌&&◌, ◌==◌
 use Rattle.std.specs.List.{starts_with}
 use Rattle.std.specs.Str.{bytes_eq}
 use Rattle.std.specs.declared.alloc.Global.{Global}
-use Rattle.pet_text.specs.declared.words.End.TheVariants.{File}
+use Rattle.datagram_route.specs.Address.{is_address}
+use Rattle.pet_text.specs.declared.end.End.{End}
+use Rattle.pet_text.specs.declared.end.End.TheVariants.{File, Udp}
 use Rattle.pet_text.specs.declared.words.Command.{Command}
-use Rattle.pet_text.specs.declared.words.Command.TheVariants.{Plan, Check, Send, Receive, Merge}
+use Rattle.pet_text.specs.declared.words.Command.TheVariants.{Plan, Check, Send, Receive, Merge, Video}
 
 -- the texts of the words
 abbrev pub texts_of : List (String Global) → List (List ℕ)
@@ -18,6 +20,19 @@ is_name word = nat_lt 0 (length word)
 -- the name behind `file:`, which is not empty
 abbrev pub file_of : List ℕ → Option (List ℕ)
 file_of word = if starts_with nat_eq word (codes "file:") && nat_lt 5 (length word) then Some (drop 5 word) else None
+
+-- the address behind `udp:`: a host, a colon, and a port that is no less than the least one
+abbrev pub udp_of : ℕ → List ℕ → Option (List ℕ)
+udp_of least word = if starts_with nat_eq word (codes "udp:") && is_address least (drop 4 word) then Some (drop 4 word) else None
+
+-- the file, or else the address
+abbrev pub file_or_udp : Option (List ℕ) → Option (List ℕ) → Option End
+file_or_udp (Some name) address = Some (File name)
+file_or_udp None address = option_map Udp address
+
+-- where datagrams come from or go to
+abbrev pub end_of : ℕ → List ℕ → Option End
+end_of least word = file_or_udp (file_of word) (udp_of least word)
 
 -- a digit out of 0 to 9 and a to f
 abbrev pub digit_of : ℕ → Option ℕ
@@ -53,25 +68,28 @@ abbrev pub check_of : List ℕ → List ℕ → List ℕ → Option Command
 check_of stream priority plan =
     if is_name stream && (is_name priority && is_name plan) then Some (Check stream priority plan) else None
 
--- `send STREAM PRIORITY TO`: two files that are read, and another file that is written
-abbrev pub send_of : List ℕ → List ℕ → Option (List ℕ) → Option Command
+-- two files that are read, and another file that is written, or an address
+abbrev pub send_files : List ℕ → List ℕ → End → Bool
+send_files stream priority (File to) = is_name stream && (is_name priority && (not (bytes_eq to stream) && not (bytes_eq to priority)))
+send_files stream priority (Udp address) = is_name stream && is_name priority
+
+-- `send STREAM PRIORITY TO`: two files that are read, and where the datagrams go to
+abbrev pub send_of : List ℕ → List ℕ → Option End → Option Command
 send_of stream priority None = None
-send_of stream priority (Some to) =
-    if is_name stream && (is_name priority && (not (bytes_eq to stream) && not (bytes_eq to priority)))
-    then Some (Send stream priority (File to))
-    else None
+send_of stream priority (Some to) = if send_files stream priority to then Some (Send stream priority to) else None
 
--- a file that is read and two that are written: of these each differs from both others
-abbrev pub receive_files : List ℕ → List ℕ → List ℕ → Bool
-receive_files from layers store =
+-- two files that are written, each another than the other, and than a file that is read
+abbrev pub receive_files : End → List ℕ → List ℕ → Bool
+receive_files (File from) layers store =
     is_name layers && (is_name store && (not (bytes_eq from layers) && (not (bytes_eq from store) && not (bytes_eq layers store))))
+receive_files (Udp address) layers store = is_name layers && (is_name store && not (bytes_eq layers store))
 
--- `receive FROM SESSION LAYERS STORE`: a file that is read, a session number, and two other files that are written
-abbrev pub receive_of : Option (List ℕ) → Option (List ℕ) → List ℕ → List ℕ → Option Command
+-- `receive FROM SESSION LAYERS STORE`: where the datagrams come from, a session number, and two files that are written
+abbrev pub receive_of : Option End → Option (List ℕ) → List ℕ → List ℕ → Option Command
 receive_of None session layers store = None
 receive_of (Some from) None layers store = None
 receive_of (Some from) (Some session) layers store =
-    if receive_files from layers store then Some (Receive (File from) session layers store) else None
+    if receive_files from layers store then Some (Receive from session layers store) else None
 
 -- `merge STORE STORE OUT`: two files that are read, maybe one and the same, and another file that is written
 abbrev pub merge_of : List ℕ → List ℕ → List ℕ → Option Command
@@ -80,14 +98,22 @@ merge_of first second out =
     then Some (Merge first second out)
     else None
 
--- the command of the words, where they have the form of one
+-- `video STORE OUT`: a file that is read, and another file that is written
+abbrev pub video_of : List ℕ → List ℕ → Option Command
+video_of store out = if is_name store && (is_name out && not (bytes_eq out store)) then Some (Video store out) else None
+
+-- The command of the words, where they have the form of one. Datagrams are received at any port, also at one that is to be
+-- found, which is port 0; they are sent to a port of another number.
 abbrev pub command_of : List (List ℕ) → Option Command
-command_of (word ∷ first ∷ second ∷ []) = if bytes_eq word (codes "plan") then plan_of first second else None
+command_of (word ∷ first ∷ second ∷ []) =
+    if bytes_eq word (codes "plan") then plan_of first second
+    else if bytes_eq word (codes "video") then video_of first second
+    else None
 command_of (word ∷ first ∷ second ∷ third ∷ []) =
     if bytes_eq word (codes "check") then check_of first second third
-    else if bytes_eq word (codes "send") then send_of first second (file_of third)
+    else if bytes_eq word (codes "send") then send_of first second (end_of 1 third)
     else if bytes_eq word (codes "merge") then merge_of first second third
     else None
 command_of (word ∷ first ∷ second ∷ third ∷ fourth ∷ []) =
-    if bytes_eq word (codes "receive") then receive_of (file_of first) (session_of second) third fourth else None
+    if bytes_eq word (codes "receive") then receive_of (end_of 0 first) (session_of second) third fourth else None
 command_of _ = None

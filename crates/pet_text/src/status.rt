@@ -61,6 +61,8 @@ pub enum Status {
     NoMemory,
     /// A file could not be read or written.
     PlaceFault,
+    /// The link could not receive or send.
+    LinkFault,
     /// A line could not be printed.
     OutFault,
     /// The stream is refused.
@@ -79,6 +81,8 @@ pub enum Status {
     Incomplete,
     /// The input has 16,777,216 datagrams or more.
     TurnsSpent,
+    /// Layer 0 of this group, the first such, is shown and has no run table that fits the group's layers.
+    BadTable(u32),
     /// The listed lengths of this group, the first such, are not proved to be of the fewest stripes.
     NotLeast(u32),
     /// The stream changed while it was sent: this group, the first such, and its marks in the first pass and in the second.
@@ -97,6 +101,7 @@ impl Status {
             Status::Usage => 1,
             Status::NoMemory => 2,
             Status::PlaceFault => 3,
+            Status::LinkFault => 4,
             Status::OutFault => 5,
             Status::BadStream(_) => 6,
             Status::BadPriority(_) => 7,
@@ -106,6 +111,7 @@ impl Status {
             Status::Clash(_, _) => 11,
             Status::Incomplete => 12,
             Status::TurnsSpent => 13,
+            Status::BadTable(_) => 15,
             Status::NotLeast(_) => 16,
             Status::Changed(_, _, _) => 17,
             Status::Full(_) => 19,
@@ -124,6 +130,7 @@ pub fn fault_line(status: &Status, into: &mut ArrayVec<u8, 64>)
         Status::Usage => append_text("fault usage\n", into),
         Status::NoMemory => append_text("fault memory\n", into),
         Status::PlaceFault => append_text("fault place\n", into),
+        Status::LinkFault => append_text("fault link\n", into),
         Status::BadStream(fault) => stream_fault(fault, into),
         Status::BadPriority(fault) => priority_fault(fault, into),
         Status::BadPlan(kind, number) => plan_fault(*kind, *number, into),
@@ -132,6 +139,7 @@ pub fn fault_line(status: &Status, into: &mut ArrayVec<u8, 64>)
         Status::Clash(group, number) => clash_fault(*group, *number, into),
         Status::Incomplete => append_text("fault incomplete\n", into),
         Status::TurnsSpent => append_text("fault turns\n", into),
+        Status::BadTable(group) => group_fault("fault table ", *group, into),
         Status::NotLeast(group) => group_fault("fault least ", *group, into),
         Status::Changed(group, _, _) => group_fault("fault changed ", *group, into),
         Status::Full(group) => group_fault("fault full ", *group, into),

@@ -25,7 +25,7 @@ fn names_of(command: &Command) -> [&str; 4] {
             layers,
             store,
             ..
-        } => ["receive", file_of(from), layers.as_str(), store.as_str()],
+        } => ["receive", text_of(from), layers.as_str(), store.as_str()],
         Command::Plan { stream, priority } => ["plan", stream.as_str(), priority.as_str(), ""],
         Command::Check {
             stream,
@@ -36,16 +36,28 @@ fn names_of(command: &Command) -> [&str; 4] {
             stream,
             priority,
             to,
-        } => ["send", stream.as_str(), priority.as_str(), file_of(to)],
+        } => ["send", stream.as_str(), priority.as_str(), text_of(to)],
         Command::Merge { first, second, out } => {
             ["merge", first.as_str(), second.as_str(), out.as_str()]
         }
+        Command::Video { store, out } => ["video", store.as_str(), out.as_str(), ""],
     }
 }
 
-fn file_of(end: &End) -> &str {
-    let End::File(name) = end;
-    name.as_str()
+/// The name of a file or the address of a link, each as it stands in the word.
+fn text_of(end: &End) -> &str {
+    match end {
+        End::File(name) | End::Udp(name) => name.as_str(),
+    }
+}
+
+/// Whether the datagrams of a command come from or go to a link.
+fn is_by_link(command: &Command) -> bool {
+    match command {
+        Command::Receive { from, .. } => matches!(from, End::Udp(_)),
+        Command::Send { to, .. } => matches!(to, End::Udp(_)),
+        _ => false,
+    }
 }
 
 /// The session that a command names.
@@ -60,7 +72,7 @@ fn session_of(command: &Command) -> Option<[u8; 8]> {
 fn reads_the_words_of_each_command(rt: HostRuntime) -> Result<(), Fail> {
     let alloc = rt.alloc();
     let session = Some([0, 1, 2, 3, 4, 5, 6, 7]);
-    let rows: [(&[&str], [&str; 4], Option<[u8; 8]>); 7] = [
+    let rows: [(&[&str], [&str; 4], Option<[u8; 8]>); 8] = [
         (
             &["receive", "file:a", SESSION, "b", "c"],
             ["receive", "a", "b", "c"],
@@ -76,6 +88,7 @@ fn reads_the_words_of_each_command(rt: HostRuntime) -> Result<(), Fail> {
         (&["send", "s", "f", "file:d"], ["send", "s", "f", "d"], None),
         (&["merge", "a", "b", "c"], ["merge", "a", "b", "c"], None),
         (&["merge", "a", "a", "c"], ["merge", "a", "a", "c"], None),
+        (&["video", "t", "o"], ["video", "t", "o", ""], None),
     ];
     for (texts, names, session) in rows {
         let command = read_words(alloc, &words(alloc, texts)?).expect(&rt, "a command");
@@ -88,7 +101,7 @@ fn reads_the_words_of_each_command(rt: HostRuntime) -> Result<(), Fail> {
 #[test]
 fn refuses_other_words(rt: HostRuntime) -> Result<(), Fail> {
     let alloc = rt.alloc();
-    let cases: [&[&str]; 27] = [
+    let cases: [&[&str]; 31] = [
         &[],
         &["plan", "s"],
         &["receive", "file:a", "0123", "l", "t"],
@@ -109,13 +122,17 @@ fn refuses_other_words(rt: HostRuntime) -> Result<(), Fail> {
         &["merge", "a", "b", ""],
         &["merge", "a", "b", "c", "d"],
         &["plan", "s", ""],
+        &["video", "t"],
+        &["video", "", "o"],
+        &["video", "t", ""],
+        &["video", "t", "t"],
+        &["video", "t", "o", "p"],
         &["PLAN", "s", "f"],
         &["send", "s", "f"],
         &["send", "s", "f", "d"],
         &["send", "s", "f", "file:"],
         &["send", "s", "f", "file:s"],
         &["send", "s", "f", "file:f"],
-        &["send", "s", "f", "udp:a:9"],
     ];
     for case in &cases {
         let fault = read_words(alloc, &words(alloc, *case)?).err();
@@ -125,16 +142,83 @@ fn refuses_other_words(rt: HostRuntime) -> Result<(), Fail> {
 }
 
 #[test]
-fn prints_the_lines_of_receive_and_merge(rt: HostRuntime) -> Result<(), Fail> {
+fn reads_an_address_up_to_its_last_colon(rt: HostRuntime) -> Result<(), Fail> {
+    let alloc = rt.alloc();
+    let forms = [
+        "x:1",
+        "127.0.0.1:65535",
+        "[::1]:9",
+        "::1:9",
+        ":::9",
+        "a b:10",
+        "udp:x:1",
+    ];
+    for address in forms {
+        let word = format!(in alloc; "udp:{address}")?;
+        let send = words(alloc, &["send", "s", "f", word.as_str()])?;
+        let receive = words(alloc, &["receive", word.as_str(), SESSION, "x:1", "t"])?;
+        let send = read_words(alloc, &send).expect(&rt, "a command");
+        let receive = read_words(alloc, &receive).expect(&rt, "a command");
+        assert_eq!(rt; names_of(&send), ["send", "s", "f", address]);
+        assert_eq!(rt; names_of(&receive), ["receive", address, "x:1", "t"]);
+        assert!(rt; is_by_link(&send) && is_by_link(&receive));
+    }
+    // port 0, which is one that is to be found, is only received at
+    let receive = words(alloc, &["receive", "udp:x:0", SESSION, "l", "t"])?;
+    let receive = read_words(alloc, &receive).expect(&rt, "a command");
+    assert_eq!(rt; names_of(&receive), ["receive", "x:0", "l", "t"]);
+    let send = words(alloc, &["send", "s", "f", "udp:x:0"])?;
+    assert_eq!(rt; read_words(alloc, &send).err(), Some(WordsFault::Usage));
+    Ok(())
+}
+
+#[test]
+fn refuses_other_addresses(rt: HostRuntime) -> Result<(), Fail> {
+    let alloc = rt.alloc();
+    let others = [
+        "udp:",
+        "udp:x",
+        "udp:x:",
+        "udp::1",
+        "udp:1",
+        "udp:x:65536",
+        "udp:x:01",
+        "udp:x:00",
+        "udp:x:+1",
+        "udp:x:-1",
+        "udp:x: 1",
+        "udp:x:1 ",
+        "udp:x:1a",
+        "udp:x:99999",
+        "udp:x:100000",
+        "UDP:x:1",
+        "udp:x:18446744073709551617",
+        "file:",
+    ];
+    for word in others {
+        let send = words(alloc, &["send", "s", "f", word])?;
+        let receive = words(alloc, &["receive", word, SESSION, "l", "t"])?;
+        assert_eq!(rt; read_words(alloc, &send).err(), Some(WordsFault::Usage));
+        assert_eq!(rt; read_words(alloc, &receive).err(), Some(WordsFault::Usage));
+    }
+    let same = words(alloc, &["receive", "udp:x:1", SESSION, "l", "l"])?;
+    assert_eq!(rt; read_words(alloc, &same).err(), Some(WordsFault::Usage));
+    Ok(())
+}
+
+#[test]
+fn prints_the_lines_of_receive_merge_and_video(rt: HostRuntime) -> Result<(), Fail> {
     let alloc = rt.alloc();
     let mut text = Vec::new(alloc);
+    bound_line(alloc, 40_000, &mut text).ok().ok_or("memory")?;
     receive_line(alloc, 3, 2, 1, &mut text)
         .ok()
         .ok_or("memory")?;
     merged_line(alloc, 7, &mut text).ok().ok_or("memory")?;
+    video_line(alloc, 44, &mut text).ok().ok_or("memory")?;
     assert_eq!(rt;
         text.as_slice(),
-        b"read 3 kept 2 shown 1\nmerged 7\n".as_slice()
+        b"bound 40000\nread 3 kept 2 shown 1\nmerged 7\nvideo 44\n".as_slice()
     );
     Ok(())
 }
@@ -148,6 +232,7 @@ fn prints_the_fault_lines(rt: HostRuntime) -> Result<(), Fail> {
     let second = GroupMark::none();
     let cases = [
         (Status::Incomplete, 12, "fault incomplete\n"),
+        (Status::LinkFault, 4, "fault link\n"),
         (
             Status::BadStream(Scan::PictureType(4, 5)),
             6,
@@ -181,6 +266,7 @@ fn prints_the_fault_lines(rt: HostRuntime) -> Result<(), Fail> {
         ),
         (Status::OtherSession, 10, "fault session\n"),
         (Status::Clash(3, 65_535), 11, "fault clash 3 65535\n"),
+        (Status::BadTable(65_534), 15, "fault table 65534\n"),
         (Status::NotLeast(0), 16, "fault least 0\n"),
         (Status::Changed(0, first, second), 17, "fault changed 0\n"),
         (Status::Full(4_294_967_295), 19, "fault full 4294967295\n"),

@@ -1,18 +1,14 @@
 //! The command words.
-ghost use Rattle.std.specs.Prelude.{◌≡◌, ◌↔◌, [], ◌∷◌, Err, None, Some, IfOk, option_map, option_copied};
-ghost use Rattle.pet_text.specs.Words.{texts_of, file_of, session_of, plan_of, check_of, send_of, receive_files, receive_of, merge_of, command_of};
+ghost use Rattle.std.specs.Prelude.{◌≡◌, ◌↔◌, [], ◌∷◌, Err, None, Some, IfOk, option_map};
+ghost use Rattle.pet_text.specs.Words.{texts_of, end_of, session_of, plan_of, check_of, send_files, send_of, receive_files, receive_of, merge_of, video_of, command_of};
 ghost use Rattle.pet_text.specs.Forms.{receive_command};
+ghost use Rattle.pet_text.specs.Ends.{end_in};
 
+use crate::end::{End, own_end, read_end};
 use crate::name::Name;
 use crate::session::read_session;
+use datagram_route::Route;
 use std::alloc::{AllocError, Global};
-
-/// Where datagrams come from or go to.
-#[derive(Drop, Debug)]
-pub enum End {
-    /// A datagram file of this name.
-    File(Name),
-}
 
 /// A command, with what its words name.
 #[derive(Drop, Debug)]
@@ -60,6 +56,13 @@ pub enum Command {
         /// The file of the second store.
         second: Name,
         /// The file that the merged store is written to, which differs from both.
+        out: Name,
+    },
+    /// Writes the video that can be shown of a store.
+    Video {
+        /// The file of the store.
+        store: Name,
+        /// The file that the video is written to, which differs from that of the store.
         out: Name,
     },
 }
@@ -122,6 +125,8 @@ fn read_two(alloc: Global, word: &str, first: &str, second: &str) -> Result<Comm
 {
     if word == "plan" {
         read_plan_words(alloc, first, second)
+    } else if word == "video" {
+        read_video_words(alloc, first, second)
     } else {
         Err(WordsFault::Usage)
     }
@@ -217,24 +222,37 @@ fn read_send_words(
     to: &str,
 ) -> Result<Command, WordsFault>
     ensures usage { (result ≡ Err WordsFault.Usage)
-        ↔ (send_of stream.now priority.now (file_of to.now) ≡ None) }
+        ↔ (send_of stream.now priority.now (end_of 1 to.now) ≡ None) }
     ensures command { IfOk result (λ command.
-        send_of stream.now priority.now (file_of to.now) ≡ Some command) }
+        send_of stream.now priority.now (end_of 1 to.now) ≡ Some command) }
 {
-    let Some(to) = file_name(to) else {
+    let Some(to) = read_end(to, 1) else {
         return Err(WordsFault::Usage);
     };
-    if stream.is_empty() || priority.is_empty() || to == stream || to == priority {
+    if !are_send_files(stream, priority, to) {
         return Err(WordsFault::Usage);
     }
     let stream = Name::new(alloc, stream)?;
     let priority = Name::new(alloc, priority)?;
-    let to = Name::new(alloc, to)?;
+    let to = own_end(alloc, to)?;
     Ok(Command::Send {
         stream,
         priority,
-        to: End::File(to),
+        to,
     })
+}
+
+/// Whether the two files that are read have names, and a file that is written another than both.
+fn are_send_files(stream: &str, priority: &str, to: Route<'_>) -> bool
+    ensures { result ≡ send_files stream.now priority.now (end_in to.entry) }
+{
+    if stream.is_empty() || priority.is_empty() {
+        return false;
+    }
+    match to {
+        Route::File(to) => to != stream && to != priority,
+        Route::Udp(_) => true,
+    }
 }
 
 /// The words behind `receive`.
@@ -246,19 +264,19 @@ fn read_receive_words(
     store: &str,
 ) -> Result<Command, WordsFault>
     ensures usage { (result ≡ Err WordsFault.Usage)
-        ↔ (receive_of (file_of from.now) (session_of session.now) layers.now store.now ≡ None) }
+        ↔ (receive_of (end_of 0 from.now) (session_of session.now) layers.now store.now ≡ None) }
     ensures command { IfOk result (λ command.
-        receive_of (file_of from.now) (session_of session.now) layers.now store.now
+        receive_of (end_of 0 from.now) (session_of session.now) layers.now store.now
         ≡ Some command) }
 {
     let Some(form) = receive_words(from, session, layers, store) else {
         return Err(WordsFault::Usage);
     };
-    let from = Name::new(alloc, form.from)?;
+    let from = own_end(alloc, form.from)?;
     let layers = Name::new(alloc, form.layers)?;
     let store = Name::new(alloc, form.store)?;
     Ok(Command::Receive {
-        from: End::File(from),
+        from,
         session: form.session,
         layers,
         store,
@@ -268,7 +286,7 @@ fn read_receive_words(
 /// What the words of `receive` give.
 #[derive(Clone, Copy)]
 struct ReceiveWords<'a> {
-    from: &'a str,
+    from: Route<'a>,
     session: [u8; 8],
     layers: &'a str,
     store: &'a str,
@@ -282,9 +300,9 @@ fn receive_words<'a>(
     store: &'a str,
 ) -> Option<ReceiveWords<'a>>
     ensures { option_map receive_command result
-        ≡ receive_of (file_of from.now) (session_of session.now) layers.now store.now }
+        ≡ receive_of (end_of 0 from.now) (session_of session.now) layers.now store.now }
 {
-    let from = file_name(from)?;
+    let from = read_end(from, 0)?;
     let session = read_session(session)?;
     if are_receive_files(from, layers, store) {
         Some(ReceiveWords {
@@ -298,11 +316,17 @@ fn receive_words<'a>(
     }
 }
 
-/// Whether the two files that are written have names, each another than both others.
-fn are_receive_files(from: &str, layers: &str, store: &str) -> bool
-    ensures { result ≡ receive_files from.now layers.now store.now }
+/// Whether the two files that are written have names, each another than the other and than a file that is read.
+fn are_receive_files(from: Route<'_>, layers: &str, store: &str) -> bool
+    ensures { result ≡ receive_files (end_in from.entry) layers.now store.now }
 {
-    !layers.is_empty() && !store.is_empty() && from != layers && from != store && layers != store
+    if layers.is_empty() || store.is_empty() {
+        return false;
+    }
+    match from {
+        Route::File(from) => from != layers && from != store && layers != store,
+        Route::Udp(_) => layers != store,
+    }
 }
 
 /// The words behind `merge`.
@@ -326,12 +350,15 @@ fn read_merge_words(
     Ok(Command::Merge { first, second, out })
 }
 
-/// The name behind `file:`.
-fn file_name(word: &str) -> Option<&str>
-    ensures { option_copied result ≡ file_of word.now }
+/// The words behind `video`.
+fn read_video_words(alloc: Global, store: &str, out: &str) -> Result<Command, WordsFault>
+    ensures usage { (result ≡ Err WordsFault.Usage) ↔ (video_of store.now out.now ≡ None) }
+    ensures command { IfOk result (λ command. video_of store.now out.now ≡ Some command) }
 {
-    match word.strip_prefix("file:") {
-        Some(name) if !name.is_empty() => Some(name),
-        _ => None,
+    if store.is_empty() || out.is_empty() || out == store {
+        return Err(WordsFault::Usage);
     }
+    let store = Name::new(alloc, store)?;
+    let out = Name::new(alloc, out)?;
+    Ok(Command::Video { store, out })
 }

@@ -1,11 +1,12 @@
 -- What each command completes follows from what it does.
-use Rattle.std.proofs.Common.{◌≡◌, ℕ, Bool, true, false, List, ◌++◌, Option, None, Some, refl, ap, ◌∙◌}
+use Rattle.std.proofs.Common.{◌≡◌, ℕ, Bool, true, false, List, [], ◌∷◌, ◌++◌, ◌⊎◌, length, Option, None, Some, refl, sym, ap, subst, ◌∙◌, inl, inr}
 use Rattle.std.proofs.lemmas.List.Elements.{All-contains}
 use Rattle.std.specs.Prelude.{if◌then◌else◌}
 use Rattle.std.specs.Io.KnownBytes.{append_known}
 use Rattle.pet_base.specs.Entries.{datagrams}
 use Rattle.pet_base.specs.OutsideSeen.{OutsideSeen}
-use Rattle.pet_base.specs.Seen.{Files, Seen}
+use Rattle.pet_base.specs.Seen.{Files, Seen, with_file}
+use Rattle.command_files.specs.Uses.{reading, writing}
 use Rattle.pet_encode.specs.Session.{IsSession}
 use Rattle.session_packets.specs.Packets.{datagrams_text, IsItsDatagram}
 use Rattle.session_packets.specs.laws.SentLaws.{sent_are_packets}
@@ -15,7 +16,11 @@ use Rattle.command_plan.specs.Checks.{Checks}
 use Rattle.command_plan.specs.Plans.{Plans}
 use Rattle.command_plan.specs.laws.CheckLaws.{checks_before_line}
 use Rattle.command_plan.specs.laws.PlanLaws.{plans_before_line}
+use Rattle.command_receive.specs.declared.command.ReceiveEnd.{ReceiveEnd}
 use Rattle.command_receive.specs.declared.command.ReceiveEnd.TheVariants as receive
+use Rattle.command_receive.specs.NamedLayers.{NamesStored, NamesWhatItStores as EndNames}
+use Rattle.command_receive.specs.laws.NamedLaws.{names_what_it_stores}
+use Rattle.command_receive.specs.Opened.{IsBoundTo}
 use Rattle.command_receive.specs.Receives.{Receives}
 use Rattle.command_receive.specs.ReceivesSession.{HasPacketsOf}
 use Rattle.command_receive.specs.laws.LineLaws.{can_receive_before, received_with_line}
@@ -23,19 +28,25 @@ use Rattle.command_receive.specs.laws.SessionReceived.{completes_receive}
 use Rattle.command_merge.specs.Merges.{Merges}
 use Rattle.command_merge.specs.laws.MergeLineLaws.{can_merge_before, merged_with_line}
 use Rattle.command_merge.specs.laws.SessionMerged.{completes_merge}
+use Rattle.command_video.specs.Videos.{Videos}
+use Rattle.command_video.specs.VideosSession.{HasStoreOf, VideosSession}
+use Rattle.command_video.specs.laws.SessionVideo.{completes_video}
+use Rattle.command_video.specs.laws.VideoLineLaws.{can_video_before, video_with_line}
+use Rattle.met_packets.specs.Met.{Pair}
 use Rattle.command_send.specs.Sends.{Sends}
 use Rattle.command_send.specs.laws.EndLaws.{sends_session, sent_before_line}
 use Rattle.pet_text.specs.declared.status.Status.{Status}
-use Rattle.pet_text.specs.declared.status.Status.TheVariants.{Done, Incomplete}
+use Rattle.pet_text.specs.declared.status.Status.TheVariants.{Done, Incomplete, TurnsSpent}
 use Rattle.pet_text.specs.declared.words.Command.{Command}
-use Rattle.pet_text.specs.declared.words.Command.TheVariants.{Plan, Check, Send, Receive, Merge}
-use Rattle.pet_text.specs.declared.words.End.TheVariants.{File}
-use Rattle.pet_text.specs.Lines.{fault_text}
-use Rattle.pet_tool.specs.Completes.{Completes, CompletesPlan, CompletesCheck, CompletesSend, CompletesMerge}
+use Rattle.pet_text.specs.declared.words.Command.TheVariants.{Plan, Check, Send, Receive, Merge, Video}
+use Rattle.datagram_route.specs.Way.{Way}
+use Rattle.pet_text.specs.Ends.{way_in}
+use Rattle.pet_text.specs.Lines.{fault_text, video_text}
+use Rattle.pet_tool.specs.Completes.{Completes, CompletesPlan, CompletesCheck, CompletesSend, CompletesMerge, ShowsStream, GivesStream}
 use Rattle.pet_tool.specs.Does.{Does, Runs}
-use Rattle.pet_tool.specs.Headline.{Headline, HasWhatWasSent, ReceivesWhatWasSent}
-use Rattle.pet_tool.specs.Statuses.{status_of_plan, status_of_check, status_of_send, status_of_receive, status_of_merge}
-use Rattle.pet_tool.specs.Undisturbed.{EndsWith}
+use Rattle.pet_tool.specs.Headline.{Headline, HasWhatWasSent, NamesWhatItStores, ReceivesWhatWasSent}
+use Rattle.pet_tool.specs.Statuses.{status_of_plan, status_of_check, status_of_send, status_of_receive, status_of_merge, status_of_video}
+use Rattle.pet_tool.specs.Undisturbed.{IsUndisturbed, EndsWith}
 
 -- the lines and then that of the status which the end has
 ends_with : (status told : Status) (lines : List ℕ) (before after : OutsideSeen) → told ≡ status → after.written ≡ append_known before.written (lines ++ fault_text told) → EndsWith status lines before after told
@@ -54,31 +65,32 @@ check_completes stream priority plan before after status runs = λ p b calm give
     let done = checks_before_line stream priority plan (fault_text status) before runs.between after runs.end runs.did runs.line p b (λ none. calm.memory (runs.ended ∙ ap status_of_check none)) calm.well given there in
     ends_with Done status _ before after (runs.ended ∙ ap status_of_check done.0) done.1
 
-send_completes : (stream priority to : List ℕ) (before after : OutsideSeen) (status : Status) → Runs (Sends stream priority to) status_of_send before after status → CompletesSend stream priority to before after status
+send_completes : (stream priority : List ℕ) (to : Way) (before after : OutsideSeen) (status : Status) → Runs (Sends stream priority to) status_of_send before after status → CompletesSend stream priority to before after status
 send_completes stream priority to before after status runs = λ p b calm given.
     let completes = sends_session stream priority to before runs.between runs.end runs.did in
-    let sent = sent_before_line stream priority to (fault_text status) before runs.between after runs.end completes runs.did.later runs.line p b (λ none. calm.memory (runs.ended ∙ ap status_of_send none)) calm.well given in
-    (sent.file, ends_with Done status _ before after (runs.ended ∙ ap status_of_send sent.ended) sent.printed)
+    let sent = sent_before_line stream priority to (fault_text status) before runs.between after runs.end completes runs.did.later runs.line p b (λ none. calm.calm.memory (runs.ended ∙ ap status_of_send none)) calm.calm.well calm.link given in
+    (sent.packets, ends_with Done status _ before after (runs.ended ∙ ap status_of_send sent.ended) sent.printed)
 
 -- the status of the end by whether all layers are shown
 shown_status : (all : Bool) → status_of_receive (if all then receive.Done else receive.Incomplete) ≡ (if all then Done else Incomplete)
 shown_status true = refl
 shown_status false = refl
 
-headline : (from session layers store : List ℕ) (before after : OutsideSeen) (status : Status) → Runs (Receives from session layers store) status_of_receive before after status → Headline from session layers store before after status
-headline from session layers store before after status runs = λ s files bytes is calm given.
-    let can = can_receive_before s from layers store files bytes (fault_text status) before runs.between after runs.end runs.line (record { memory = λ none. calm.memory (runs.ended ∙ ap status_of_receive none); well = calm.well; given = given }) in
-    let received = completes_receive from session layers store before runs.between runs.end runs.did s files bytes is can in
-    let lined = received_with_line s from layers store files bytes (fault_text status) before runs.between after runs.end runs.line (datagrams bytes) calm.well runs.did.later received in
+headline : (from : Way) (session layers store : List ℕ) (before after : OutsideSeen) (status : Status) → Runs (Receives from session layers store) status_of_receive before after status → Headline from session layers store before after status
+headline from session layers store before after status runs = λ s files ds is calm given.
+    let can = can_receive_before s from layers store files ds (fault_text status) before runs.between after runs.end runs.line (record { memory = λ none. calm.calm.memory (runs.ended ∙ ap status_of_receive none); well = calm.calm.well; link = calm.link; given = given }) in
+    let received = completes_receive from session layers store before runs.between runs.end runs.did s files ds is can in
+    let lined = received_with_line s from layers store files ds (fault_text status) before runs.between after runs.end runs.line calm.calm.well runs.did.later received in
     record {
       written = lined.0;
       ends = ends_with _ status _ before after (runs.ended ∙ ap status_of_receive received.ended ∙ shown_status _) lined.1;
+      listens = subst (IsBoundTo from before.link) (sym runs.line.link) received.listens;
       fewest = received.fewest;
     }
 
--- what `send` wrote are packets of the session
-sent_given : (p b from : List ℕ) (files : Files) (bytes : List ℕ) (old : Seen) → HasWhatWasSent p b from files bytes old → HasPacketsOf (session_of p b) from files bytes old
-sent_given p b from files bytes old sent =
+-- what `send` sends are packets of the session
+sent_given : (p b : List ℕ) (from : Way) (files : Files) (ds : List (List ℕ)) (old : OutsideSeen) → HasWhatWasSent p b from files ds old → HasPacketsOf (session_of p b) from files ds old
+sent_given p b from files ds old sent =
     let session : IsSession 2 (session_of p b) = is_session p b sent.stream_bytes sent.accepted in
     record {
       session = session;
@@ -90,9 +102,43 @@ sent_given p b from files bytes old sent =
           (All-contains (IsItsDatagram (session_of p b)) (datagrams (datagrams_text (session_of p b))) _ (sent_are_packets (session_of p b) session) (sent.sent k d lt)).packet;
     }
 
-received_sent : (from session layers store : List ℕ) (before after : OutsideSeen) (status : Status) → Headline from session layers store before after status → ReceivesWhatWasSent from session layers store before after status
-received_sent from session layers store before after status meets = λ p b files bytes is calm sent.
-    meets (session_of p b) files bytes is calm (sent_given p b from files bytes before.place sent)
+received_sent : (from : Way) (session layers store : List ℕ) (before after : OutsideSeen) (status : Status) → Headline from session layers store before after status → ReceivesWhatWasSent from session layers store before after status
+received_sent from session layers store before after status meets = λ p b files ds is calm sent.
+    meets (session_of p b) files ds is calm (sent_given p b from files ds before sent)
+
+-- LAYERS and STORE stay as they are behind the line of the status
+still_stored : (session layers store : List ℕ) (before between after : OutsideSeen) → after.place ≡ between.place → NamesStored session layers store before between → NamesStored session layers store before after
+still_stored session layers store before between after same named = record {
+  set = named.set;
+  sound = named.sound;
+  number = named.number;
+  text = named.text;
+  files = ap (λ (place : Seen). place.files) same ∙ named.files;
+  named = named.named;
+}
+
+stored_at : (session layers store : List ℕ) (before between : OutsideSeen) (end : ReceiveEnd) → EndNames session layers store before between end → (status_of_receive end ≡ Done) ⊎ (status_of_receive end ≡ Incomplete) ⊎ (status_of_receive end ≡ TurnsSpent) → NamesStored session layers store before between
+stored_at session layers store before between receive.Done named is = named
+stored_at session layers store before between receive.Incomplete named is = named
+stored_at session layers store before between receive.TurnsSpent named is = named
+stored_at session layers store before between receive.NoMemory named (inl is) = absurd (cc)
+stored_at session layers store before between receive.NoMemory named (inr (inl is)) = absurd (cc)
+stored_at session layers store before between receive.NoMemory named (inr (inr is)) = absurd (cc)
+stored_at session layers store before between receive.PlaceFault named (inl is) = absurd (cc)
+stored_at session layers store before between receive.PlaceFault named (inr (inl is)) = absurd (cc)
+stored_at session layers store before between receive.PlaceFault named (inr (inr is)) = absurd (cc)
+stored_at session layers store before between receive.LinkFault named (inl is) = absurd (cc)
+stored_at session layers store before between receive.LinkFault named (inr (inl is)) = absurd (cc)
+stored_at session layers store before between receive.LinkFault named (inr (inr is)) = absurd (cc)
+stored_at session layers store before between receive.OutFault named (inl is) = absurd (cc)
+stored_at session layers store before between receive.OutFault named (inr (inl is)) = absurd (cc)
+stored_at session layers store before between receive.OutFault named (inr (inr is)) = absurd (cc)
+
+names_stored : (from : Way) (session layers store : List ℕ) (before after : OutsideSeen) (status : Status) → Runs (Receives from session layers store) status_of_receive before after status → NamesWhatItStores session layers store before after status
+names_stored from session layers store before after status runs is =
+    still_stored session layers store before runs.between after runs.line.place
+    (stored_at session layers store before runs.between runs.end (names_what_it_stores from session layers store before runs.between runs.end runs.did.ends)
+    (subst (λ (s : Status). (s ≡ Done) ⊎ (s ≡ Incomplete) ⊎ (s ≡ TurnsSpent)) runs.ended is))
 
 merge_completes : (first second out : List ℕ) (before after : OutsideSeen) (status : Status) → Runs (Merges first second out) status_of_merge before after status → CompletesMerge first second out before after status
 merge_completes first second out before after status runs = λ s files a b calm given.
@@ -101,12 +147,34 @@ merge_completes first second out before after status runs = λ s files a b calm 
     let lined = merged_with_line s first second out files a b (fault_text status) before runs.between after runs.end runs.line calm.well runs.did.later merged in
     (lined.0, ends_with Done status _ before after (runs.ended ∙ ap status_of_merge merged.ended) lined.1)
 
+-- what `video` completed before the line of its status
+video_before : (store out : List ℕ) (before after : OutsideSeen) (status : Status) (runs : Runs (Videos store out) status_of_video before after status) (p b : List ℕ) (files : Files) (pairs : List Pair)
+    → IsUndisturbed (reading store ∷ writing out ∷ []) before after status → HasStoreOf p b store files pairs before.place → VideosSession p b out files pairs before runs.between runs.end
+video_before store out before after status runs p b files pairs calm given =
+    completes_video store out before runs.between runs.end runs.did p b files pairs
+    (can_video_before p b store out files pairs (fault_text status) before runs.between after runs.end runs.line (record { memory = λ none. calm.memory (runs.ended ∙ ap status_of_video none); well = calm.well; given = given }))
+
+shows_stream : (store out : List ℕ) (before after : OutsideSeen) (status : Status) → Runs (Videos store out) status_of_video before after status → ShowsStream store out before after status
+shows_stream store out before after status runs = λ p b files pairs calm given.
+    let videos = video_before store out before after status runs p b files pairs calm given in
+    let lined = video_with_line p b store out files pairs (fault_text status) before runs.between after runs.end runs.line calm.well runs.did.later videos in
+    (lined.0, ends_with Done status _ before after (runs.ended ∙ ap status_of_video videos.ended) lined.1)
+
+gives_stream : (store out : List ℕ) (before after : OutsideSeen) (status : Status) → Runs (Videos store out) status_of_video before after status → GivesStream store out before after status
+gives_stream store out before after status runs = λ p b files pairs calm given all.
+    let shown = shows_stream store out before after status runs p b files pairs calm given in
+    let same = (video_before store out before after status runs p b files pairs calm given).whole all in (
+      shown.0 ∙ ap (λ (bytes : List ℕ). Some (with_file out bytes files)) same,
+      subst (λ (bytes : List ℕ). EndsWith Done (video_text (length bytes)) before after status) same shown.1,
+    )
+
 pub completes : (command : Option Command) (before after : OutsideSeen) (status : Status) → Does command before after status → Completes command before after status
 completes None before after status does = tt
 completes (Some (Plan stream priority)) before after status runs = plan_completes stream priority before after status runs
 completes (Some (Check stream priority plan)) before after status runs = check_completes stream priority plan before after status runs
-completes (Some (Send stream priority (File to))) before after status runs = send_completes stream priority to before after status runs
-completes (Some (Receive (File from) session layers store)) before after status runs =
-    let meets = headline from session layers store before after status runs in
-    record { headline = meets; of_send = received_sent from session layers store before after status meets }
+completes (Some (Send stream priority to)) before after status runs = send_completes stream priority (way_in to) before after status runs
+completes (Some (Receive from session layers store)) before after status runs =
+    let meets = headline (way_in from) session layers store before after status runs in
+    record { headline = meets; of_send = received_sent (way_in from) session layers store before after status meets; named = names_stored (way_in from) session layers store before after status runs }
 completes (Some (Merge first second out)) before after status runs = merge_completes first second out before after status runs
+completes (Some (Video store out)) before after status runs = record { shown = shows_stream store out before after status runs; whole = gives_stream store out before after status runs }

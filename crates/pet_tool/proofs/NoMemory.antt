@@ -8,11 +8,14 @@ use Rattle.command_plan.specs.declared.checking.CheckEnd.TheVariants as check
 use Rattle.command_send.specs.declared.command.SendEnd.TheVariants as send
 use Rattle.command_receive.specs.declared.command.ReceiveEnd.TheVariants as receive
 use Rattle.command_merge.specs.declared.command.MergeEnd.TheVariants as merge
+use Rattle.command_video.specs.declared.command.VideoEnd.TheVariants as video
 use Rattle.pet_text.specs.declared.status.Status.{Status}
 use Rattle.pet_text.specs.declared.status.Status.TheVariants.{NoMemory}
 use Rattle.pet_text.specs.declared.words.Command.{Command}
-use Rattle.pet_text.specs.declared.words.Command.TheVariants.{Plan, Check, Send, Receive, Merge}
-use Rattle.pet_text.specs.declared.words.End.TheVariants.{File}
+use Rattle.pet_text.specs.declared.words.Command.TheVariants.{Plan, Check, Send, Receive, Merge, Video}
+use Rattle.command_receive.specs.laws.SessionReceived.{nothing_received}
+use Rattle.pet_text.specs.Ends.{way_in}
+use Rattle.pet_text.specs.declared.end.End.TheVariants.{File, Udp}
 use Rattle.pet_text.specs.Lines.{fault_text}
 use Rattle.pet_tool.specs.Does.{Does}
 
@@ -39,16 +42,30 @@ module _ (before after : OutsideSeen) (line : PrintsLine (fault_text NoMemory) b
     ended = refl;
     line = line;
   }
-  no_memory (Receive (File from) session layers store) = record {
+  no_memory (Send stream priority (Udp to)) = record {
+    between = before;
+    end = send.NoMemory;
+    did = record { link = record { feed = refl; port = refl; bound = refl; later = omega arith }; later = omega arith; costs = inl refl; tells = ((inl refl, refl), refl) };
+    ended = refl;
+    line = line;
+  }
+  no_memory (Receive from session layers store) = record {
     between = before;
     end = receive.NoMemory;
-    did = record { link = refl; later = omega arith; ends = (inl refl, refl) };
+    did = nothing_received (way_in from) session layers store before;
     ended = refl;
     line = line;
   }
   no_memory (Merge first second out) = record {
     between = before;
     end = merge.NoMemory;
+    did = record { link = refl; later = omega arith; ends = (inl refl, refl) };
+    ended = refl;
+    line = line;
+  }
+  no_memory (Video store out) = record {
+    between = before;
+    end = video.NoMemory;
     did = record { link = refl; later = omega arith; ends = (inl refl, refl) };
     ended = refl;
     line = line;

@@ -1,19 +1,22 @@
 -- The words that were read, as they are handed to a command.
 use Rattle.std.proofs.Common.{◌≡◌, ℕ, false, List, Some, sym, ap, subst, ◌∙◌}
-use Rattle.std.specs.Str.{bytes_eq}
+use Rattle.datagram_route.specs.Way.{Way}
+use Rattle.command_send.specs.Sends.{IsOther}
 use Rattle.pet_text.specs.declared.words.Command.{Command}
 use Rattle.pet_text.specs.declared.words.Command.TheVariants.{Send}
-use Rattle.pet_text.specs.declared.words.End.{End}
-use Rattle.pet_text.specs.declared.words.End.TheVariants.{File}
+use Rattle.pet_text.specs.declared.end.End.{End}
+use Rattle.pet_text.specs.declared.end.End.TheVariants.{File, Udp}
+use Rattle.pet_text.specs.Ends.{way_in}
 use Rattle.pet_text.specs.Words.{command_of}
 use Rattle.pet_text.specs.laws.WordLaws.{send_differs}
 
--- the file TO of `send` is another than the stream
-pub differs_in : (words : List (List ℕ)) (command : Command) (stream priority name to : List ℕ) (end : End) → command_of words ≡ Some command → command ≡ Send stream priority end → name ≡ stream → end ≡ File to
-    → bytes_eq to name ≡ false
-differs_in words command stream priority name to end words_are is name_is end_is =
-    let sent : command_of words ≡ Some (Send stream priority (File to)) = words_are ∙ ap (λ (c : Command). Some c) (is ∙ ap (λ (e : End). Send stream priority e) end_is) in
-    subst (λ (s : List ℕ). bytes_eq to s ≡ false) (sym name_is) (send_differs stream priority to words sent)
+other_file : (stream priority : List ℕ) (end : End) (words : List (List ℕ)) → command_of words ≡ Some (Send stream priority end) → IsOther (way_in end) stream
+other_file stream priority (File to) words is = send_differs stream priority to words is
+other_file stream priority (Udp address) words is = tt
 
-pub sends_as : (command : Command) (stream priority one other to : List ℕ) (end : End) → command ≡ Send stream priority end → one ≡ stream → other ≡ priority → end ≡ File to → Send one other (File to) ≡ command
-sends_as command stream priority one other to end is one_is other_is end_is = cc
+-- a file TO of `send` is another than the stream
+pub differs_in : (words : List (List ℕ)) (command : Command) (stream priority name : List ℕ) (way : Way) (end : End) → command_of words ≡ Some command → command ≡ Send stream priority end → name ≡ stream → way ≡ way_in end
+    → IsOther way name
+differs_in words command stream priority name way end words_are is name_is way_is =
+    let sent : command_of words ≡ Some (Send stream priority end) = words_are ∙ ap (λ (c : Command). Some c) is in
+    subst (λ (w : Way). IsOther w name) (sym way_is) (subst (λ (s : List ℕ). IsOther (way_in end) s) (sym name_is) (other_file stream priority end words sent))

@@ -1,24 +1,30 @@
 -- When each command is done, and what it then does; for `receive` this is the headline. This project's own.
-use Rattle.std.specs.Prelude.{◌≡◌, ℕ, List, [], ◌∷◌, ◌++◌, length, Option, None, Some}
+use Rattle.std.specs.Prelude.{◌≡◌, ℕ, true, List, [], ◌∷◌, ◌++◌, length, Option, None, Some}
 use Rattle.pet_base.specs.OutsideSeen.{OutsideSeen}
 use Rattle.command_files.specs.Uses.{reading, writing}
-use Rattle.command_files.specs.Wrote.{Wrote}
 use Rattle.pet_base.specs.Seen.{Files, with_file}
 use Rattle.pet_encode.specs.Session.{Session}
-use Rattle.met_packets.specs.Met.{Pair}
+use Rattle.met_packets.specs.Met.{Pair, all_shown}
 use Rattle.met_packets.specs.MetStore.{pairs_store}
 use Rattle.command_merge.specs.MergesSession.{HasStoresOf, session_line}
+use Rattle.command_video.specs.StreamVideo.{stream_video}
+use Rattle.command_video.specs.VideosSession.{HasStoreOf, shown_line}
+use Rattle.stream_session.specs.Accepted.{session_of}
 use Rattle.stream_session.specs.Sessions.{IsGiven, tables_in}
 use Rattle.command_plan.specs.SessionPlan.{session_plan}
-use Rattle.command_send.specs.Sends.{packets_file, sent_line_text}
+use Rattle.command_send.specs.Sends.{sent_line_text}
+use Rattle.command_send.specs.SendsSession.{SendsAll, uses}
+use Rattle.datagram_route.specs.RouteFaults.{AimedFailed}
+use Rattle.datagram_route.specs.Way.{Way}
 use Rattle.plan_text.specs.PlanLines.{least_text}
+use Rattle.pet_text.specs.Lines.{video_text}
 use Rattle.pet_text.specs.declared.status.Status.{Status}
 use Rattle.pet_text.specs.declared.status.Status.TheVariants.{Done}
 use Rattle.pet_text.specs.declared.words.Command.{Command}
-use Rattle.pet_text.specs.declared.words.Command.TheVariants.{Plan, Check, Send, Receive, Merge}
-use Rattle.pet_text.specs.declared.words.End.TheVariants.{File}
+use Rattle.pet_text.specs.declared.words.Command.TheVariants.{Plan, Check, Send, Receive, Merge, Video}
+use Rattle.pet_text.specs.Ends.{way_in}
 use Rattle.pet_tool.specs.Headline.{MeetsHeadline}
-use Rattle.pet_tool.specs.Undisturbed.{IsUndisturbed, EndsWith}
+use Rattle.pet_tool.specs.Undisturbed.{IsUndisturbed, IsUndisturbedOn, EndsWith}
 
 -- two files that are told and an accepted session are planned
 abbrev pub CompletesPlan : List ℕ → List ℕ → OutsideSeen → OutsideSeen → Status → Type 0
@@ -33,11 +39,11 @@ CompletesCheck stream priority plan before after status =
     → (given : IsGiven before.place stream priority p b) → given.files plan ≡ Some (session_plan p b)
     → EndsWith Done (least_text (length (tables_in p b))) before after status
 
--- and their packets are sent
-abbrev pub CompletesSend : List ℕ → List ℕ → List ℕ → OutsideSeen → OutsideSeen → Status → Type 0
+-- and their packets are sent, where the link had no fault either
+abbrev pub CompletesSend : List ℕ → List ℕ → Way → OutsideSeen → OutsideSeen → Status → Type 0
 CompletesSend stream priority to before after status =
-    (p b : List ℕ) → IsUndisturbed (reading stream ∷ reading priority ∷ writing to ∷ []) before after status → IsGiven before.place stream priority p b
-    → Wrote (packets_file to p b ∷ []) None before.place after.place × EndsWith Done (sent_line_text p b) before after status
+    (p b : List ℕ) → IsUndisturbedOn (AimedFailed to) (uses stream priority to) before after status → IsGiven before.place stream priority p b
+    → SendsAll to p b before after × EndsWith Done (sent_line_text p b) before after status
 
 -- two stores of one session are merged into the store of the packets that the one or the other has
 abbrev pub CompletesMerge : List ℕ → List ℕ → List ℕ → OutsideSeen → OutsideSeen → Status → Type 0
@@ -45,11 +51,29 @@ CompletesMerge first second out before after status =
     (s : Session) (files : Files) (a b : List Pair) → IsUndisturbed (reading first ∷ reading second ∷ writing out ∷ []) before after status → HasStoresOf s first second files a b before.place
     → (after.place.files ≡ Some (with_file out (pairs_store s (a ++ b)) files)) × EndsWith Done (session_line s (a ++ b)) before after status
 
+-- of a store of a session of a stream the bytes of the stream are written that are shown
+abbrev pub ShowsStream : List ℕ → List ℕ → OutsideSeen → OutsideSeen → Status → Type 0
+ShowsStream store out before after status =
+    (p b : List ℕ) (files : Files) (pairs : List Pair) → IsUndisturbed (reading store ∷ writing out ∷ []) before after status → HasStoreOf p b store files pairs before.place
+    → (after.place.files ≡ Some (with_file out (stream_video p b pairs) files)) × EndsWith Done (shown_line p b pairs) before after status
+
+-- and where every layer of every group is shown, as after a `receive` that was Done, the stream itself
+abbrev pub GivesStream : List ℕ → List ℕ → OutsideSeen → OutsideSeen → Status → Type 0
+GivesStream store out before after status =
+    (p b : List ℕ) (files : Files) (pairs : List Pair) → IsUndisturbed (reading store ∷ writing out ∷ []) before after status → HasStoreOf p b store files pairs before.place
+    → all_shown (session_of p b) pairs ≡ true → (after.place.files ≡ Some (with_file out b files)) × EndsWith Done (video_text (length b)) before after status
+
+-- both
+pub record CompletesVideo (store out : List ℕ) (before after : OutsideSeen) (status : Status) : Type 0 where
+  pub shown : ShowsStream store out before after status
+  pub whole : GivesStream store out before after status
+
 -- a case for each form of words; of words of no form nothing is owed here
 abbrev pub Completes : Option Command → OutsideSeen → OutsideSeen → Status → Type 0
 Completes None before after status = Unit {0}
 Completes (Some (Plan stream priority)) before after status = CompletesPlan stream priority before after status
 Completes (Some (Check stream priority plan)) before after status = CompletesCheck stream priority plan before after status
-Completes (Some (Send stream priority (File to))) before after status = CompletesSend stream priority to before after status
-Completes (Some (Receive (File from) session layers store)) before after status = MeetsHeadline from session layers store before after status
+Completes (Some (Send stream priority to)) before after status = CompletesSend stream priority (way_in to) before after status
+Completes (Some (Receive from session layers store)) before after status = MeetsHeadline (way_in from) session layers store before after status
 Completes (Some (Merge first second out)) before after status = CompletesMerge first second out before after status
+Completes (Some (Video store out)) before after status = CompletesVideo store out before after status

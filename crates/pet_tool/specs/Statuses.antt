@@ -12,9 +12,11 @@ use Rattle.command_receive.specs.declared.command.ReceiveEnd.{ReceiveEnd}
 use Rattle.command_receive.specs.declared.command.ReceiveEnd.TheVariants as receive
 use Rattle.command_merge.specs.declared.command.MergeEnd.{MergeEnd}
 use Rattle.command_merge.specs.declared.command.MergeEnd.TheVariants as merge
+use Rattle.command_video.specs.declared.command.VideoEnd.{VideoEnd}
+use Rattle.command_video.specs.declared.command.VideoEnd.TheVariants as video
 use Rattle.pet_text.specs.declared.status.PlanKind.TheVariants as kind
 use Rattle.pet_text.specs.declared.status.Status.{Status}
-use Rattle.pet_text.specs.declared.status.Status.TheVariants.{Done, NoMemory, PlaceFault, OutFault, BadStream, BadPriority, BadPlan, BadStore, OtherSession, Clash, Incomplete, TurnsSpent, NotLeast, Changed, Full}
+use Rattle.pet_text.specs.declared.status.Status.TheVariants.{Done, NoMemory, PlaceFault, LinkFault, OutFault, BadStream, BadPriority, BadPlan, BadStore, OtherSession, Clash, Incomplete, TurnsSpent, BadTable, NotLeast, Changed, Full}
 
 -- of a session's refusal
 abbrev pub status_of_session : SessionFault → Status
@@ -50,6 +52,7 @@ abbrev pub status_of_send : SendEnd → Status
 status_of_send send.Done = Done
 status_of_send send.NoMemory = NoMemory
 status_of_send send.PlaceFault = PlaceFault
+status_of_send send.LinkFault = LinkFault
 status_of_send send.OutFault = OutFault
 status_of_send (send.BadPriority fault) = BadPriority fault
 status_of_send (send.BadStream scan) = BadStream scan
@@ -60,6 +63,7 @@ abbrev pub status_of_receive : ReceiveEnd → Status
 status_of_receive receive.Done = Done
 status_of_receive receive.NoMemory = NoMemory
 status_of_receive receive.PlaceFault = PlaceFault
+status_of_receive receive.LinkFault = LinkFault
 status_of_receive receive.OutFault = OutFault
 status_of_receive receive.Incomplete = Incomplete
 status_of_receive receive.TurnsSpent = TurnsSpent
@@ -75,3 +79,12 @@ status_of_merge (merge.BadSecond at kind) = BadStore 2 at kind
 status_of_merge merge.OtherSession = OtherSession
 status_of_merge (merge.Clash group number) = Clash group number
 status_of_merge (merge.Full group) = Full group
+
+-- the one store is the first
+abbrev pub status_of_video : VideoEnd → Status
+status_of_video video.Done = Done
+status_of_video video.NoMemory = NoMemory
+status_of_video video.PlaceFault = PlaceFault
+status_of_video video.OutFault = OutFault
+status_of_video (video.BadStore at kind) = BadStore 1 at kind
+status_of_video (video.BadTable group) = BadTable group

@@ -3,9 +3,10 @@
 //!
 //! What a command does at each of its ends is said in the command's own crate. `specs/Does.antt` says, by the command, what a
 //! run does, and `specs/Completes.antt` when each command is done; its case of `receive` is the headline: for every session, and
-//! every list of datagrams whose frames with the session's number are packets of the session, the file of layers has each
-//! shown layer's exact bytes once, numbered by the arrival that showed it, the status is Done exactly where every layer is
-//! shown, and the printed lines are the defined ones. `specs/Statuses.antt` has the status of each end.
+//! every list of datagrams whose frames with the session's number are packets of the session, from a file or by a link, LAYERS
+//! has each shown layer's exact bytes once, numbered by the arrival that showed it, STORE is the store of the session's packets
+//! that were met, the status is Done exactly where every layer is shown, and the printed lines are the defined ones.
+//! `specs/Statuses.antt` has the status of each end.
 #![tactic(auto)]
 
 mod statuses;

@@ -1,11 +1,12 @@
 //! The status of each end of each command.
 ghost use Rattle.std.specs.Prelude.{◌≡◌, ◌≢◌};
-ghost use Rattle.pet_tool.specs.Statuses.{status_of_plan, status_of_check, status_of_send, status_of_receive, status_of_merge, status_of_session};
+ghost use Rattle.pet_tool.specs.Statuses.{status_of_plan, status_of_check, status_of_send, status_of_receive, status_of_merge, status_of_video, status_of_session};
 
 use command_merge::MergeEnd;
 use command_plan::{CheckEnd, PlanEnd};
 use command_receive::ReceiveEnd;
 use command_send::SendEnd;
+use command_video::VideoEnd;
 use pet_base::MAX_GROUPS;
 use pet_text::{PlanKind, Status};
 use stream_session::SessionFault;
@@ -55,6 +56,7 @@ pub(crate) fn send_status(end: &SendEnd) -> Status
         SendEnd::Done => Status::Done,
         SendEnd::NoMemory => Status::NoMemory,
         SendEnd::PlaceFault => Status::PlaceFault,
+        SendEnd::LinkFault => Status::LinkFault,
         SendEnd::OutFault => Status::OutFault,
         SendEnd::BadPriority(fault) => Status::BadPriority(*fault),
         SendEnd::BadStream(scan) => Status::BadStream(*scan),
@@ -72,6 +74,7 @@ pub(crate) fn receive_status(end: &ReceiveEnd) -> Status
         ReceiveEnd::Done => Status::Done,
         ReceiveEnd::NoMemory => Status::NoMemory,
         ReceiveEnd::PlaceFault => Status::PlaceFault,
+        ReceiveEnd::LinkFault => Status::LinkFault,
         ReceiveEnd::OutFault => Status::OutFault,
         ReceiveEnd::Incomplete => Status::Incomplete,
         ReceiveEnd::TurnsSpent => Status::TurnsSpent,
@@ -93,6 +96,21 @@ pub(crate) fn merge_status(end: &MergeEnd) -> Status
         MergeEnd::OtherSession => Status::OtherSession,
         MergeEnd::Clash(group, number) => Status::Clash(*group, *number),
         MergeEnd::Full(group) => Status::Full(*group),
+    }
+}
+
+/// The status of each end of `video`.
+pub(crate) fn video_status(end: &VideoEnd) -> Status
+    ensures status { result ≡ status_of_video end.now }
+    ensures known { result ≢ Status.Usage }
+{
+    match end {
+        VideoEnd::Done => Status::Done,
+        VideoEnd::NoMemory => Status::NoMemory,
+        VideoEnd::PlaceFault => Status::PlaceFault,
+        VideoEnd::OutFault => Status::OutFault,
+        VideoEnd::BadStore(at, kind) => Status::BadStore(1, *at, *kind),
+        VideoEnd::BadTable(group) => Status::BadTable(*group),
     }
 }
 

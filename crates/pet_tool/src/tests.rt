@@ -1,9 +1,9 @@
 //! `run` over objects in memory: each form of words, and statuses with their numbers and lines. Session numbers were made
 //! outside. What each command writes is tested in its own crate.
-use crate::fixtures::{GROUPS, ends, place_of, run_on};
+use crate::fixtures::{GROUPS, NO_RUN, ends, place_of, run_by, run_on};
 use example_session::{PLAN, PRIORITIES, STREAM};
 use mpeg_scan::Scan;
-use pet_base::MemorySink;
+use pet_base::{MemoryLink, MemorySink};
 use pet_text::{PlanKind, Status};
 use priority_file::PriorityFault;
 use std::test::Fail;
@@ -12,7 +12,7 @@ use store_merge::StoreKind;
 #[test]
 fn refuses_words_of_no_form(rt: HostRuntime) -> Result<(), Fail> {
     let alloc = rt.alloc();
-    let rows: [&[&str]; 18] = [
+    let rows: [&[&str]; 21] = [
         &[],
         &["plan", "s"],
         &["plan", "s", ""],
@@ -29,8 +29,11 @@ fn refuses_words_of_no_form(rt: HostRuntime) -> Result<(), Fail> {
         &["receive", "file:a", "0001020304050607", "l", "l"],
         &["receive", "file:a", "0001020304050607", "l"],
         &["receive", "file:a", "000102030405060G", "l", "t"],
+        &["receive", "udp:x", "0001020304050607", "l", "t"],
+        &["send", "s", "f", "udp:x:0"],
         &["merge", "a", "b", "a"],
         &["merge", "a", "b", "b"],
+        &["video", "a", "a"],
     ];
     for words in rows {
         let mut place = place_of(alloc, &STREAM, PRIORITIES, "")?;
@@ -145,6 +148,56 @@ fn receives_what_was_sent(rt: HostRuntime) -> Result<(), Fail> {
     let merge = ["merge", "t", "t", "o"];
     assert!(rt; ends(alloc, &merge, &mut place, Status::Done, "merged 12\n")?);
     assert_eq!(rt; place.bytes_of("o"), place.bytes_of("t"));
+    let video = ["video", "o", "v"];
+    assert!(rt; ends(alloc, &video, &mut place, Status::Done, "video 22\n")?);
+    assert_eq!(rt; place.bytes_of("v"), Some(GROUPS.as_slice()));
+    Ok(())
+}
+
+#[test]
+fn stops_at_a_layer_that_tells_no_run(rt: HostRuntime) -> Result<(), Fail> {
+    let alloc = rt.alloc();
+    let mut place = place_of(alloc, &STREAM, PRIORITIES, "")?;
+    place.add("d", &NO_RUN).ok().ok_or("memory")?;
+    let receive = ["receive", "file:d", "a5ac9461b03bcf36", "l", "t"];
+    let received = "read 1 kept 1 shown 1\n";
+    assert!(rt; ends(alloc, &receive, &mut place, Status::Done, received)?);
+    let status = Status::BadTable(0);
+    let video = ["video", "t", "v"];
+    assert!(rt; ends(alloc, &video, &mut place, status, "fault table 0\n")?);
+    assert_eq!(rt; status.code(), 15);
+    assert_eq!(rt; place.bytes_of("v"), Some([].as_slice()));
+    Ok(())
+}
+
+#[test]
+fn receives_and_sends_by_a_link(rt: HostRuntime) -> Result<(), Fail> {
+    let alloc = rt.alloc();
+    let receive: [&str; 5] = ["receive", "udp:x:1", "0001020304050607", "l", "t"];
+    let send: [&str; 4] = ["send", "s", "f", "udp:x:1"];
+    let nothing = "bound 40000\nread 0 kept 0 shown 0\nfault incomplete\n";
+    let sent = "session a5ac9461b03bcf36 groups 1 datagrams 6\n";
+    let fault = Status::LinkFault;
+    // the call of the link that fails, and how many datagrams it has then sent
+    let rows: [(&[&str], u64, Status, u8, &str, usize); 6] = [
+        (&receive, 9, Status::Incomplete, 12, nothing, 0),
+        (&receive, 0, fault, 4, "fault link\n", 0),
+        (&receive, 1, fault, 4, "bound 40000\nfault link\n", 0),
+        (&send, 9, Status::Done, 0, sent, 6),
+        (&send, 0, fault, 4, "fault link\n", 0),
+        (&send, 3, fault, 4, "fault link\n", 2),
+    ];
+    for (words, call, status, code, printed, count) in rows {
+        let mut place = place_of(alloc, &STREAM, PRIORITIES, "")?;
+        let failing = Vec::from_slice(alloc, &[call])?;
+        let mut link = MemoryLink::new(alloc, Vec::new(alloc), failing);
+        let mut out = MemorySink::new(alloc, Vec::new(alloc));
+        let told = run_by(alloc, words, &mut place, &mut link, &mut out)?;
+        assert_eq!(rt; told, status, "{words:?}");
+        assert_eq!(rt; told.code(), code);
+        assert_eq!(rt; out.bytes(), printed.as_bytes(), "{words:?}");
+        assert_eq!(rt; link.sent().len(), count);
+    }
     Ok(())
 }
 

@@ -1,6 +1,5 @@
 //! The top call.
-ghost use Rattle.std.specs.Prelude.{◌≡◌, ◌≢◌, ◌↔◌, ℕ, List, None, Some, false};
-ghost use Rattle.std.specs.Str.{bytes_eq};
+ghost use Rattle.std.specs.Prelude.{◌≡◌, ◌≢◌, ◌↔◌, ℕ, List, None, Some};
 ghost use Rattle.pet_base.specs.OutsideSeen.{outside_seen};
 ghost use Rattle.pet_base.specs.Lent.{seen, AreSame};
 ghost use Rattle.command_files.specs.Printed.{PrintsLine};
@@ -8,26 +7,32 @@ ghost use Rattle.command_merge.specs.Merges.{Merges};
 ghost use Rattle.command_plan.specs.Checks.{Checks};
 ghost use Rattle.command_plan.specs.Plans.{Plans};
 ghost use Rattle.command_receive.specs.Receives.{Receives};
-ghost use Rattle.command_send.specs.Sends.{Sends};
+ghost use Rattle.command_send.specs.Sends.{IsOther, Sends};
+ghost use Rattle.datagram_route.specs.Way.{way_of};
+ghost use Rattle.command_video.specs.Videos.{Videos};
 ghost use Rattle.pet_text.specs.Words.{texts_of, command_of};
 ghost use Rattle.pet_text.specs.Lines.{fault_text};
 ghost use Rattle.pet_tool.specs.Completes.{Completes};
 ghost use Rattle.pet_tool.specs.Does.{Does, Runs};
-ghost use Rattle.pet_tool.specs.Statuses.{status_of_plan, status_of_check, status_of_send, status_of_receive, status_of_merge};
+ghost use Rattle.pet_tool.specs.Statuses.{status_of_plan, status_of_check, status_of_send, status_of_receive, status_of_merge, status_of_video};
 
-use crate::statuses::{check_status, merge_status, plan_status, receive_status, send_status};
+use crate::statuses::{
+    check_status, merge_status, plan_status, receive_status, send_status, video_status,
+};
 use arrayvec::ArrayVec;
 use command_merge::merge;
 use command_plan::{check, plan};
 use command_receive::receive;
 use command_send::send;
+use command_video::video;
+use datagram_route::Route;
 use pet_base::{Link, Outside, Place, Sink, Steps};
-use pet_text::{Command, End, Status, WordsFault, fault_line, read_words};
+use pet_text::{Command, Status, WordsFault, fault_line, read_words};
 use std::alloc::Global;
 use std::sync::ledger::Ledger;
 
-/// Runs the command that the words give, without the program's name. It reads and writes files of the place, prints to the
-/// output, and counts field steps on the counter that is handed in. The link is not used yet.
+/// Runs the command that the words give, without the program's name. It reads and writes files of the place, receives and sends
+/// datagrams by the link, prints to the output, and counts field steps on the counter that is handed in.
 #[tactic(auto, using(crate::proofs::Completing::completes))]
 pub fn run<P: Place, K: Link, S: Sink, L: Ledger>(
     alloc: Global,
@@ -44,7 +49,7 @@ pub fn run<P: Place, K: Link, S: Sink, L: Ledger>(
     ensures does { let outside = outside_seen P.Place K.Link S.Sink in
         Does (command_of (texts_of words.now)) (outside place.old link.old out.old steps.old) (outside place.new link.new out.new steps.new) result }
 
-    // Where no cause of another status holds: each command is done, and `receive` meets the headline.
+    // Where nothing disturbs it, each command on told files that fit is done, and `receive` meets the headline.
     ensures completes { let outside = outside_seen P.Place K.Link S.Sink in
         Completes (command_of (texts_of words.now)) (outside place.old link.old out.old steps.old) (outside place.new link.new out.new steps.new) result }
 {
@@ -109,7 +114,7 @@ fn run_command<P: Place, K: Link, S: Sink, L: Ledger>(
             alloc,
             stream.as_str(),
             priority.as_str(),
-            file_name(to),
+            to.route(),
             outside,
         ),
         Command::Receive {
@@ -119,7 +124,7 @@ fn run_command<P: Place, K: Link, S: Sink, L: Ledger>(
             store,
         } => run_receive(
             alloc,
-            file_name(from),
+            from.route(),
             *session,
             layers.as_str(),
             store.as_str(),
@@ -132,15 +137,7 @@ fn run_command<P: Place, K: Link, S: Sink, L: Ledger>(
             out.as_str(),
             outside,
         ),
-    }
-}
-
-/// The name of a file that datagrams come from or go to.
-fn file_name(end: &End) -> &str
-    ensures { end.now ≡ End.File result.now }
-{
-    match end {
-        End::File(name) => name.as_str(),
+        Command::Video { store, out } => run_video(alloc, store.as_str(), out.as_str(), outside),
     }
 }
 
@@ -182,12 +179,12 @@ fn run_send<P: Place, K: Link, S: Sink, L: Ledger>(
     alloc: Global,
     stream: &str,
     priority: &str,
-    to: &str,
+    to: Route<'_>,
     outside: &mut Outside<P, K, S, L>,
 ) -> Status
-    requires differ { bytes_eq to.now stream.now ≡ false }
-    ensures does { Runs (Sends stream.now priority.now to.now) status_of_send (seen outside.old)
-        (seen outside.new) result }
+    requires differ { IsOther (way_of to) stream.now }
+    ensures does { Runs (Sends stream.now priority.now (way_of to.entry)) status_of_send
+        (seen outside.old) (seen outside.new) result }
     ensures known { result ≢ Status.Usage }
     ensures same { AreSame outside.old outside.new }
 {
@@ -198,14 +195,14 @@ fn run_send<P: Place, K: Link, S: Sink, L: Ledger>(
 /// Runs `receive`, and prints the line of its status.
 fn run_receive<P: Place, K: Link, S: Sink, L: Ledger>(
     alloc: Global,
-    from: &str,
+    from: Route<'_>,
     session: [u8; 8],
     layers: &str,
     store: &str,
     outside: &mut Outside<P, K, S, L>,
 ) -> Status
-    ensures does { Runs (Receives from.now session layers.now store.now) status_of_receive
-        (seen outside.old) (seen outside.new) result }
+    ensures does { Runs (Receives (way_of from.entry) session layers.now store.now)
+        status_of_receive (seen outside.old) (seen outside.new) result }
     ensures known { result ≢ Status.Usage }
     ensures same { AreSame outside.old outside.new }
 {
@@ -228,6 +225,22 @@ fn run_merge<P: Place, K: Link, S: Sink, L: Ledger>(
 {
     let end = merge(alloc, first, second, out, outside);
     tell(merge_status(&end), outside)
+}
+
+/// Runs `video`, and prints the line of its status.
+fn run_video<P: Place, K: Link, S: Sink, L: Ledger>(
+    alloc: Global,
+    store: &str,
+    out: &str,
+    outside: &mut Outside<P, K, S, L>,
+) -> Status
+    ensures does { Runs (Videos store.now out.now) status_of_video (seen outside.old)
+        (seen outside.new) result }
+    ensures known { result ≢ Status.Usage }
+    ensures same { AreSame outside.old outside.new }
+{
+    let end = video(alloc, store, out, outside);
+    tell(video_status(&end), outside)
 }
 
 /// Prints the line that tells of the status, where it has one. A failure of the output does not change the status.

@@ -1,0 +1,84 @@
+//! Sockets that receive or send datagrams, and a datagram received or sent, tried again where a signal interrupts.
+ghost use Rattle.std.specs.Prelude.{◌≤◌, length, IfOk};
+ghost use Rattle.pet_base.specs.declared.limits.TheConstants.{MAX_ENTRY};
+ghost use Rattle.pet_base.specs.LinkSeen.{IsShortGot};
+
+use pet_base::{Failed, Got, MAX_ENTRY};
+use std::io;
+use std::io::ErrorKind;
+use std::net::{Ipv4Addr, Ipv6Addr, Net, SocketAddr, ToSocketAddrs, UdpSocket};
+use std::time::Duration;
+
+/// How long a datagram is waited for, in seconds.
+const WAIT: u64 = 3;
+
+/// Where datagrams are sent to, and the socket that sends them, at a port that the system chose.
+///
+/// The socket is not connected: at a connected one the system tells, at a later `send`, that an earlier datagram was
+/// refused, and a datagram that is sent to nobody is no failure.
+#[derive(Drop)]
+pub struct Target {
+    socket: UdpSocket,
+    to: SocketAddr,
+}
+
+impl Target {
+    /// Sends one datagram whole. That a part of it was sent is a failure.
+    pub fn send(&self, datagram: &[u8]) -> Result<(), Failed> {
+        for _ in 0..u64::MAX {
+            match self.socket.send_to(datagram, self.to) {
+                Ok(count) if count == datagram.len() => return Ok(()),
+                Err(e) if e.kind() == ErrorKind::Interrupted => {}
+                _ => return Err(Failed),
+            }
+        }
+        Err(Failed)
+    }
+}
+
+/// A socket that receives at the address, and its port, which the system chooses where the address has port 0.
+pub fn open_at<R: Net>(net: &R, address: &str) -> io::Result<(UdpSocket, u16)> {
+    let socket = UdpSocket::bind(net, address)?;
+    socket.set_read_timeout(Some(Duration::from_secs(WAIT)))?;
+    let port = socket.local_addr()?.port();
+    Ok((socket, port))
+}
+
+/// A socket that sends to the address: to the first of its addresses of whose family a socket can be opened.
+pub fn open_towards<R: Net>(net: &R, address: &str) -> io::Result<Target> {
+    let mut failure = io::Error::from(ErrorKind::InvalidInput);
+    for to in address.to_socket_addrs(net)? {
+        match UdpSocket::bind(net, any_port(to)) {
+            Ok(socket) => return Ok(Target { socket, to }),
+            Err(e) => failure = e,
+        }
+    }
+    Err(failure)
+}
+
+/// All addresses of this machine of the family of the address, at a port that the system chooses.
+fn any_port(like: SocketAddr) -> SocketAddr {
+    match like {
+        SocketAddr::V4(_) => SocketAddr::from((Ipv4Addr::UNSPECIFIED, 0)),
+        SocketAddr::V6(_) => SocketAddr::from((Ipv6Addr::UNSPECIFIED, 0)),
+    }
+}
+
+/// Receives one datagram to the front of the buffer, or is quiet after it waited.
+pub fn receive(socket: &UdpSocket, into: &mut [u8]) -> Result<Got, Failed>
+    requires { MAX_ENTRY ≤ length into.old }
+    ensures { IfOk result IsShortGot }
+{
+    let buffer = &mut into[..usize::from(MAX_ENTRY)];
+    for _ in 0..u64::MAX {
+        match socket.recv_from(buffer) {
+            Ok((count, _)) => return Ok(Got::Datagram(count)),
+            Err(e) => match e.kind() {
+                ErrorKind::Interrupted => {}
+                ErrorKind::WouldBlock | ErrorKind::TimedOut => return Ok(Got::Quiet),
+                _ => return Err(Failed),
+            },
+        }
+    }
+    Err(Failed)
+}

@@ -1,0 +1,142 @@
+//! Datagrams over the loopback of this machine: what is sent arrives, and what fails.
+ghost use Rattle.std.specs.Prelude.{◌≡◌, ◌≤◌, length, vec_len, IfOk};
+ghost use Rattle.pet_base.specs.declared.limits.TheConstants.{MAX_ENTRY};
+
+use super::UdpLink;
+use pet_base::{Failed, Got, Link, MAX_ENTRY};
+use std::alloc::{AllocError, Global};
+use std::net::Net;
+use std::test::Fail;
+use std::time::{Duration, Instant};
+
+/// The most bytes of a datagram that IPv4 has room for, beside its header and that of UDP.
+const LONGEST: usize = 65_507;
+
+/// Room for the longest datagram.
+fn room(alloc: Global) -> Result<Vec<u8>, AllocError>
+    ensures { IfOk result (λ room. vec_len room ≡ MAX_ENTRY) }
+{
+    vec![in alloc; 0u8; usize::from(MAX_ENTRY)]
+}
+
+/// A datagram of so many bytes.
+fn long(alloc: Global, length: usize) -> Result<Vec<u8>, AllocError> {
+    vec![in alloc; 7u8; length]
+}
+
+/// A link that receives at a port of this host that the system chose, and one that sends to it. None where the machine
+/// does not have this host.
+fn pair<'a, R: Net>(
+    net: &'a R,
+    alloc: Global,
+    host: &str,
+) -> Result<Option<(UdpLink<'a, R>, UdpLink<'a, R>)>, Fail> {
+    let (mut near, mut far) = (UdpLink::new(net), UdpLink::new(net));
+    let Ok(port) = near.bind(&format!(in alloc; "{host}:0")?) else {
+        return Ok(None);
+    };
+    let aimed = far.aim(&format!(in alloc; "{host}:{port}")?);
+    Ok(aimed.ok().map(|()| (near, far)))
+}
+
+/// Sends the datagrams, and says whether they come in their order, byte by byte.
+fn arrive<R: Net>(
+    near: &mut UdpLink<'_, R>,
+    far: &mut UdpLink<'_, R>,
+    datagrams: &[Vec<u8>],
+    room: &mut [u8],
+) -> bool
+    requires { MAX_ENTRY ≤ length room.old }
+{
+    for datagram in datagrams {
+        if far.send(datagram).is_err() {
+            return false;
+        }
+    }
+    for datagram in datagrams {
+        match near.next(room) {
+            Ok(Got::Datagram(count)) if room[..count] == datagram[..] => {}
+            _ => return false,
+        }
+    }
+    true
+}
+
+/// Whether datagrams of several lengths arrive at a port of this host, or none where the machine does not have it.
+fn carries<R: Net>(net: &R, alloc: Global, host: &str) -> Result<Option<bool>, Fail> {
+    let mut room = room(alloc)?;
+    let datagrams = vec![in alloc;
+        Vec::from_slice(alloc, b"abc")?,
+        Vec::new(alloc),
+        long(alloc, LONGEST)?,
+        Vec::from_slice(alloc, b"d")?,
+    ]?;
+    let Some((mut near, mut far)) = pair(net, alloc, host)? else {
+        return Ok(None);
+    };
+    Ok(Some(arrive(&mut near, &mut far, &datagrams, &mut room)))
+}
+
+#[test]
+fn datagrams_arrive_whole_and_in_order(rt: HostRuntime) -> Result<(), Fail> {
+    for host in ["127.0.0.1", "localhost"] {
+        assert_eq!(rt; carries(&rt, rt.alloc(), host)?, Some(true), "{host}");
+    }
+    assert!(rt; carries(&rt, rt.alloc(), "[::1]")? != Some(false));
+    Ok(())
+}
+
+#[test]
+fn it_is_quiet_after_three_seconds(rt: HostRuntime) -> Result<(), Fail> {
+    let mut room = room(rt.alloc())?;
+    let mut link = UdpLink::new(&rt);
+    link.bind("127.0.0.1:0")?;
+    let start = Instant::now(&rt)?;
+    assert_eq!(rt; link.next(&mut room), Ok(Got::Quiet));
+    assert!(rt; start.elapsed(&rt)? >= Duration::from_secs(3));
+    Ok(())
+}
+
+#[test]
+fn an_address_that_cannot_be_used_is_a_failure(rt: HostRuntime) -> Result<(), Fail> {
+    let alloc = rt.alloc();
+    let mut first = UdpLink::new(&rt);
+    let mut second = UdpLink::new(&rt);
+    let port = first.bind("127.0.0.1:0")?;
+    let taken = format!(in alloc; "127.0.0.1:{port}")?;
+    // a port in use, an address of no machine, no port, a port that is no number of 16 bits, and none of the forms
+    for address in [
+        &taken,
+        "192.0.2.1:0",
+        "127.0.0.1",
+        "127.0.0.1:65536",
+        ":",
+        "",
+    ] {
+        assert_eq!(rt; second.bind(address), Err(Failed), "{address}");
+    }
+    for address in ["127.0.0.1", "127.0.0.1:65536", "[::1]", ""] {
+        assert_eq!(rt; second.aim(address), Err(Failed), "{address}");
+    }
+    Ok(())
+}
+
+#[test]
+fn a_side_that_is_not_ready_fails_and_an_end_that_nobody_has_does_not(
+    rt: HostRuntime,
+) -> Result<(), Fail> {
+    let alloc = rt.alloc();
+    let mut room = room(alloc)?;
+    let too_long = long(alloc, LONGEST + 1)?;
+    let Some((near, mut far)) = pair(&rt, alloc, "127.0.0.1")? else {
+        return Err(Failed.into());
+    };
+    assert_eq!(rt; far.next(&mut room), Err(Failed));
+    assert_eq!(rt; UdpLink::new(&rt).send(b"abc"), Err(Failed));
+    assert_eq!(rt; far.send(&too_long), Err(Failed));
+    drop(near);
+    for _ in 0..3 {
+        assert_eq!(rt; far.send(b"abc"), Ok(()));
+    }
+    Ok(())
+}
