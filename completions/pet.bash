@@ -25,19 +25,19 @@ _pet() {
     read -a words <<<"${COMP_LINE:0:COMP_POINT}"
     [[ ${COMP_LINE:0:COMP_POINT} == *[[:space:]] ]] && words+=("")
     local at=$((${#words[@]} - 1))
-    local current=${words[at]} names="plan check send receive merge"
+    local current=${words[at]} names="plan check send receive merge video"
     # These two are words of the script in a checkout.
     [[ ${words[0]} == */* ]] && names+=" help build"
     COMPREPLY=()
     case ${words[1]}:$at in
         *:1) _pet_offer "$current" < <(compgen -W "$names" -- "$current") ;;
-        plan:[23] | check:[234] | send:[23] | receive:[45] | merge:[234]) _pet_files "$current" "" ;;
+        plan:[23] | check:[234] | send:[23] | receive:[45] | merge:[234] | video:[23]) _pet_files "$current" "" ;;
         send:4 | receive:2)
             if [[ $current == file:* ]]; then
                 _pet_files "$current" file:
-            else
+            elif [[ $current != udp:* ]]; then
                 compopt -o nospace 2>/dev/null
-                _pet_offer "$current" < <(compgen -W file: -- "$current")
+                _pet_offer "$current" < <(compgen -W "file: udp:" -- "$current")
             fi
             ;;
     esac
