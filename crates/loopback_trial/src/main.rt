@@ -1,13 +1,17 @@
 //! The program `pet` against itself: one process receives over UDP what another sends to it, by the loopback of this
 //! machine.
 //!
-//! With no words it starts itself twice as `pet`, for each kind of address, and looks at what the two printed and left.
-//! With words it is `pet`.
+//! With no words it starts itself as `pet`, a receiver and a sender for each kind of address, and looks at what the two printed
+//! and left; then a receiver at a port that is in use, and a receiver and a sender with an address of no machine, which are
+//! refused. With words it is `pet`.
 #![tactic(auto)]
 
 mod left;
+mod refused;
+mod started;
 mod trial;
 
+use crate::refused::{refuses_a_port_in_use, refuses_an_address_of_no_machine};
 use crate::trial::{Outcome, receive_and_send};
 use pet_start::{start_words, words};
 use std::io;
@@ -26,6 +30,14 @@ fn main(rt: HostRuntime) -> io::Result<ExitCode> {
         return Ok(ExitCode::FAILURE);
     }
     println!(rt; "[::1]: the same, or no address of this machine")?;
+    if !refuses_a_port_in_use(&rt)? {
+        return Ok(ExitCode::FAILURE);
+    }
+    println!(rt; "a port in use: refused, and no file is made")?;
+    if !refuses_an_address_of_no_machine(&rt)? {
+        return Ok(ExitCode::FAILURE);
+    }
+    println!(rt; "an address of no machine: refused, and no file is made")?;
     Ok(ExitCode::SUCCESS)
 }
 

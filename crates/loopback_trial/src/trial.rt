@@ -1,16 +1,11 @@
 //! A receiver is started and then a sender, and what both leave is looked at.
 use crate::left::agree;
+use crate::started::{LINK_FAULT, SESSION, pet};
 use std::alloc::Global;
 use std::io::{BufRead, BufReader};
-use std::process::{Command, Processes, Stdio};
-use std::rt::{Files, Runtime};
+use std::process::{Processes, Stdio};
+use std::rt::Runtime;
 use std::{fs, io};
-
-/// The session of the stream `s` with the priorities `f`.
-const SESSION: &str = "a5ac9461b03bcf36";
-
-/// The status of a command whose link failed.
-const LINK_FAULT: i32 = 4;
 
 /// How a trial came out.
 #[derive(Clone, Copy, PartialEq, Eq)]
@@ -62,18 +57,6 @@ where
     } else {
         Ok(Outcome::Differs)
     }
-}
-
-/// This program, with words, so that it is `pet`.
-fn pet<R>(rt: &R, words: &[&str]) -> io::Result<Command>
-where
-    R: Alloc<A = Global> + Files,
-{
-    let mut command = Command::new(rt.alloc(), std::env::current_exe(rt)?)?;
-    for word in words {
-        command.arg(*word)?;
-    }
-    Ok(command)
 }
 
 /// The decimal number that follows this text at the front of the line.
