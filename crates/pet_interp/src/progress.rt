@@ -1,5 +1,6 @@
 //! A progressive state.
-ghost use Rattle.std.specs.Prelude.{◌≡◌, ◌≢◌, ℕ, ◌+◌, ◌*◌, ◌-◌, ◌<◌, ◌≤◌, length, take, All, List, [], ◌∷◌, ◌++◌, slice_index, slice_index_or, replicate, IfOk};
+ghost use Rattle.std.specs.Prelude.{◌≡◌, ◌≢◌, ℕ, ◌+◌, ◌*◌, ◌-◌, ◌<◌, ◌≤◌, ◌&&◌, ◌==◌, nat_lt, true, false, length, take, All, List, [], ◌∷◌, ◌++◌, slice_index, slice_index_or, replicate, IfOk};
+ghost use Rattle.std.specs.List.{list_any};
 ghost use Rattle.pet_interp.specs.Progressive.{StandsFor, stripe_of, lengths_of, column, step_bound};
 ghost use Rattle.pet_interp.specs.Blocks.{stripes_in, no_block};
 ghost use Rattle.pet_rows.specs.declared.blocks.TheConstants.{MAX_WIDTH};
@@ -116,6 +117,15 @@ impl<'f, F: Rows> Progress<'f, F> {
         self.met
     }
 
+    /// Whether a stripe is as long as the number of points that were met. Such a stripe has just met the last point that
+    /// it needed.
+    pub fn has_just_enough(&self) -> bool
+        ensures some { result ≡ true → (j : ℕ) × (j < length self.now.stripes) × (length (stripe_of self.now j) ≡ self.now.met) }
+        ensures none { result ≡ false → (j : ℕ) → j < length self.now.stripes → length (stripe_of self.now j) ≢ self.now.met }
+    {
+        any_has_length(&self.blocks, self.met as usize)
+    }
+
     /// The only coefficients of a stripe through the points, where it is no longer than there are points. Where all the
     /// values that the stripe met lie on one list of its length, this is that list. It takes no memory.
     pub fn coefficients(&self, stripe: usize) -> &[F::Elem]
@@ -169,6 +179,13 @@ fn some_factors<F: Rows>(alloc: Global, f: &F, count: usize) -> Result<Vec<F::Fa
         factors.push(f.prepare(f.zero()))?;
     }
     Ok(factors)
+}
+
+/// Whether some block has stripes, and they are so long.
+fn any_has_length<F: Rows>(blocks: &[StripeBlock<F>], count: usize) -> bool
+    ensures { result ≡ list_any (λ b. b.size == count && nat_lt 0 (length b.stripes)) blocks.now }
+{
+    blocks.iter().any(|block| block.has_length(count))
 }
 
 /// In which block a stripe stands, and at which place.
