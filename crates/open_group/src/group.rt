@@ -19,7 +19,7 @@ use pet_rows::Rows;
 use std::alloc::Global;
 use std::marker::Model;
 use std::sync::ledger::Ledger;
-use stripe_plan::{LayerSize, Table, count, first_word, next_start};
+use stripe_plan::{LayerSize, Table, count, first_word};
 
 /// The packets that are kept of one group, what is known of its stripes, and the words of its message as far as they are
 /// known.
@@ -123,13 +123,9 @@ impl<'f, F: Rows> OpenGroup<'f, F> {
 fn lengths_of_stripes(alloc: Global, table: &Table) -> Result<Vec<u16>, NoMemory>
     ensures { IfOk result (λ lengths. lengths.items ≡ stripe_lengths table.now.layers) }
 {
-    let words = table.words();
     let mut lengths = Vec::new(alloc);
-    let mut at = 0;
-    while at < words {
-        let end = next_start(table, at);
-        lengths.push((end - at) as u16)?;
-        at = end;
+    for (_, length) in table.plan() {
+        lengths.push(length)?;
     }
     Ok(lengths)
 }

@@ -7,7 +7,7 @@ ghost use Rattle.stripe_plan.specs.Layers.{needs_of};
 use pet_base::NoMemory;
 use pet_rows::{Block, MAX_WIDTH, lay_out, push_stripe};
 use std::alloc::Global;
-use stripe_plan::{Table, next_start};
+use stripe_plan::Table;
 
 /// The stripes of the table's plan in blocks, in order.
 pub fn plan_blocks(alloc: Global, table: &Table) -> Result<Vec<Block>, NoMemory>
@@ -17,12 +17,8 @@ pub fn plan_blocks(alloc: Global, table: &Table) -> Result<Vec<Block>, NoMemory>
     ensures narrow { IfOk result (λ blocks. All (λ b. b.width ≤ MAX_WIDTH) blocks.items) }
 {
     let mut blocks = Vec::new(alloc);
-    let count = table.words();
-    let mut at = 0;
-    while at < count {
-        let end = next_start(table, at);
-        push_stripe(&mut blocks, (end - at) as usize)?;
-        at = end;
+    for (_, length) in table.plan() {
+        push_stripe(&mut blocks, usize::from(length))?;
     }
     Ok(blocks)
 }

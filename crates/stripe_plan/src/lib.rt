@@ -21,9 +21,11 @@ mod runs;
 mod table;
 #[cfg(test)]
 mod tests;
+mod walk;
 
 pub use bounds::{BOUNDS, Bounds, OLD_BOUNDS, bounds_are, measured};
 pub use layer::{LayerSize, first_word};
 pub use old::OldTable;
 pub use plan::{bound, count, datagram_length, next_start, stripes};
 pub use table::{Table, TableFault};
+pub use walk::PlanStripes;

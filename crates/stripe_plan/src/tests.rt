@@ -194,6 +194,15 @@ fn goes_over_the_stripes(rt: HostRuntime) {
                     assert_eq!(rt; at, *end);
                 }
                 assert_eq!(rt; at, words);
+                let mut start = 0;
+                let mut plan = table.plan();
+                for end in ends {
+                    let stripe = plan.next().unwrap_or((0, 0));
+                    assert_eq!(rt; stripe.0, start);
+                    start = start.saturating_add(u32::from(stripe.1));
+                    assert_eq!(rt; start, *end);
+                }
+                assert_eq!(rt; plan.next(), None);
             }
             Err(fault) => assert!(rt; false, "{fault:?}"),
         }
