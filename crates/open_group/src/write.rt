@@ -30,6 +30,31 @@ pub(crate) fn write_known<F: Rows>(
     ensures others { (j : ℕ) → j < length progress.now.stripes → length (stripe_of progress.now j) ≢ progress.now.met
         → slice_index_or (stripes_in F.coding table.now.layers message.new) j [] ≡ slice_index_or (stripes_in F.coding table.now.layers message.old) j [] }
 {
+    if progress.has_just_enough() {
+        write_each_known(field, table, progress, message);
+    }
+}
+
+/// Writes the words of each stripe that is as long as the number of points that were met, and asks each stripe for its
+/// length.
+fn write_each_known<F: Rows>(
+    field: &F,
+    table: &Table,
+    progress: &Progress<'_, F>,
+    message: &mut [u8],
+)
+    requires lengths { lengths_of progress.now ≡ stripe_lengths table.now.layers }
+    requires stands { (points : List (F.Elem × List F.Elem))
+        × StandsFor F.is_element F.coding.ops progress.now points }
+    requires room { length message.old ≡ length (needs_of table.now.layers) * F.coding.width }
+    requires bytes { All (λ b. b < 256) message.old }
+    ensures room { length message.new ≡ length message.old }
+    ensures bytes { All (λ b. b < 256) message.new }
+    ensures known { (j : ℕ) → j < length progress.now.stripes → length (stripe_of progress.now j) ≡ progress.now.met
+        → slice_index_or (stripes_in F.coding table.now.layers message.new) j [] ≡ stripe_of progress.now j }
+    ensures others { (j : ℕ) → j < length progress.now.stripes → length (stripe_of progress.now j) ≢ progress.now.met
+        → slice_index_or (stripes_in F.coding table.now.layers message.new) j [] ≡ slice_index_or (stripes_in F.coding table.now.layers message.old) j [] }
+{
     let words = table.words();
     let mut at = 0;
     let mut stripe: usize = 0;

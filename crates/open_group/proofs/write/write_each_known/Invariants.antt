@@ -2,7 +2,7 @@ use Rattle.std.proofs.Common.{◌-◌, ◌≡◌, ◌≢◌, ℕ, ◌<◌, ◌�
 use Rattle.stripe_plan.specs.Layers.{plan_stripes, stripes_from}
 use Rattle.pet_interp.specs.Progressive.{stripe_of}
 use Rattle.pet_encode.specs.Payload.{stripes_in}
-use Rattle.open_group.proofs.write.write_known.Given as goal
+use Rattle.open_group.proofs.write.write_each_known.Given as goal
 
 abbrev pub invariant-loop-at : goal.invariant-loop-at
 invariant-loop-at g l = record {

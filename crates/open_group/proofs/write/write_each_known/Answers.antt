@@ -5,7 +5,7 @@ use Rattle.stripe_plan.specs.Layers.{plan_stripes, stripes_from}
 use Rattle.stripe_plan.proofs.PlanLemmas.{length-plan_stripes}
 use Rattle.open_group.proofs.Cuts.{next_from, sizes_are}
 use Rattle.open_group.proofs.Known.{IsStep, step_known, step_others}
-use Rattle.open_group.proofs.write.write_known.Goals as goal
+use Rattle.open_group.proofs.write.write_each_known.Goals as goal
 
 pub write_if_known-requires-clause-stripe : goal.write_if_known-requires-clause-stripe
 write_if_known-requires-clause-stripe g c =
