@@ -1,32 +1,15 @@
--- The table and the message of a group of the second pass.
-use Rattle.std.proofs.Common.{◌≡◌, ℕ, zero, suc, ◌≤◌, Bool, List, [], ◌∷◌, ◌++◌, length, drop, min, refl, sym, ◌∙◌, ap, ap₂, arith, inl, inr}
+-- The header and the message of a group of the second pass.
+use Rattle.std.proofs.Common.{◌≡◌, ℕ, zero, suc, List, [], ◌∷◌, ◌++◌, length, ◌∙◌, ap, ap₂}
 use Rattle.std.specs.Prelude.{get_or, slice_get, Some, None, Result, Ok, Err, IfOk}
-use Rattle.std.proofs.lemmas.Bool.{cases_lt}
-use Rattle.std.proofs.lemmas.List.{drop_all}
-use Rattle.std.specs.Prelude.{IsTrue}
-use Rattle.std.specs.Bool.{Decides}
 use Rattle.std.proofs.lemmas.Option.{same_Some}
-use Rattle.stripe_plan.specs.declared.layer.LayerSize.{LayerSize}
 use Rattle.stripe_plan.specs.Sizes.{Sizes}
-use Rattle.priority_file.specs.Priority.{Rule, Priorities}
-use Rattle.layer_split.specs.Layers.{Cut, message}
+use Rattle.layer_split.specs.Layers.{message}
 use Rattle.packet_frame.specs.declared.frame.Header.{Header}
 use Rattle.pet_encode.specs.Encoding.{Encoding}
 use Rattle.stream_session.specs.declared.source.Source.{Source}
 use Rattle.group_cutter.specs.CutGroups.{CutGroup}
-use Rattle.stream_session.specs.Tables.{table_of, sizes_of, sizes_with}
+use Rattle.stream_session.specs.Tables.{table_of}
 use Rattle.command_send.specs.Sending.{encoding_of}
-
-no_rules : (lengths : List ℕ) → sizes_with lengths [] ≡ []
-no_rules [] = refl
-no_rules (bytes ∷ lengths) = refl
-
--- no layer is left behind the shorter one
-pub sizes_end : (lengths : List ℕ) (rules : List Rule) (at : ℕ) → min (length lengths) (length rules) ≤ at → sizes_with (drop at lengths) (drop at rules) ≡ []
-sizes_end lengths rules at le = elim (cases_lt (length lengths) (length rules)) [
-  | inl lt ↦ ap (λ ls. sizes_with ls (drop at rules)) (drop_all at lengths (omega arith))
-  | inr ge ↦ ap (sizes_with (drop at lengths)) (drop_all at rules (omega arith)) ∙ no_rules (drop at lengths)
-]
 
 no_some : {A : Type 0} (x : A) → None ≡ Some x → ⊥
 no_some x e = cc
@@ -58,14 +41,3 @@ pub front_more : {A : Type 0} (xs later : List A) (x : A) → slice_get (xs ++ l
 front_more [] [] x e = absurd (no_some x e)
 front_more [] (y ∷ ys) x e = (ys, ap (λ z. z ∷ ys) (same_Some y x e))
 front_more (z ∷ xs) later x e = let more = front_more xs later x e in (more.0, ap (λ l. z ∷ l) more.1)
-
-abbrev sized : ℕ → List LayerSize → Sizes
-sized n l = record { packets = n; layers = l }
-
--- the layers of a table are those of the cut, and so the table is
-pub table_decides : (priority : Priorities) (cut : Cut) (table : Sizes) (xs ys : List LayerSize) (r : Bool) → Decides r (xs ≡ ys) → xs ≡ sizes_of priority cut → ys ≡ table.layers → priority.packets ≡ table.packets
-    → (IsTrue r → table ≡ table_of priority cut) × (table ≡ table_of priority cut → IsTrue r)
-table_decides priority cut table xs ys r decides is of packets = (
-  λ same. ap₂ (λ (n : ℕ) (l : List LayerSize). sized n l) (sym packets) (sym of ∙ sym (decides.0 same) ∙ is),
-  λ same. decides.1 (is ∙ sym (ap (λ (t : Sizes). t.layers) same) ∙ sym of),
-)

@@ -3,7 +3,7 @@ ghost use Rattle.std.specs.Prelude.{◌≡◌, ◌≢◌, ◌↔◌, ◌+◌, �
 ghost use Rattle.group_cutter.specs.laws.FilledLaws.{IsFilled};
 ghost use Rattle.group_cutter.specs.laws.FittingLaws.{IsWhole};
 ghost use Rattle.stream_session.specs.Marks.{mark_at};
-ghost use Rattle.stream_session.specs.Tables.{table_of, sizes_with};
+ghost use Rattle.stream_session.specs.Tables.{table_of};
 ghost use Rattle.datagram_route.specs.RouteFaults.{IsStop};
 ghost use Rattle.datagram_route.specs.Sending.{routes, Sends, SendsPart, IsOpen, OnlyGrows, OutputFailed, SendingFailed};
 ghost use Rattle.datagram_route.specs.Way.{way_of};
@@ -12,20 +12,17 @@ ghost use Rattle.command_send.specs.Second.{SendsGroup, SendsGroupPart, Differs,
 ghost use Rattle.command_send.specs.Sending.{encoding_of};
 
 use crate::first::FirstPass;
-use arrayvec::ArrayVec;
 use datagram_route::RouteStop;
 use group_cutter::Group;
 use layer_split::{GroupCut, message};
 use packet_frame::Header;
-use pet_base::{Link, MAX_LAYERS, NoMemory, Place, Steps};
+use pet_base::{Link, NoMemory, Place, Steps};
 use pet_encode::Encoder;
 use pet_tables::Gf16Tables;
-use priority_file::Priority;
 use session_packets::put_group;
 use std::alloc::Global;
 use std::sync::ledger::Ledger;
-use stream_session::{GroupMark, Source};
-use stripe_plan::{LayerSize, Table};
+use stream_session::{GroupMark, Source, is_table_of};
 
 /// The group at which two passes differ, and its marks in both.
 #[derive(Clone, Copy, Debug, PartialEq, Eq)]
@@ -101,29 +98,6 @@ fn has_table(source: &Source, number: u32, cut: &GroupCut) -> bool
         Some(table) => is_table_of(&source.priority, cut, table),
         None => false,
     }
-}
-
-/// Whether this is the table of the cut under this priority.
-fn is_table_of(priority: &Priority, cut: &GroupCut, table: &Table) -> bool
-    ensures { IsTrue result ↔ (table.now ≡ table_of priority.now cut.now) }
-{
-    let sizes = sizes(priority, cut.lengths.as_slice());
-    priority.packets == table.packets() && sizes.as_slice() == table.layers()
-}
-
-/// Layers of these lengths, each with the need of its rule.
-fn sizes(priority: &Priority, lengths: &[u32]) -> ArrayVec<LayerSize, MAX_LAYERS>
-    ensures { result.items ≡ sizes_with lengths.now priority.now.layers }
-{
-    let mut sizes = ArrayVec::new();
-    for layer in 0..lengths.len().min(priority.layers.len()) {
-        let rule = &priority.layers[layer];
-        sizes.push(LayerSize {
-            length: lengths[layer],
-            need: rule.need,
-        });
-    }
-    sizes
 }
 
 /// Sends the packets of the group under this number, whose table is the first pass's.

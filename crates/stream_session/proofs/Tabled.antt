@@ -1,6 +1,7 @@
--- The table of a cut, and none where it is too wide.
-use Rattle.std.proofs.Common.{◌≡◌, ◌≤◌, ℕ, List, length, Some, None, true, sym, ◌∙◌, ap, ap₂, subst, inl, inr}
-use Rattle.std.specs.Prelude.{if◌then◌else◌}
+-- The table of a cut, and none where it is too wide; and whether a table is that of a cut.
+use Rattle.std.proofs.Common.{◌≡◌, ◌≤◌, ℕ, Bool, List, length, Some, None, true, sym, ◌∙◌, ap, ap₂, subst, inl, inr}
+use Rattle.std.specs.Prelude.{IsTrue, if◌then◌else◌}
+use Rattle.std.specs.Bool.{Decides}
 use Rattle.std.proofs.lemmas.Bool.{cond-true, cond-false, cases_Bool, le-ltb}
 use Rattle.pet_base.specs.declared.limits.TheConstants.{MAX_LAYERS, MAX_DATAGRAM}
 use Rattle.stripe_plan.specs.declared.layer.LayerSize.{LayerSize}
@@ -23,3 +24,14 @@ not_made priority cut packets layers p l lawful few fit none = elim (cases_Bool 
   | inr e ↦
       absurd (none (subst (λ n. IsTable n layers) (sym p) (subst (IsTable priority.packets) (sym l) (is_table priority cut lawful few fit e))))
 ]
+
+abbrev sized : ℕ → List LayerSize → Sizes
+sized n l = record { packets = n; layers = l }
+
+-- the layers of a table are those of the cut, and so the table is
+pub table_decides : (priority : Priorities) (cut : Cut) (table : Sizes) (xs ys : List LayerSize) (r : Bool) → Decides r (xs ≡ ys) → xs ≡ sizes_of priority cut → ys ≡ table.layers → priority.packets ≡ table.packets
+    → (IsTrue r → table ≡ table_of priority cut) × (table ≡ table_of priority cut → IsTrue r)
+table_decides priority cut table xs ys r decides is of packets = (
+  λ same. ap₂ (λ (n : ℕ) (l : List LayerSize). sized n l) (sym packets) (sym of ∙ sym (decides.0 same) ∙ is),
+  λ same. decides.1 (is ∙ sym (ap (λ (t : Sizes). t.layers) same) ∙ sym of),
+)

@@ -22,6 +22,7 @@ mod total;
 pub use fault::SessionFault;
 pub use mark::GroupMark;
 pub use marked::{MarkedSource, read_marked};
+pub use needs::is_table_of;
 pub use pass::{Pass, SessionPlan, StreamFault};
 pub use planner::Planner;
 pub use source::{Source, SourceFault, read_source};

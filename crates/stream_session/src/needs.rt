@@ -1,5 +1,5 @@
-//! What a priority needs of each layer, and the table that it gives a cut.
-ghost use Rattle.std.specs.Prelude.{◌≡◌, ◌≤◌, length, Some, None, if◌then◌else◌};
+//! What a priority needs of each layer, the table that it gives a cut, and whether a table is that one.
+ghost use Rattle.std.specs.Prelude.{◌≡◌, ◌≤◌, ◌↔◌, length, Some, None, IsTrue, if◌then◌else◌};
 ghost use Rattle.pet_base.specs.declared.limits.TheConstants.{MAX_LAYERS};
 ghost use Rattle.priority_file.specs.Priority.{Priorities};
 ghost use Rattle.stream_session.specs.Tables.{table_of, IsFit, sizes_by};
@@ -46,6 +46,15 @@ impl LayerNeeds {
             Err(_) => None,
         }
     }
+}
+
+/// Whether this is the table of the cut under this priority.
+pub fn is_table_of(priority: &Priority, cut: &GroupCut, table: &Table) -> bool
+    ensures { IsTrue result ↔ (table.now ≡ table_of priority.now cut.now) }
+{
+    let own = LayerNeeds::new(priority);
+    let sizes = sizes_of(cut.lengths.as_slice(), own.needs.as_slice());
+    own.packets == table.packets() && sizes.as_slice() == table.layers()
 }
 
 /// Layers of these lengths, each with its need.
