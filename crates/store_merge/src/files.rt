@@ -59,7 +59,7 @@ impl From<BadStore> for StoreStop {
 }
 
 /// Reads the store in the file of this name: a receiver of its session that has kept its packets. Its groups may cost at most
-/// 536,870,912. It counts at most the steps of reading the store's packets one after the other.
+/// 536,870,912. Where it reads the store, it counts at most the steps of reading its packets one after the other.
 pub fn read_store_file<'f, F: Rows, P: Place, L: Ledger>(
     alloc: Global,
     f: &'f F,

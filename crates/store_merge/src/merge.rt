@@ -42,7 +42,8 @@ impl From<NoMemory> for MergeFault {
 }
 
 /// Appends the store of all packets that the first store or the second has. `into` is as before where there is none. Each
-/// store's groups, and those of both, may cost at most `limit`. It counts at most the steps of reading both and of the union.
+/// store's groups, and those of both, may cost at most `limit`. Where it merges them, it counts at most the
+/// steps of reading both and of the union.
 pub fn merge_stores<F: Rows, L: Ledger>(
     alloc: Global,
     f: &F,
