@@ -1,2 +1,3 @@
 pub mod PayloadLaws
+pub mod RangeLaws
 pub mod SessionLaws

@@ -17,13 +17,13 @@ entries_text packets = flat_map (λ f. entry_text (text f)) packets
 abbrev pub packet_in : Encoding → ℕ → Fields
 packet_in e number = frame_of gf16_coding e number
 
--- its entry
-abbrev pub packet_entry : Encoding → ℕ → List ℕ
-packet_entry e number = entry_text (text (packet_in e number))
+-- the datagrams of the packets `first` to `first + many - 1` of a group
+abbrev pub range_datagrams : Encoding → ℕ → ℕ → List (List ℕ)
+range_datagrams e first many = map (λ number. text (packet_in e number)) (range_with_len first many)
 
--- the datagrams of the first packets of a group
+-- those of the first packets
 abbrev pub first_datagrams : Encoding → ℕ → List (List ℕ)
-first_datagrams e many = map (λ number. text (packet_in e number)) (range_with_len 0 many)
+first_datagrams e many = range_datagrams e 0 many
 
 -- those of all packets of a group, by number
 abbrev pub group_datagrams : Encoding → List (List ℕ)

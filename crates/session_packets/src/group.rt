@@ -1,19 +1,21 @@
 //! The packets of one group, sent on a route.
 ghost use Rattle.std.specs.Prelude.{◌≡◌, ◌∷◌, [], ◌+◌, ◌*◌, ◌<◌, ◌≤◌, length, OnOk, OnErr, IfErr};
 ghost use Rattle.stripe_plan.specs.Layers.{needs_of};
-ghost use Rattle.packet_frame.specs.Frame.{text};
 ghost use Rattle.datagram_route.specs.RouteFaults.{IsStop};
 ghost use Rattle.datagram_route.specs.Sending.{routes, Sends, SendsPart, IsOpen, OnlyGrows, OutputFailed, SendingFailed};
 ghost use Rattle.datagram_route.specs.Way.{way_of};
-ghost use Rattle.session_packets.specs.Packets.{packet_in, packet_entry, group_datagrams};
+ghost use Rattle.session_packets.specs.Packets.{entry_text, group_datagrams, range_datagrams};
 
 use datagram_route::{Route, RouteStop, put_entry};
-use pet_base::{Link, NoMemory, Place, Steps};
+use pet_base::{Link, MAX_DATAGRAM, NoMemory, Place, Steps};
 use pet_encode::Encoder;
 use pet_tables::Gf16Tables;
 use std::alloc::Global;
 use std::sync::ledger::Ledger;
 use stripe_plan::datagram_length;
+
+/// The bytes that the packets of a range may have: those of a group that fit are made at once.
+const RANGE_ROOM: u32 = 16_777_216;
 
 /// Sends the packets of the encoder's group, each once, by number: to a file as entries, each the length of a packet in two
 /// bytes and then the packet, or by the link as they are. Where it stops, a front of the entries stands in the file, or the link
@@ -43,55 +45,100 @@ pub fn put_group<P: Place, K: Link, L: Ledger>(
     ensures cost { steps.new ≤ steps.old + encoder.now.header.table.packets * length
         (needs_of encoder.now.header.table.layers) }
 {
+    let table = &encoder.header().table;
+    let packets = table.packets();
+    let most = (RANGE_ROOM / datagram_length(table)).max(1);
+    let mut frames = Vec::new(alloc);
     let mut entry = Vec::new(alloc);
-    for number in 0..encoder.header().table.packets() {
-        put_packet(to, place, link, encoder, number, &mut entry, steps)?;
+    let mut first = 0;
+    while first < packets {
+        let count = most.min(u32::from(packets - first)) as u16;
+        put_range(
+            to,
+            place,
+            link,
+            encoder,
+            first,
+            count,
+            &mut frames,
+            &mut entry,
+            steps,
+        )?;
+        first += count;
     }
     Ok(())
 }
 
-/// Sends one packet, whose number is below the group's packets. The buffer is emptied first, and is then its entry.
-fn put_packet<P: Place, K: Link, L: Ledger>(
+/// Sends the packets `first` to `first + count - 1`, which are packets of the group. The buffers are emptied first.
+fn put_range<P: Place, K: Link, L: Ledger>(
     to: Route<'_>,
     place: &mut P,
     link: &mut K,
     encoder: &Encoder<'_, Gf16Tables>,
-    number: u16,
+    first: u16,
+    count: u16,
+    frames: &mut Vec<u8>,
     entry: &mut Vec<u8>,
     steps: &mut Steps<L>,
 ) -> Result<(), RouteStop>
     requires open { IsOpen (way_of to) (routes P.Place K.Link place.old link.old) }
-    requires number { number < encoder.now.header.table.packets }
-    ensures sends { OnOk result (Sends (way_of to.entry) (text (packet_in encoder.now number) ∷ [])
+    requires within { first + count ≤ encoder.now.header.table.packets }
+    ensures sends { OnOk result (Sends (way_of to.entry) (range_datagrams encoder.now first count)
         (routes P.Place K.Link place.old link.old) (routes P.Place K.Link place.new link.new)) }
-    ensures part { OnErr result (SendsPart (way_of to.entry)
-        (text (packet_in encoder.now number) ∷ []) (routes P.Place K.Link place.old link.old)
-        (routes P.Place K.Link place.new link.new)) }
+    ensures part { OnErr result (SendsPart (way_of to.entry) (range_datagrams encoder.now first count)
+        (routes P.Place K.Link place.old link.old) (routes P.Place K.Link place.new link.new)) }
     ensures others { OnlyGrows (routes P.Place K.Link place.old link.old)
         (routes P.Place K.Link place.new link.new) }
     ensures cause { IfErr result (IsStop
         (OutputFailed (way_of to.entry) (P.seen place.old) (P.seen place.new))
         (SendingFailed (way_of to.entry) (K.seen link.old) (K.seen link.new)) ⊥) }
-    ensures cost { steps.new ≤ steps.old + length (needs_of encoder.now.header.table.layers) }
+    ensures cost { steps.new ≤ steps.old + count * length (needs_of encoder.now.header.table.layers) }
 {
-    write_entry(encoder, number, entry, steps)?;
+    let length = datagram_length(&encoder.header().table) as usize;
+    frames.clear();
+    encoder.range(first, count, frames, steps)?;
+    let mut at = 0;
+    for _ in 0..count {
+        let end = at + length;
+        put_packet(to, place, link, &frames[at..end], entry)?;
+        at = end;
+    }
+    Ok(())
+}
+
+/// Sends one packet. The buffer is emptied first, and is then its entry.
+fn put_packet<P: Place, K: Link>(
+    to: Route<'_>,
+    place: &mut P,
+    link: &mut K,
+    packet: &[u8],
+    entry: &mut Vec<u8>,
+) -> Result<(), RouteStop>
+    requires open { IsOpen (way_of to) (routes P.Place K.Link place.old link.old) }
+    requires short { length packet.now ≤ MAX_DATAGRAM }
+    ensures sends { OnOk result (Sends (way_of to.entry) (packet.now ∷ [])
+        (routes P.Place K.Link place.old link.old) (routes P.Place K.Link place.new link.new)) }
+    ensures part { OnErr result (SendsPart (way_of to.entry) (packet.now ∷ [])
+        (routes P.Place K.Link place.old link.old) (routes P.Place K.Link place.new link.new)) }
+    ensures others { OnlyGrows (routes P.Place K.Link place.old link.old)
+        (routes P.Place K.Link place.new link.new) }
+    ensures cause { IfErr result (IsStop
+        (OutputFailed (way_of to.entry) (P.seen place.old) (P.seen place.new))
+        (SendingFailed (way_of to.entry) (K.seen link.old) (K.seen link.new)) ⊥) }
+{
+    write_entry(packet, entry)?;
     put_entry(to, place, link, entry)?;
     Ok(())
 }
 
-/// Makes the buffer the entry of one packet, whose number is below the group's packets.
-fn write_entry<L: Ledger>(
-    encoder: &Encoder<'_, Gf16Tables>,
-    number: u16,
-    entry: &mut Vec<u8>,
-    steps: &mut Steps<L>,
-) -> Result<(), NoMemory>
-    requires { number < encoder.now.header.table.packets }
-    ensures ok { OnOk result (entry.new.items ≡ packet_entry encoder.now number) }
-    ensures cost { steps.new ≤ steps.old + length (needs_of encoder.now.header.table.layers) }
+/// Makes the buffer the entry of one packet.
+fn write_entry(packet: &[u8], entry: &mut Vec<u8>) -> Result<(), NoMemory>
+    requires { length packet.now ≤ MAX_DATAGRAM }
+    ensures { OnOk result (entry.new.items ≡ entry_text packet.now) }
 {
-    let length = datagram_length(&encoder.header().table) as u16;
+    let length = packet.len() as u16;
     entry.clear();
     entry.extend_from_slice(&length.to_be_bytes())?;
-    encoder.packet(number, entry, steps)
+    entry.extend_from_slice(packet)?;
+    Ok(())
 }

@@ -1,8 +1,8 @@
 -- Laws of the datagrams of packets, packet by packet and group by group, for the proofs of callers.
-use Rattle.std.proofs.Common.{◌≡◌, ℕ, zero, suc, ◌+◌, ◌<◌, ◌≤◌, take, drop, List, [], ◌∷◌, ◌++◌, length, map, append_assoc, refl, sym, ap, subst, ◌∙◌, arith, true≢false}
-use Rattle.std.specs.Prelude.{slice_get, Some, is_some, unwrap_or, Result, Ok, Err, OnOk}
-use Rattle.std.specs.Int.{w16, to_be_bytes}
+use Rattle.std.proofs.Common.{◌≡◌, ℕ, zero, suc, ◌+◌, ◌*◌, ◌<◌, ◌≤◌, take, drop, List, [], ◌∷◌, ◌++◌, length, map, append_assoc, refl, sym, ap, subst, ◌∙◌, arith, true≢false}
+use Rattle.std.specs.Prelude.{slice_get, Some, is_some, unwrap_or}
 use Rattle.std.specs.List.{flat_map, range_with_len}
+use Rattle.std.proofs.lemmas.Nat.{mul-le}
 use Rattle.std.proofs.lemmas.List.{append-nil, take-append-drop, take_all, map-append}
 use Rattle.std.proofs.lemmas.List.Folds.{flat_map-map}
 use Rattle.std.proofs.lemmas.List.FromFn.{map-range_with_len_more, take-map-range_with_len}
@@ -11,42 +11,83 @@ use Rattle.pet_field.specs.Gf16.{gf16_coding}
 use Rattle.stripe_plan.specs.Sizes.{datagram_length_of}
 use Rattle.packet_frame.specs.Frame.{Fields, IsFrame, text}
 use Rattle.packet_frame.specs.laws.Laws.{texts_have_length}
-use Rattle.pet_encode.specs.Encoding.{Encoding, IsGroupOf}
+use Rattle.pet_encode.specs.Encoding.{Encoding, IsGroupOf, frames_text}
+use Rattle.pet_encode.specs.laws.RangeLaws.{frame_at, frames_length}
 use Rattle.pet_encode.specs.Session.{Session, SessionGroup, packet_of, packets_of_group, packets_from}
 use Rattle.datagram_route.specs.Way.{Way}
 use Rattle.datagram_route.specs.Sending.{Routes, entry_text, entries_of, AreFirst, Sends, SendsPart}
 use Rattle.datagram_route.specs.laws.SendingLaws.{sends_then, part_after, part_within}
-use Rattle.session_packets.specs.Packets.{packet_in, packet_entry, first_datagrams, group_datagrams, session_packets, session_datagrams, datagrams_text, first_groups_datagrams, AreEncoders, GroupsMakeDatagrams}
+use Rattle.session_packets.specs.Packets.{packet_in, range_datagrams, first_datagrams, group_datagrams, session_packets, session_datagrams, datagrams_text, first_groups_datagrams, AreEncoders, GroupsMakeDatagrams}
 
--- the buffer has the entry, where its first two bytes are the length of the table's datagrams
-pub entry_is : {A E : Type 0} (e : Encoding) (number len : ℕ) (buffer after : List ℕ) (r : Result A E) → buffer ≡ to_be_bytes w16 len → len ≡ datagram_length_of e.header.table.layers
-    → OnOk r (after ≡ buffer ++ text (packet_in e number)) → OnOk r (IsFrame (packet_in e number)) → OnOk r (after ≡ packet_entry e number)
-entry_is e number len buffer after (Err x) begins is written frame = tt
-entry_is e number len buffer after (Ok x) begins is written frame =
-    written ∙ ap (λ (t : List ℕ). t ++ text (packet_in e number)) (begins ∙ ap (to_be_bytes w16) (is ∙ sym (texts_have_length (packet_in e number) frame)))
+-- the frames that were put into an empty buffer
+pub frames_are : (e : Encoding) (first count : ℕ) (cleared made lent : List ℕ) → cleared ≡ [] → made ≡ cleared ++ frames_text gf16_coding e first count → lent ≡ made → lent ≡ frames_text gf16_coding e first count
+frames_are e first count cleared made lent none is same = same ∙ is ∙ ap (λ (t : List ℕ). t ++ frames_text gf16_coding e first count) none
+
+-- a packet of a range stands at its place among the frames
+pub packet_at : (e : Encoding) (first count p len at n : ℕ) (frames : List ℕ) → frames ≡ frames_text gf16_coding e first count → ((k : ℕ) → first ≤ k → k < first + count → IsFrame (packet_in e k))
+    → len ≡ datagram_length_of e.header.table.layers → p < count → at ≡ p * len → n ≡ len → take n (drop at frames) ≡ text (packet_in e (first + p))
+packet_at e first count p len at n frames is are long l place size =
+    ap (λ k. take k (drop at frames)) size ∙ ap (λ k. take len (drop k frames)) place ∙ ap (λ t. take len (drop (p * len) t)) is
+    ∙ frame_at gf16_coding e len count first p (λ k low high. texts_have_length (packet_in e k) (are k low high) ∙ sym long) l
+
+-- and the frames have so many bytes
+pub packets_length : (e : Encoding) (first count len : ℕ) (frames : List ℕ) → frames ≡ frames_text gf16_coding e first count → ((k : ℕ) → first ≤ k → k < first + count → IsFrame (packet_in e k))
+    → len ≡ datagram_length_of e.header.table.layers → length frames ≡ count * len
+packets_length e first count len frames is are long =
+    ap length is ∙ frames_length gf16_coding e len count first (λ k low high. texts_have_length (packet_in e k) (are k low high) ∙ sym long)
+
+pub packet_room : (count p len at long : ℕ) → long ≡ count * len → p < count → at ≡ p * len → at + len ≤ long
+packet_room count p len at long is l place = omega (arith, mul-le (suc p) len count len l (omega arith))
 
 -- the datagram of one packet more
-pub datagrams_more : (e : Encoding) (n : ℕ) → first_datagrams e (n + 1) ≡ first_datagrams e n ++ (text (packet_in e n) ∷ [])
-datagrams_more e n = map-range_with_len_more (λ (k : ℕ). text (packet_in e k)) 0 n n (omega arith)
+pub datagrams_more : (e : Encoding) (first n : ℕ) → range_datagrams e first (n + 1) ≡ range_datagrams e first n ++ (text (packet_in e (first + n)) ∷ [])
+datagrams_more e first n = map-range_with_len_more (λ (k : ℕ). text (packet_in e k)) first n (first + n) refl
 
--- the first packets are the first of more
-datagrams_first : (e : Encoding) (n m : ℕ) → n ≤ m → AreFirst (first_datagrams e n) (first_datagrams e m)
-datagrams_first e n m le =
-    let all = first_datagrams e m in (
+-- the first packets of a range are the first of more
+datagrams_first : (e : Encoding) (first n m : ℕ) → n ≤ m → AreFirst (range_datagrams e first n) (range_datagrams e first m)
+datagrams_first e first n m le =
+    let all = range_datagrams e first m in (
       drop n all,
-      sym (take-append-drop n all) ∙ ap (λ (t : List (List ℕ)). t ++ drop n all) (take-map-range_with_len (λ (k : ℕ). text (packet_in e k)) 0 m n le),
+      sym (take-append-drop n all) ∙ ap (λ (t : List (List ℕ)). t ++ drop n all) (take-map-range_with_len (λ (k : ℕ). text (packet_in e k)) first m n le),
     )
 
-pub sends_packet : (way : Way) (e : Encoding) (n : ℕ) (first before after : Routes) → before.place.target ≡ first.place.target → Sends way (first_datagrams e n) first before
-    → Sends way (text (packet_in e n) ∷ []) before after → Sends way (first_datagrams e (n + 1)) first after
-sends_packet way e n first before after same p q =
-    subst (λ (t : List (List ℕ)). Sends way t first after) (sym (datagrams_more e n)) (sends_then way (first_datagrams e n) (text (packet_in e n) ∷ []) first before after same p q)
+pub sends_packet : (way : Way) (e : Encoding) (from n : ℕ) (d : List ℕ) (first before after : Routes) → d ≡ text (packet_in e (from + n)) → before.place.target ≡ first.place.target
+    → Sends way (range_datagrams e from n) first before → Sends way (d ∷ []) before after → Sends way (range_datagrams e from (n + 1)) first after
+sends_packet way e from n d first before after is same p q =
+    subst (λ (t : List (List ℕ)). Sends way t first after) (ap (λ (x : List ℕ). range_datagrams e from n ++ (x ∷ [])) is ∙ sym (datagrams_more e from n))
+    (sends_then way (range_datagrams e from n) (d ∷ []) first before after same p q)
 
-pub part_packet : (way : Way) (e : Encoding) (n m : ℕ) (first before after : Routes) → n < m → before.place.target ≡ first.place.target → Sends way (first_datagrams e n) first before
-    → SendsPart way (text (packet_in e n) ∷ []) before after → SendsPart way (first_datagrams e m) first after
-part_packet way e n m first before after lt same p part =
-    part_within way (first_datagrams e (n + 1)) (first_datagrams e m) first after (datagrams_first e (n + 1) m (omega arith))
-    (subst (λ (t : List (List ℕ)). SendsPart way t first after) (sym (datagrams_more e n)) (part_after way (first_datagrams e n) (text (packet_in e n) ∷ []) first before after same p part))
+pub part_packet : (way : Way) (e : Encoding) (from n m : ℕ) (d : List ℕ) (first before after : Routes) → d ≡ text (packet_in e (from + n)) → n < m → before.place.target ≡ first.place.target
+    → Sends way (range_datagrams e from n) first before → SendsPart way (d ∷ []) before after → SendsPart way (range_datagrams e from m) first after
+part_packet way e from n m d first before after is lt same p part =
+    part_within way (range_datagrams e from (n + 1)) (range_datagrams e from m) first after (datagrams_first e from (n + 1) m (omega arith))
+    (subst (λ (t : List (List ℕ)). SendsPart way t first after) (ap (λ (x : List ℕ). range_datagrams e from n ++ (x ∷ [])) is ∙ sym (datagrams_more e from n))
+    (part_after way (range_datagrams e from n) (d ∷ []) first before after same p part))
+
+-- the datagrams of a range stand behind those of the packets before it
+pub range_behind : (e : Encoding) (n m : ℕ) → first_datagrams e (n + m) ≡ first_datagrams e n ++ range_datagrams e n m
+range_behind e n zero =
+    let same : n + 0 ≡ n = omega arith in
+    ap (first_datagrams e) same ∙ sym (append-nil (first_datagrams e n))
+range_behind e n (suc m) =
+    let along : n + suc m ≡ n + m + 1 = omega arith in
+    let more : m + 1 ≡ suc m = omega arith in
+    let last : List (List ℕ) = text (packet_in e (n + m)) ∷ [] in
+    ap (first_datagrams e) along ∙ datagrams_more e 0 (n + m) ∙ ap (λ (k : ℕ). first_datagrams e (n + m) ++ (text (packet_in e k) ∷ [])) (omega arith)
+    ∙ ap (λ (t : List (List ℕ)). t ++ last) (range_behind e n m)
+    ∙ append_assoc (first_datagrams e n) (range_datagrams e n m) last
+    ∙ ap (λ (t : List (List ℕ)). first_datagrams e n ++ t) (sym (datagrams_more e n m) ∙ ap (range_datagrams e n) more)
+
+pub sends_range : (way : Way) (e : Encoding) (n m : ℕ) (first before after : Routes) → before.place.target ≡ first.place.target → Sends way (first_datagrams e n) first before
+    → Sends way (range_datagrams e n m) before after → Sends way (first_datagrams e (n + m)) first after
+sends_range way e n m first before after same p q =
+    subst (λ (t : List (List ℕ)). Sends way t first after) (sym (range_behind e n m)) (sends_then way (first_datagrams e n) (range_datagrams e n m) first before after same p q)
+
+pub part_range : (way : Way) (e : Encoding) (n m all : ℕ) (first before after : Routes) → n + m ≤ all → before.place.target ≡ first.place.target → Sends way (first_datagrams e n) first before
+    → SendsPart way (range_datagrams e n m) before after → SendsPart way (first_datagrams e all) first after
+part_range way e n m all first before after le same p part =
+    part_within way (first_datagrams e (n + m)) (first_datagrams e all) first after (datagrams_first e 0 (n + m) all le)
+    (subst (λ (t : List (List ℕ)). SendsPart way t first after) (sym (range_behind e n m)) (part_after way (first_datagrams e n) (range_datagrams e n m) first before after same p part))
 
 abbrev packet : Session → ℕ → SessionGroup → ℕ → Fields
 packet = packet_of gf16_coding

@@ -1,0 +1,12 @@
+//! The values of the columns of a block at many points at once.
+//!
+//! `AllValues` is a field that gives them, row after row. Any lawful field does so point after point, by Horner's rule over
+//! rows; a body that makes fewer products, as an additive fast Fourier transform, has the same contract.
+#![tactic(auto)]
+
+mod all_values;
+
+pub use all_values::AllValues;
+
+#[cfg(test)]
+mod tests;

@@ -1,0 +1,12 @@
+use Rattle.std.proofs.Common.{◌≡◌, ◌*◌}
+use Rattle.datagram_route.specs.Sending.{routes, Sends, OnlyGrows}
+use Rattle.datagram_route.specs.Way.{way_of}
+use Rattle.session_packets.specs.Packets.{range_datagrams}
+use Rattle.session_packets.proofs.group.put_range.Given as goal
+
+abbrev pub invariant-loop : goal.invariant-loop
+invariant-loop g l = record {
+  place : l.at ≡ l.counter * l.length;
+  sends : Sends (way_of l.to) (range_datagrams l.encoder l.first l.counter) (routes g.P.Place g.K.Link l.initial.place l.initial.link) (routes g.P.Place g.K.Link l.place l.link);
+  others : OnlyGrows (routes g.P.Place g.K.Link l.initial.place l.initial.link) (routes g.P.Place g.K.Link l.place l.link);
+}
