@@ -1,0 +1,10 @@
+pub mod Leaves
+pub mod Readings
+pub mod Flights
+pub mod Conversions
+pub mod Factors
+pub mod Places
+pub mod OneColumn
+pub mod Columns
+pub mod Counting
+pub mod Pieces

@@ -1,0 +1,17 @@
+use Rattle.std.proofs.Common.{◌-◌, ◌^◌, ◌+◌, ◌≡◌, ap, refl, arith}
+use Rattle.additive_fft.proofs.Columns.{converts_columns, converts_none_columns}
+use Rattle.additive_fft.proofs.conversion.+convert_from.Goals as goal
+
+pub returns-then-level-gt0-clause-coefficients : goal.returns-then-level-gt0-clause-coefficients
+returns-then-level-gt0-clause-coefficients g t c =
+    let n = c.args.level in
+    let j = c.args.shift in
+    let e1 : j + (n - 1) + 1 ≡ j + n = omega arith in
+    let e2 : j + 1 + (n - 1) ≡ j + n = omega arith in
+    converts_columns c.args.width n (n - 1) j c.factor_of.result (2 ^ (j + n)) (2 ^ (j + (n - 1) + 1)) (2 ^ (j + 1 + (n - 1))) c.args.rows.now c.expand.new.rows
+    c.scale.new.rows c.convert_from.new.rows (omega arith) (ap (λ k. 2 ^ k) e1) (ap (λ k. 2 ^ k) e2) c.factor_of.ensures c.expand.ensures c.scale.ensures.products
+    c.convert_from.ensures.coefficients
+
+pub returns-else-level-gt0-clause-coefficients : goal.returns-else-level-gt0-clause-coefficients
+returns-else-level-gt0-clause-coefficients g t c =
+    converts_none_columns c.args.width c.args.level c.args.shift (2 ^ (c.args.shift + c.args.level)) c.args.rows.now (omega arith)

@@ -1,0 +1,6 @@
+pub mod Basis
+pub mod Constants
+pub mod Steps
+pub mod Trees
+pub mod Columnwise
+pub mod laws

@@ -1,0 +1,55 @@
+-- Zeros behind the coefficients change no value.
+use Rattle.std.specs.Prelude.{slice_index}
+use Rattle.std.proofs.Common.{◌≡◌, ◌≤◌, ◌<◌, ◌+◌, ◌-◌, ◌*◌, ℕ, zero, suc, List, [], ◌∷◌, ◌++◌, inl, inr, length, replicate, refl, sym, ap, ap₂, ◌∙◌, arith}
+use Rattle.std.proofs.lemmas.Bool.{cases_lt}
+use Rattle.std.proofs.lemmas.List.{ext_get_or, get_or-append_right, get_or_append_left, get_or-replicate, length-append, length-replicate}
+use Rattle.pet_field.specs.Field.{Operations, IsField}
+use Rattle.pet_field.specs.laws.FieldLaws as A
+use Rattle.pet_field.specs.Gf16.{gf16}
+use Rattle.pet_field.specs.laws.Gf16Laws.{gf16_field}
+use Rattle.pet_poly.specs.Value.{power, value_from, value}
+use Rattle.pet_rows.specs.Columns.{column}
+use Rattle.pet_rows.specs.laws.ColumnLaws.{length-column, column_at}
+
+module _ {E : Type 0} (P : E → Type 0) (o : Operations E) (f : IsField P o) where
+  power_is : (x : E) (k : ℕ) → P x → P (power o x k)
+  power_is x zero h = f.one_is
+  power_is x (suc k) h = f.times_is x (power o x k) h (power_is x k h)
+
+  zeros_from : (r k : ℕ) (x : E) → P x → value_from o x k (replicate r o.nought) ≡ o.nought
+  zeros_from zero k x hx = refl
+  zeros_from (suc r) k x hx =
+      let p = power_is x k hx in
+      ap₂ o.plus (f.times_comm o.nought (power o x k) f.zero_is p ∙ A.times-zero P o f (power o x k) p) (zeros_from r (suc k) x hx)
+      ∙ f.plus-zero o.nought f.zero_is
+
+  value_zeros : (cs : List E) (r k : ℕ) (x : E) → P x → value_from o x k (cs ++ replicate r o.nought) ≡ value_from o x k cs
+  value_zeros [] r k x hx = zeros_from r k x hx
+  value_zeros (c ∷ cs) r k x hx = ap (o.plus (o.times c (power o x k))) (value_zeros cs r (suc k) x hx)
+
+  pub value_padded : (cs : List E) (r : ℕ) (x : E) → P x → value o (cs ++ replicate r o.nought) x ≡ value o cs x
+  value_padded cs r x hx = value_zeros cs r 0 x hx
+
+-- a column that is zero from row k on
+pub padded_column : (w n k c : ℕ) (rows : List ℕ) → c < w → k ≤ n → ((i : ℕ) → k ≤ i → i < n → slice_index rows (i * w + c) ≡ 0)
+    → column 0 w n c rows ≡ column 0 w k c rows ++ replicate (n - k) 0
+padded_column w n k c rows l m zeros =
+    let front = column 0 w k c rows in
+    let nf : length front ≡ k = length-column 0 w k c rows in
+    ext_get_or 0 (column 0 w n c rows) (front ++ replicate (n - k) 0)
+    (length-column 0 w n c rows ∙ sym (length-append front (replicate (n - k) 0) ∙ omega (arith, nf, length-replicate {A = ℕ} (n - k) 0)))
+    (λ i h.
+    let r : i < n = omega (arith, length-column 0 w n c rows) in
+    column_at 0 0 w n c i rows r
+    ∙ elim (cases_lt i k) [
+      | inl s ↦ sym (get_or_append_left front (replicate (n - k) 0) 0 i (omega arith) ∙ column_at 0 0 w k c i rows s)
+      | inr s ↦
+          zeros i s r
+          ∙ sym (get_or-append_right front (replicate (n - k) 0) k i 0 nf s ∙ get_or-replicate (n - k) (i - k) 0 0 (omega arith))
+    ])
+
+-- its value over the field of 65,536 elements is that of the first k rows
+pub padded_value : (w n k c x : ℕ) (rows : List ℕ) → c < w → k ≤ n → x < 65536 → ((i : ℕ) → k ≤ i → i < n → slice_index rows (i * w + c) ≡ 0)
+    → value gf16 (column 0 w n c rows) x ≡ value gf16 (column 0 w k c rows) x
+padded_value w n k c x rows l m hx zeros =
+    ap (λ cs. value gf16 cs x) (padded_column w n k c rows l m zeros) ∙ value_padded (λ a. a < 65536) gf16 gf16_field (column 0 w k c rows) (n - k) x hx

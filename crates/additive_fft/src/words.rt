@@ -1,0 +1,64 @@
+//! What is done with many words alike.
+ghost use Rattle.std.specs.Prelude.{◌≡◌, ℕ, ◌+◌, ◌<◌, ◌≤◌, length, bit_xor, slice_index, All};
+ghost use Rattle.pet_field.specs.Gf16.{gf16};
+
+use pet_base::Steps;
+use pet_field::Gf16Plain;
+use pet_rows::{MAX_WIDTH, Rows};
+use std::sync::ledger::Ledger;
+
+/// Words are elements.
+pub(crate) fn are_elements(_words: &[u16])
+    ensures { All (λ a. a < 65536) _words.now }
+{}
+
+/// Adds words to as many words.
+pub(crate) fn add_words(into: &mut [u16], other: &[u16])
+    requires { length into.old ≡ length other.now }
+    ensures { (i : ℕ) → i < length other.now → slice_index into.new i
+        ≡ bit_xor (slice_index into.old i) (slice_index other.now i) }
+{
+    for i in 0..other.len() {
+        into[i] ^= other[i];
+    }
+}
+
+/// Adds a multiple of words to as many words. It counts one step for each word, or none where the factor is 0.
+pub(crate) fn add_multiple<L: Ledger>(
+    into: &mut [u16],
+    other: &[u16],
+    by: u16,
+    steps: &mut Steps<L>,
+)
+    requires { length into.old ≡ length other.now }
+    ensures sums { (i : ℕ) → i < length other.now → slice_index into.new i
+        ≡ bit_xor (slice_index into.old i) (gf16.times by (slice_index other.now i)) }
+    ensures cost { steps.new ≤ steps.old + length other.now }
+{
+    if by != 0 {
+        let factors = [Gf16Plain.prepare(by)];
+        let mut at = 0;
+        while at < other.len() {
+            let end = other.len().min(at + MAX_WIDTH);
+            Gf16Plain.add_products(&factors, &other[at..end], &mut into[at..end], steps);
+            at = end;
+        }
+    }
+}
+
+/// Multiplies words. It counts one step for each word, or none where the factor is 1.
+pub(crate) fn multiply<L: Ledger>(words: &mut [u16], by: u16, steps: &mut Steps<L>)
+    ensures products { (i : ℕ) → i < length words.old → slice_index words.new i
+        ≡ gf16.times by (slice_index words.old i) }
+    ensures cost { steps.new ≤ steps.old + length words.old }
+{
+    if by != 1 {
+        let factor = Gf16Plain.prepare(by);
+        let mut at = 0;
+        while at < words.len() {
+            let end = words.len().min(at + MAX_WIDTH);
+            Gf16Plain.scale(&factor, &mut words[at..end], steps);
+            at = end;
+        }
+    }
+}
