@@ -11,14 +11,14 @@ use Rattle.pet_field.specs.Field.{Coding, IsCoding}
 use Rattle.pet_poly.specs.Value.{value}
 use Rattle.pet_rows.specs.Blocks.{columns_of}
 use Rattle.pet_rows.specs.declared.blocks.Block.{Block}
+use Rattle.point_values.proofs.RowAfterRow.{row_within}
 use Rattle.stripe_plan.specs.Layers.{plan_stripes}
 use Rattle.packet_frame.specs.Frame.{IsFrame, text}
 use Rattle.packet_frame.specs.declared.frame.Header.{Header}
 use Rattle.pet_encode.specs.Encoding.{Encoding, frame_of, frames_text, values_at}
-use Rattle.pet_encode.specs.Matrix.{HasRows}
+use Rattle.point_values.specs.Matrix.{HasRows}
 use Rattle.pet_encode.specs.Stored.{IsStored, words_in}
 use Rattle.pet_encode.proofs.Made.{carries}
-use Rattle.pet_encode.proofs.RowLanes.{row_within}
 
 same_map : (xs : List ℕ) → map (λ k. k) xs ≡ xs
 same_map [] = refl

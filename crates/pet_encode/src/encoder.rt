@@ -2,13 +2,12 @@
 ghost use Rattle.std.specs.Prelude.{◌≡◌, ℕ, ◌+◌, ◌*◌, ◌<◌, ◌≤◌, ◌++◌, length, IfOk, OnOk, OnErr};
 ghost use Rattle.packet_frame.specs.Frame.{IsFrame, text};
 ghost use Rattle.pet_encode.specs.Encoding.{IsGroupOf, frame_of, frames_text, values_at};
-ghost use Rattle.pet_encode.specs.Matrix.{HasRows};
 ghost use Rattle.pet_encode.specs.Session.{Session, IsMessage, IsPacketOf};
+ghost use Rattle.point_values.specs.Matrix.{HasRows};
 ghost use Rattle.stripe_plan.specs.Layers.{needs_of, plan_stripes};
 ghost use Rattle.stripe_plan.specs.Sizes.{IsTable};
 
 use crate::laid::{laid_out, plan_blocks};
-use crate::matrix::value_rows;
 use crate::values::{append_elements, elements, stripe_values};
 use packet_frame::{Header, begin_frame, end_frame};
 use pet_base::{MAX_GROUPS, MAX_PACKETS, NoMemory, Steps};
@@ -196,9 +195,8 @@ impl<'f, F: AllValues> Encoder<'f, F> {
     {
         let alloc = *self.laid.allocator();
         let wide = stripes(&self.header.table) as usize;
-        value_rows(
+        self.field.value_rows(
             alloc,
-            self.field,
             &self.blocks,
             &self.laid,
             wide,

@@ -6,7 +6,7 @@
 //! it, and `specs/Session.antt` the packets of a whole session. `packet` appends exactly the text of that frame, counts
 //! exactly one step for each word of the table, and leaves what it appends to as it was where it finds no memory.
 //! `range` appends the frames of a range of numbers, and `all` those of the group, from the values of all stripes at
-//! all their points, which `point_values` gives block by block. The definitions take a field's coding and hold at any
+//! all their points, which `point_values` gives. The definitions take a field's coding and hold at any
 //! width, as do the calls that turn bytes into elements, lay these out in the blocks of a plan, and turn the values of
 //! all stripes into bytes again; an `Encoder` asks for words of two bytes and a point for each packet.
 //! `specs/laws/SessionLaws.antt` says that the list of a session's packets has each of them and nothing else, and that
@@ -16,7 +16,6 @@
 mod cost;
 mod encoder;
 mod laid;
-mod matrix;
 mod values;
 
 pub use cost::group_cost;

@@ -1,38 +1,31 @@
--- Rows of values, one behind another.
-use borrow.Rule.Slice.PartMut.{put_mid}
-use Rattle.std.proofs.Common.{◌≡◌, ℕ, zero, suc, ◌+◌, ◌*◌, ◌/◌, ◌%◌, ◌<◌, ◌≤◌, inl, inr, List, All, length, get_or, sym, ap, ◌∙◌, arith}
+-- Rows of one length, one behind another.
+use borrow.Rule.Slice.PartMut.{put_mid, post_of}
+use Rattle.std.proofs.Common.{◌≡◌, ℕ, inl, inr, ◌+◌, ◌*◌, ◌<◌, ◌≤◌, List, ◌++◌, length, take, drop, map, sym, ap, ◌∙◌, arith}
 use Rattle.std.proofs.lemmas.Bool.{cases_lt}
-use Rattle.std.proofs.lemmas.List.{get_or_default}
-use Rattle.std.proofs.lemmas.Nat.{mul-le, div-add-mod'}
-use Rattle.std.proofs.Math.Nat.{mod-lt}
-use Rattle.pet_rows.proofs.RowPlaces.{place_below}
-use Rattle.pet_rows.proofs.Parts.{part_before, part_inside}
+use Rattle.std.proofs.lemmas.List.{length-take-le, drop-take, take_at, drop_at}
+use Rattle.std.proofs.lemmas.Slice.{take-put_mid_below}
+use Rattle.pet_rows.proofs.RowPlaces.{more_rows, rows_le}
+
+-- a row is within as many rows
+pub row_within : (p count w : ℕ) → p < count → p * w + w ≤ count * w
+row_within p count w l = omega (arith, rows_le (p + 1) count w (omega arith), more_rows p w)
+
+-- the values at an element are those at an equal one
+pub values_at : {E : Type 0} (V : E → List E → E) (x y z : E) (columns : List (List E)) (new : List E) → new ≡ map (V x) columns → x ≡ y → y ≡ z → new ≡ map (V z) columns
+values_at V x y z columns new is first then = is ∙ ap (λ t. map (V t) columns) (first ∙ then)
 
 -- one row more
-pub row_more : {E : Type 0} (d : E) (V : ℕ → ℕ → E) (w p at k : ℕ) (into new : List E) → at ≡ p * w → k ≡ w → at + k ≤ length into → length new ≡ k
-    → ((q c : ℕ) → q < p → c < w → get_or into (q * w + c) d ≡ V q c) → ((c : ℕ) → c < w → get_or new c d ≡ V p c)
-    → (q c : ℕ) → q < p + 1 → c < w → get_or (put_mid at k into new) (q * w + c) d ≡ V q c
-row_more d V w p at k into new place kw room long done row q c l m =
+pub row_more : {E : Type 0} (row : ℕ → List E) (w p at k : ℕ) (into new : List E) → at ≡ p * w → k ≡ w → at + k ≤ length into → length new ≡ k → new ≡ row p
+    → ((q : ℕ) → q < p → take w (drop (q * w) into) ≡ row q) → (q : ℕ) → q < p + 1 → take w (drop (q * w) (put_mid at k into new)) ≡ row q
+row_more row w p at k into new place kw room long is done q l =
     elim (cases_lt q p) [
-      | inl s ↦ part_before d at k into new room long (q * w + c) (rw place (place_below q p w c s m)) ∙ done q c s m
-      | inr s ↦
+      | inl m ↦
+          sym (drop-take (q * w) w (put_mid at k into new))
+          ∙ ap (drop (q * w)) (take-put_mid_below at k into new (q * w + w) (omega (arith, place, row_within q p w m)) (omega arith))
+          ∙ drop-take (q * w) w into ∙ done q m
+      | inr m ↦
           let e : q ≡ p = omega arith in
-          let i : q * w + c ≡ at + c = ap (λ t. t * w + c) e ∙ ap (λ t. t + c) (sym place) in
-          ap (λ t. get_or (put_mid at k into new) t d) i ∙ part_inside d at k into new room long c (omega arith) ∙ row c m ∙ ap (λ t. V t c) (sym e)
+          ap (λ t. take w (drop (t * w) (put_mid at k into new))) e ∙ ap (λ t. take w (drop t (put_mid at k into new))) (sym place)
+          ∙ ap (take w) (drop_at (take at into) (new ++ post_of at k into) at (length-take-le at into (omega arith)))
+          ∙ take_at new (post_of at k into) w (long ∙ kw) ∙ is ∙ ap row (sym e)
     ]
-
--- what holds of each place of each row holds of all elements
-pub all_rows : {E : Type 0} (P : E → Type 0) (d : E) (n w : ℕ) (into : List E) → length into ≡ n * w
-    → ((q c : ℕ) → q < n → c < w → P (get_or into (q * w + c) d)) → All P into
-all_rows P d n zero into long h i e l = absurd (omega (arith, long))
-all_rows P d n (suc w) into long h i e l =
-    let c = i % suc w in
-    let q = i / suc w in
-    let at : q * suc w + c ≡ i = div-add-mod' i (suc w) in
-    let below : c < suc w = mod-lt i {m = suc w} (omega arith) in
-    let row : q < n =
-    elim (cases_lt q n) [
-      | inl m ↦ m
-      | inr m ↦ absurd (omega (arith, at, mul-le n (suc w) q (suc w) m (omega arith)))
-    ] in
-    rw (get_or_default into i e d l ∙ ap (λ k. get_or into k d) (sym at)) (h q c row below)

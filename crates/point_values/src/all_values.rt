@@ -1,54 +1,92 @@
-//! The values of a block at many points.
-ghost use Rattle.std.specs.Prelude.{◌≡◌, ℕ, ◌+◌, ◌*◌, ◌<◌, ◌≤◌, length, All, OnOk, slice_index_or};
+//! The values of all stripes at many points: a row for each point.
+ghost use Rattle.std.specs.Prelude.{◌≡◌, ℕ, ◌+◌, ◌*◌, ◌<◌, ◌≤◌, ◌^◌, length, map, All, IfOk};
 ghost use Rattle.pet_poly.specs.Value.{value};
-ghost use Rattle.pet_rows.specs.Columns.{column};
+ghost use Rattle.pet_rows.specs.Blocks.{columns_of, size_of, width_of};
+ghost use Rattle.point_values.specs.Matrix.{HasRows};
 
 use pet_base::{MAX_PACKETS, NoMemory, Steps};
 use pet_field::Gf16Plain;
-use pet_rows::{Block, MAX_WIDTH, Rows};
+use pet_rows::{Block, MAX_WIDTH, Rows, block_values};
 use pet_tables::Gf16Tables;
 use std::alloc::Global;
 use std::sync::ledger::Ledger;
 
-/// A field that gives the values of all columns of a block at the points of a range of numbers. A field has this call by
-/// rows, point after point; a faster body has the same contract.
+/// A field that gives the values of all stripes at the points of a range of numbers. A field has this call point after point,
+/// by Horner's rule; a faster body has the same contract.
 pub trait AllValues: Rows {
-    /// The values of the columns of `rows`, which are the rows of `block`, at the points of the numbers `first` to
-    /// `first + count - 1`: row p of `into` has those at the point of `first + p`. It counts one step for each product, and
-    /// at most as many as Horner's rule makes. It fails only for want of memory.
-    fn all_values<L: Ledger>(
+    /// The values of all stripes that the blocks keep, of which there are `stripes`, at the points of the numbers `first` to
+    /// `first + count - 1`: a row for each number. It counts at most one step for each word and number, as many as Horner's
+    /// rule has products. It fails only for want of memory.
+    fn value_rows<L: Ledger>(
         &self,
         alloc: Global,
-        rows: &[Self::Elem],
-        block: Block,
+        blocks: &[Block],
+        laid: &[Self::Elem],
+        stripes: usize,
         first: usize,
         count: usize,
-        into: &mut [Self::Elem],
         steps: &mut Steps<L>,
-    ) -> Result<(), NoMemory>
-        requires narrow { block.width ≤ MAX_WIDTH }
-        requires whole { length rows.now ≡ block.length * block.width }
-        requires room { length into.old ≡ count * block.width }
+    ) -> Result<Vec<Self::Elem>, NoMemory>
+        requires narrow { All (λ b. b.width ≤ MAX_WIDTH) blocks.now }
+        requires whole { length laid.now ≡ size_of blocks.now }
+        requires stripes { stripes ≡ width_of blocks.now }
+        requires room { count * stripes < 2 ^ 64 }
+        requires elements { All Self.is_element laid.now }
         requires points { first + count ≤ Self.COUNT }
         requires few { first + count ≤ MAX_PACKETS }
-        requires elements { All Self.is_element rows.now }
-        ensures values { OnOk result ((p c : ℕ) → p < count → c < block.width →
-            slice_index_or into.new (p * block.width + c) Self.coding.ops.nought
-            ≡ value Self.coding.ops (column Self.coding.ops.nought block.width block.length c rows.now) (Self.coding.point_of (first + p))) }
-        ensures elements { OnOk result (All Self.is_element into.new) }
-        ensures cost { steps.new ≤ steps.old + count * length rows.now }
+        ensures rows { IfOk result (λ values. HasRows stripes count
+            (λ p. map (λ s. value Self.coding.ops s (Self.coding.point_of (first + p)))
+            (columns_of Self.coding.ops.nought blocks.now laid.now)) values.items) }
+        ensures cost { steps.new ≤ steps.old + count * length laid.now }
     {
-        let mut at = 0;
-        for p in 0..count {
-            let end = at + block.width;
-            let x = self.prepare(self.point((first + p) as u32));
-            self.values(rows, block.length, &x, &mut into[at..end], steps);
-            at = end;
-        }
-        Ok(())
+        let mut values = vec![in alloc; self.zero(); count * stripes]?;
+        fill_rows(
+            self,
+            blocks,
+            laid,
+            stripes,
+            first,
+            count,
+            &mut values,
+            steps,
+        );
+        Ok(values)
     }
 }
 
 impl AllValues for Gf16Plain {}
 
 impl AllValues for Gf16Tables {}
+
+/// Writes the values of all stripes at these points into the rows, point after point. It counts one step for each word and
+/// number.
+fn fill_rows<F: Rows, L: Ledger>(
+    f: &F,
+    blocks: &[Block],
+    laid: &[F::Elem],
+    stripes: usize,
+    first: usize,
+    count: usize,
+    into: &mut [F::Elem],
+    steps: &mut Steps<L>,
+)
+    requires narrow { All (λ b. b.width ≤ MAX_WIDTH) blocks.now }
+    requires whole { length laid.now ≡ size_of blocks.now }
+    requires stripes { stripes ≡ width_of blocks.now }
+    requires elements { All F.is_element laid.now }
+    requires points { first + count ≤ F.COUNT }
+    requires few { first + count ≤ MAX_PACKETS }
+    requires room { length into.old ≡ count * stripes }
+    ensures rows { HasRows stripes count
+        (λ p. map (λ s. value F.coding.ops s (F.coding.point_of (first + p)))
+        (columns_of F.coding.ops.nought blocks.now laid.now)) into.new }
+    ensures cost { steps.new ≡ steps.old + count * length laid.now }
+{
+    let mut at = 0;
+    for p in 0..count {
+        let end = at + stripes;
+        let x = f.prepare(f.point((first + p) as u32));
+        block_values(f, blocks, laid, &x, &mut into[at..end], steps);
+        at = end;
+    }
+}

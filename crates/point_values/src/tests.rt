@@ -54,7 +54,6 @@ fn values<F: AllValues<Elem = u16>, L: Ledger>(
     block: Block,
     first: usize,
     count: usize,
-    into: &mut [u16],
     steps: &mut Steps<L>,
 ) -> Result<u32, NoMemory>
     requires all { (a : ℕ) → a < 65536 → F.is_element a }
@@ -62,10 +61,9 @@ fn values<F: AllValues<Elem = u16>, L: Ledger>(
     requires narrow { block.width ≤ MAX_WIDTH }
     requires few { first + count ≤ MAX_PACKETS }
     requires whole { length rows.now ≡ block.length * block.width }
-    requires room { length into.old ≡ count * block.width }
 {
-    f.all_values(alloc, rows, block, first, count, into, steps)?;
-    Ok(digest(into))
+    let found = f.value_rows(alloc, &[block], rows, block.width, first, count, steps)?;
+    Ok(digest(&found))
 }
 
 /// The digest of the values of a block of such words.
@@ -88,8 +86,7 @@ fn digest_of_values<F: AllValues<Elem = u16>, L: Ledger>(
 {
     let mut steps = Steps::<L>::new(blank);
     let rows = words(alloc, 7, block.length * block.width)?;
-    let mut into = words(alloc, 0, count * block.width)?;
-    values(alloc, f, &rows, block, first, count, &mut into, &mut steps)
+    values(alloc, f, &rows, block, first, count, &mut steps)
 }
 
 /// The number of the first row of the table whose digest is another, or how many rows there are.
