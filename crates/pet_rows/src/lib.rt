@@ -30,8 +30,3 @@ pub use blocks::{Block, MAX_WIDTH, block_values, push_stripe};
 pub use laid::{lay_out, transpose};
 pub use products::Products;
 pub use rows::Rows;
-
-#[cfg(test)]
-mod fixtures;
-#[cfg(test)]
-mod tests;

@@ -7,7 +7,5 @@
 #![tactic(auto)]
 
 mod tables;
-#[cfg(test)]
-mod tests;
 
 pub use tables::Gf16Tables;

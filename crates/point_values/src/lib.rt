@@ -7,6 +7,3 @@
 mod all_values;
 
 pub use all_values::AllValues;
-
-#[cfg(test)]
-mod tests;

@@ -1,0 +1,26 @@
+//! Tests of the field, of polynomials, of rows and of interpolation: values from outside.
+//!
+//! They run the public calls of `pet_field`, `pet_tables`, `pet_poly`, `pet_rows`, `point_values` and `pet_interp`, as a
+//! caller sees them, a module a crate. They stand apart because the gate proves a crate that has tests twice, once alone and
+//! once whole with its tests: here the second time is the tests' own. `fixtures` is what several of them share. No program
+//! uses this crate.
+#![tactic(auto)]
+
+mod fixtures;
+
+pub use fixtures::{digest, words};
+
+#[cfg(test)]
+mod field_tests;
+#[cfg(test)]
+mod interp_tests;
+#[cfg(test)]
+mod one_by_one;
+#[cfg(test)]
+mod poly_tests;
+#[cfg(test)]
+mod rows_tests;
+#[cfg(test)]
+mod tables_tests;
+#[cfg(test)]
+mod values_tests;
