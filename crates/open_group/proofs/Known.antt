@@ -1,6 +1,6 @@
 -- One stripe of a message is written, or left as it is.
 use Rattle.std.specs.Prelude.{flat_map}
-use Rattle.std.proofs.Common.{◌≡◌, ◌≢◌, ℕ, ◌+◌, ◌-◌, ◌*◌, ◌<◌, ◌≤◌, List, [], ◌++◌, length, get_or, take, drop, All, refl, sym, ap, ◌∙◌, arith, subst, inl, inr}
+use Rattle.std.proofs.Common.{◌≡◌, ◌≢◌, ℕ, ◌+◌, ◌*◌, ◌<◌, ◌≤◌, List, [], ◌++◌, length, get_or, take, drop, All, refl, sym, ap, ◌∙◌, arith, subst, inl, inr}
 use Rattle.std.proofs.lemmas.Bool.{cases_eq}
 use Rattle.std.proofs.Math.Nat.{mul-le-mul_right}
 use Rattle.pet_field.specs.Field.{Coding, AreSpellings}
@@ -11,24 +11,29 @@ use Rattle.stripe_plan.specs.Layers.{needs_of, plan_stripes}
 use Rattle.pet_encode.specs.Payload.{stripes_in}
 use Rattle.open_group.specs.OpenGroup.{stripe_lengths}
 use Rattle.open_group.proofs.Rows.{IsWritten, words_written}
-use Rattle.open_group.proofs.Cuts.{sizes_are, cut_written, cut_other}
+use Rattle.open_group.proofs.Cuts.{plan_on_end, sizes_are, cut_written, cut_other}
 
--- what is done with the stripe `stripe`, which has the words from `at` up to `end`
-pub record IsStep {E : Type 0} (P : E → Type 0) (c : Coding E) (layers : List LayerSize) (held : Held E) (old new : List ℕ) (stripe at end : ℕ) : Type 0 where
+-- what is done with the stripe `stripe`, which has `size` words from `at` on
+pub record IsStep {E : Type 0} (P : E → Type 0) (c : Coding E) (layers : List LayerSize) (held : Held E) (old new : List ℕ) (stripe at size : ℕ) : Type 0 where
   pub lengths : lengths_of held ≡ stripe_lengths layers
   pub inside : stripe < length (plan_stripes layers)
-  pub here : get_or (plan_stripes layers) stripe (0, 0) ≡ (at, end - at)
-  pub begun : at < end
-  pub ended : end ≤ length (needs_of layers)
+  pub here : get_or (plan_stripes layers) stripe (0, 0) ≡ (at, size)
   pub room : length old ≡ length (needs_of layers) * c.width
   pub written : length (stripe_of held stripe) ≡ held.met → All P (stripe_of held stripe)
-      × (new ≡ take (at * c.width) old ++ flat_map c.spelling (stripe_of held stripe) ++ drop (end * c.width) old)
+      × (new ≡ take (at * c.width) old ++ flat_map c.spelling (stripe_of held stripe) ++ drop ((at + size) * c.width) old)
   pub same : length (stripe_of held stripe) ≢ held.met → new ≡ old
 
+-- such a stripe ends inside the message
+pub step_inside : (layers : List LayerSize) (stripe at size : ℕ) → stripe < length (plan_stripes layers) → get_or (plan_stripes layers) stripe (0, 0) ≡ (at, size) → at + size ≤ length (needs_of layers)
+step_inside layers stripe at size inside here =
+    let start : (get_or (plan_stripes layers) stripe (0, 0)).0 ≡ at = ap (λ (p : ℕ × ℕ). p.0) here in
+    let long : (get_or (plan_stripes layers) stripe (0, 0)).1 ≡ size = ap (λ (p : ℕ × ℕ). p.1) here in
+    omega (arith, (plan_on_end layers).inside stripe inside, start, long)
+
 module _ {E : Type 0} (P : E → Type 0) (c : Coding E) (laws : AreSpellings P c.width c.spelt c.spelling) (layers : List LayerSize) (held : Held E) (old new : List ℕ)
-    (stripe at end : ℕ) (s : IsStep P c layers held old new stripe at end) where
-  size : length (stripe_of held stripe) ≡ end - at
-  size = (sizes_are held layers s.lengths).each stripe ∙ ap (λ (p : ℕ × ℕ). p.1) s.here
+    (stripe at size : ℕ) (s : IsStep P c layers held old new stripe at size) where
+  long : length (stripe_of held stripe) ≡ size
+  long = (sizes_are held layers s.lengths).each stripe ∙ ap (λ (p : ℕ × ℕ). p.1) s.here
 
   row_written : length (stripe_of held stripe) ≡ held.met
       → IsWritten (words c.spelt c.width (length (needs_of layers)) old) (words c.spelt c.width (length (needs_of layers)) new) (get_or (plan_stripes layers) stripe (0, 0)).0 (stripe_of held stripe)
@@ -36,12 +41,12 @@ module _ {E : Type 0} (P : E → Type 0) (c : Coding E) (laws : AreSpellings P c
       let w = s.written e in
       let cs = stripe_of held stripe in
       let start : (get_or (plan_stripes layers) stripe (0, 0)).0 ≡ at = ap (λ (p : ℕ × ℕ). p.0) s.here in
-      let ends : at + length cs ≡ end = omega (arith, size, s.begun) in
-      let top : end * c.width ≡ (at + length cs) * c.width = ap (λ n. n * c.width) (sym ends) in
+      let inside : at + size ≤ length (needs_of layers) = step_inside layers stripe at size s.inside s.here in
+      let top : (at + size) * c.width ≡ (at + length cs) * c.width = ap (λ n. (at + n) * c.width) (sym long) in
       let split : (at + length cs) * c.width ≡ at * c.width + length cs * c.width = omega arith in
-      let most : end * c.width ≤ length (needs_of layers) * c.width = mul-le-mul_right c.width s.ended in
+      let most : (at + size) * c.width ≤ length (needs_of layers) * c.width = mul-le-mul_right c.width inside in
       subst (λ a. IsWritten (words c.spelt c.width (length (needs_of layers)) old) (words c.spelt c.width (length (needs_of layers)) new) a cs) (sym start)
-      (words_written P c.width c.spelt c.spelling laws (length (needs_of layers)) at (at * c.width) (end * c.width) cs old new w.0 (omega (arith, ends, s.ended)) refl (top ∙ split) top
+      (words_written P c.width c.spelt c.spelling laws (length (needs_of layers)) at (at * c.width) ((at + size) * c.width) cs old new w.0 (omega (arith, long, inside)) refl (top ∙ split) top
       (omega (arith, most, s.room)) w.1)
 
   pub step_here : length (stripe_of held stripe) ≡ held.met → get_or (stripes_in c layers new) stripe [] ≡ stripe_of held stripe

@@ -2,13 +2,14 @@
 ghost use Rattle.std.specs.Prelude.{◌≡◌, ◌≢◌, ℕ, ◌+◌, ◌*◌, ◌<◌, ◌≤◌, List, [], ◌++◌, length, take, drop, All, slice_index_or};
 ghost use Rattle.std.specs.List.{flat_map};
 ghost use Rattle.stripe_plan.specs.Layers.{needs_of};
+ghost use Rattle.stripe_plan.specs.Sizes.{IsTable};
 ghost use Rattle.pet_interp.specs.Progressive.{StandsFor, stripe_of, lengths_of};
 ghost use Rattle.pet_encode.specs.Payload.{stripes_in};
 ghost use Rattle.open_group.specs.OpenGroup.{stripe_lengths};
 
 use pet_interp::Progress;
 use pet_rows::Rows;
-use stripe_plan::{Table, next_start};
+use stripe_plan::Table;
 
 /// Writes the words of each stripe that is as long as the number of points that were met. Such a stripe has just met the
 /// last point that it needed.
@@ -18,6 +19,7 @@ pub(crate) fn write_known<F: Rows>(
     progress: &Progress<'_, F>,
     message: &mut [u8],
 )
+    requires table { IsTable table.now.packets table.now.layers }
     requires lengths { lengths_of progress.now ≡ stripe_lengths table.now.layers }
     requires stands { (points : List (F.Elem × List F.Elem))
         × StandsFor F.is_element F.coding.ops progress.now points }
@@ -43,6 +45,7 @@ fn write_each_known<F: Rows>(
     progress: &Progress<'_, F>,
     message: &mut [u8],
 )
+    requires table { IsTable table.now.packets table.now.layers }
     requires lengths { lengths_of progress.now ≡ stripe_lengths table.now.layers }
     requires stands { (points : List (F.Elem × List F.Elem))
         × StandsFor F.is_element F.coding.ops progress.now points }
@@ -55,39 +58,33 @@ fn write_each_known<F: Rows>(
     ensures others { (j : ℕ) → j < length progress.now.stripes → length (stripe_of progress.now j) ≢ progress.now.met
         → slice_index_or (stripes_in F.coding table.now.layers message.new) j [] ≡ slice_index_or (stripes_in F.coding table.now.layers message.old) j [] }
 {
-    let words = table.words();
-    let mut at = 0;
-    let mut stripe: usize = 0;
-    while at < words {
-        let end = next_start(table, at);
-        write_if_known(field, progress, stripe, at, end, message);
-        at = end;
-        stripe += 1;
+    for (stripe, (at, size)) in table.plan().enumerate() {
+        write_if_known(field, progress, stripe, at, size, message);
     }
 }
 
-/// Writes the words of one stripe, from the message's word `at` up to `end`, if it is as long as the number of points
-/// that were met.
+/// Writes the words of one stripe, which is so long, from the message's word `at` on, if it is as long as the number of
+/// points that were met.
 fn write_if_known<F: Rows>(
     field: &F,
     progress: &Progress<'_, F>,
     stripe: usize,
     at: u32,
-    end: u32,
+    size: u16,
     message: &mut [u8],
 )
     requires stripe { stripe < length progress.now.stripes }
-    requires size { at + length (stripe_of progress.now stripe) ≡ end }
+    requires size { length (stripe_of progress.now stripe) ≡ size }
     requires stands { (points : List (F.Elem × List F.Elem))
         × StandsFor F.is_element F.coding.ops progress.now points }
-    requires room { end * F.coding.width ≤ length message.old }
+    requires room { (at + size) * F.coding.width ≤ length message.old }
     ensures written { length (stripe_of progress.now stripe) ≡ progress.now.met
         → All F.is_element (stripe_of progress.now stripe) × (message.new ≡ take (at * F.coding.width) message.old
-        ++ flat_map F.coding.spelling (stripe_of progress.now stripe) ++ drop (end * F.coding.width) message.old) }
+        ++ flat_map F.coding.spelling (stripe_of progress.now stripe) ++ drop ((at + size) * F.coding.width) message.old) }
     ensures same { length (stripe_of progress.now stripe) ≢ progress.now.met
         → message.new ≡ message.old }
 {
-    if end - at == progress.met() {
+    if u32::from(size) == progress.met() {
         write_stripe(field, progress.coefficients(stripe), at, message);
     }
 }

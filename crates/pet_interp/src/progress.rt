@@ -118,7 +118,7 @@ impl<'f, F: Rows> Progress<'f, F> {
     }
 
     /// Whether a stripe is as long as the number of points that were met. Such a stripe has just met the last point that
-    /// it needed.
+    /// it needed, or before any point was met has no words and needs none.
     pub fn has_just_enough(&self) -> bool
         ensures some { result ≡ true → (j : ℕ) × (j < length self.now.stripes) × (length (stripe_of self.now j) ≡ self.now.met) }
         ensures none { result ≡ false → (j : ℕ) → j < length self.now.stripes → length (stripe_of self.now j) ≢ self.now.met }

@@ -1,19 +1,18 @@
 //! The lengths line of a plan.
-ghost use Rattle.std.specs.Prelude.{◌≡◌, ℕ, ◌+◌, ◌^◌, ◌<◌, ◌≤◌, ◌↔◌, ◌∷◌, ◌++◌, Some, length, take, slice_get, OnOk, OnErr, IsTrue};
-ghost use Rattle.stripe_plan.specs.Layers.{needs_of};
-ghost use Rattle.plan_text.specs.PlanLines.{lengths_from, plan_lengths, rows_of, row_text, lengths_text};
+ghost use Rattle.std.specs.Prelude.{◌≡◌, ◌+◌, ◌<◌, ◌≤◌, ◌^◌, ◌++◌, ◌∷◌, ℕ, List, length, replicate, take, OnOk, OnErr, IfOk};
+ghost use Rattle.std.specs.List.{flat_map};
+ghost use Rattle.plan_text.specs.PlanLines.{plan_lengths, rows_of, row_text, lengths_text};
 
 use pet_base::NoMemory;
 use std::alloc::Global;
-use stripe_plan::{Table, next_start};
+use stripe_plan::Table;
 
 /// Stripes of a plan on end, all of one length.
 #[derive(Clone, Copy)]
 struct Row {
-    size: u32,
+    /// The length of each, in words.
+    size: u16,
     times: u32,
-    /// The word behind the last of them.
-    end: u32,
 }
 
 /// Appends the lengths line of the table's plan: the word `lengths` and, for each maximal row of equal adjacent stripe
@@ -37,54 +36,43 @@ fn append_line(alloc: Global, table: &Table, into: &mut Vec<u8>) -> Result<(), N
         ++ lengths_text (plan_lengths table.now.layers)) }
     ensures err { OnErr result (take (length into.old.items) into.new.items ≡ into.old.items) }
 {
-    let words = table.words();
     into.extend_from_slice(b"lengths")?;
-    let mut at = 0;
-    while at < words {
-        let row = next_row(table, at);
-        append_row(alloc, row, into)?;
-        at = row.end;
+    let mut row = Row { size: 0, times: 0 };
+    for (_, size) in table.plan() {
+        row = with_stripe(alloc, row, size, into)?;
     }
+    append_row(alloc, row, into)?;
     into.push(b'\n')?;
     Ok(())
 }
 
-/// Appends the length of a row's stripes and how often it stands.
+/// The row that has one stripe more, of this length. Where that is another length, the row before it has ended, and is
+/// appended.
+fn with_stripe(alloc: Global, row: Row, size: u16, into: &mut Vec<u8>) -> Result<Row, NoMemory>
+    requires { row.times + 1 < 2 ^ 32 }
+    ensures text { IfOk result (λ next. (sizes : List ℕ) → into.new.items ++ flat_map row_text (rows_of (replicate next.times next.size ++ sizes))
+        ≡ into.old.items ++ flat_map row_text (rows_of (replicate row.times row.size ++ size ∷ sizes))) }
+    ensures few { IfOk result (λ next. next.times ≤ row.times + 1) }
+    ensures front { take (length into.old.items) into.new.items ≡ into.old.items }
+{
+    if size == row.size {
+        let times = row.times + 1;
+        return Ok(Row { size, times });
+    }
+    append_row(alloc, row, into)?;
+    Ok(Row { size, times: 1 })
+}
+
+/// Appends the length of a row's stripes and how often it stands, and nothing of a row without stripes.
 fn append_row(alloc: Global, row: Row, into: &mut Vec<u8>) -> Result<(), NoMemory>
-    ensures ok { OnOk result (into.new.items ≡ into.old.items ++ row_text (row.size, row.times)) }
+    ensures ok { OnOk result (into.new.items ≡ into.old.items
+        ++ flat_map row_text (rows_of (replicate row.times row.size))) }
     ensures err { OnErr result (into.new.items ≡ into.old.items) }
 {
+    if row.times == 0 {
+        return Ok(());
+    }
     let text = format!(in alloc; " {}x{}", row.size, row.times)?;
     into.extend_from_slice(text.as_bytes())?;
     Ok(())
-}
-
-/// The row from the word `at` on, where a stripe begins. It ends before a stripe of another length, or with the plan.
-fn next_row(table: &Table, at: u32) -> Row
-    requires { at < length (needs_of table.now.layers) }
-    ensures row { rows_of (lengths_from table.now.layers at)
-        ≡ (result.size, result.times) ∷ rows_of (lengths_from table.now.layers result.end) }
-    ensures some { at < result.end }
-    ensures inside { result.end ≤ length (needs_of table.now.layers) }
-{
-    let mut end = next_start(table, at);
-    let size = end - at;
-    let mut times = 1;
-    while has_stripe(table, end, size) {
-        end += size;
-        times += 1;
-    }
-    Row { size, times, end }
-}
-
-/// Whether the plan has a stripe of this size from the word `at` on, where a stripe or nothing begins.
-fn has_stripe(table: &Table, at: u32, size: u32) -> bool
-    requires { at ≤ length (needs_of table.now.layers) }
-    ensures first { IsTrue result ↔ (slice_get (lengths_from table.now.layers at) 0 ≡ Some size) }
-    ensures next { IsTrue result → lengths_from table.now.layers at
-        ≡ size ∷ lengths_from table.now.layers (at + size) }
-    ensures inside { IsTrue result → at + size ≤ length (needs_of table.now.layers) }
-    ensures fits { IsTrue result → at + size < 2 ^ 32 }
-{
-    at < table.words() && next_start(table, at) - at == size
 }

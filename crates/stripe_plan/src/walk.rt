@@ -7,8 +7,7 @@ ghost use Rattle.stripe_plan.specs.Walk.{stripes_left, IsWithin};
 use crate::Table;
 use crate::plan::next_start;
 
-/// The stripes of a table's plan in order: the first word of each, and its length in words. It takes no memory, and a step
-/// a stripe.
+/// The stripes of a table's plan in order: the first word of each, and its length in words.
 #[derive(Drop)]
 pub struct PlanStripes<'t> {
     table: &'t Table,
