@@ -24,8 +24,8 @@ use Rattle.pet_field.specs.Gf16.{gf16_coding}
 use Rattle.met_packets.specs.Gf16.{HasKeptIn, IsArrivalText, IsLayersText, IsTextAt}
 use Rattle.met_packets.specs.LayersText.{order_after, order_after_all}
 use Rattle.command_files.specs.Outputs.{Puts}
-use Rattle.command_receive.specs.Receives.{AreFirst, HaveLeft}
-use Rattle.command_receive.specs.SoFar.{SoFar, HasReceived, CameFirst, PartSoFar, WholeSoFar, StoppedSoFar, PartOfOne, LinkReceives}
+use Rattle.command_receive.specs.Receives.{AreFirst}
+use Rattle.command_receive.specs.SoFar.{SoFar, HasReceived, CameFirst, PartSoFar, StoppedSoFar, PartOfOne, LinkReceives}
 use Rattle.met_packets.specs.Steps.{steps_of, steps_of_all}
 use Rattle.command_files.specs.laws.OutputLaws.{puts_nothing}
 use Rattle.met_packets.specs.laws.DatagramAtEnd.{order_push, steps_push, text_nothing, text_push}

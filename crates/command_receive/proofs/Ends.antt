@@ -1,5 +1,5 @@
 -- What each end tells, by the line that was printed.
-use Rattle.std.proofs.Common.{◌≡◌, ◌≢◌, ℕ, ◌<◌, ◌≤◌, Bool, true, false, List, ◌++◌, length, take, Option, refl, sym, ap, subst, ◌∙◌, arith, inl, inr}
+use Rattle.std.proofs.Common.{◌≡◌, ◌≢◌, ℕ, ◌<◌, ◌≤◌, Bool, true, false, List, ◌++◌, length, take, Option, sym, ap, subst, ◌∙◌, arith, inr}
 use Rattle.std.specs.Io.KnownBytes.{append_known}
 use Rattle.pet_base.specs.declared.limits.TheConstants.{MAX_DATAGRAMS}
 use Rattle.pet_base.specs.LinkSeen.{LinkSeen}

@@ -1,5 +1,5 @@
 -- What was read of FROM and written to the other files, seen from before FROM was opened.
-use Rattle.std.proofs.Common.{◌≡◌, ◌⊎◌, ℕ, ◌<◌, ◌≤◌, Bool, List, [], ◌∷◌, ◌++◌, length, Option, None, Some, refl, sym, ap, subst, ◌∙◌, arith, inl, inr}
+use Rattle.std.proofs.Common.{◌≡◌, ◌⊎◌, ℕ, ◌<◌, ◌≤◌, Bool, List, [], ◌∷◌, length, Option, None, Some, refl, sym, ap, subst, ◌∙◌, arith, inl, inr}
 use Rattle.std.specs.Prelude.{IfSome, IsSome, IsTrue, ◌↔◌, option_map}
 use Rattle.std.specs.Io.KnownBytes.{append_known}
 use Rattle.std.proofs.lemmas.List.{append-nil}
@@ -19,9 +19,9 @@ use Rattle.pet_receive.specs.ShownBytes.{IsComplete, shown_in_all}
 use Rattle.met_packets.specs.Kept.{nothing_of}
 use Rattle.pet_text.specs.Lines.{bound_text}
 use Rattle.command_receive.specs.Numbers.{AreTotals}
-use Rattle.command_receive.specs.Opened.{Begun, Opened, OnlyOpens, IsBoundTo, KeepsLink, PrintedPort}
+use Rattle.command_receive.specs.Opened.{Begun, Opened, IsBoundTo, KeepsLink, PrintedPort}
 use Rattle.store_merge.specs.Files.{HasFile, store_file}
-use Rattle.command_receive.specs.Receives.{AreRead, AreFirst, HaveLeft, IsRead, IsReadFirst, layers_file, kept_file, Reads, ReadsFront, StoresFront, ReadsUntilFault, LeavesFront}
+use Rattle.command_receive.specs.Receives.{AreRead, AreFirst, HaveLeft, IsRead, IsReadFirst, layers_file, kept_file, Reads, ReadsUntilFault, LeavesFront}
 use Rattle.command_receive.specs.SoFar.{HasReceived, CameFirst, PartSoFar, WholeSoFar, LinkReceives}
 
 none_some : {A : Type 0} (x : A) → None ≡ Some x → ⊥

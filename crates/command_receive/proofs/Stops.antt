@@ -1,15 +1,14 @@
 -- What a command leaves that stops early, by where it stops.
-use Rattle.std.proofs.Common.{◌≡◌, ◌⊎◌, ℕ, ◌≤◌, List, [], ◌∷◌, Option, None, Some, refl, sym, ap, subst, ◌∙◌, arith, inl, inr}
+use Rattle.std.proofs.Common.{◌≡◌, ◌⊎◌, ℕ, ◌≤◌, List, [], ◌∷◌, Option, None, Some, sym, ap, subst, ◌∙◌, arith, inl, inr}
 use Rattle.std.specs.Prelude.{IfSome, option_map, Result, Ok, Err, IfErr, IsErrAnd}
-use Rattle.pet_base.specs.Causes.{Blames, BlameOn}
+use Rattle.pet_base.specs.Causes.{Blames}
 use Rattle.pet_base.specs.declared.faults.Stop.{Stop}
 use Rattle.pet_base.specs.declared.faults.Stop.TheVariants as place
-use Rattle.pet_base.specs.declared.link.LinkSide.{LinkSide}
 use Rattle.pet_base.specs.declared.link.LinkSide.TheVariants.{Bound}
 use Rattle.pet_base.specs.declared.place.Side.TheVariants.{Read, Written}
-use Rattle.pet_base.specs.LinkSeen.{LinkSeen, HadFault as HadLinkFault, Blame as LinkBlame}
+use Rattle.pet_base.specs.LinkSeen.{LinkSeen, Blame as LinkBlame}
 use Rattle.pet_base.specs.OutsideSeen.{OutsideSeen}
-use Rattle.pet_base.specs.Seen.{Seen, Blame, Files, Names, HadFault}
+use Rattle.pet_base.specs.Seen.{Blame, HadFault}
 use Rattle.pet_base.specs.laws.SeenLaws.{HadFault-since, Blames-named}
 use Rattle.command_files.specs.Inputs.{Licensed}
 use Rattle.command_files.specs.Uses.{writing, IsOneOf, Failed}

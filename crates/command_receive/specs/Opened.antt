@@ -1,6 +1,6 @@
 -- FROM as it is begun, and LAYERS as it is made. This project's own.
-use Rattle.std.specs.Prelude.{ℕ, ◌≡◌, ◌⊎◌, ◌≤◌, List, [], ◌∷◌, true, option_map, IfSome, IsSome}
-use Rattle.pet_base.specs.Seen.{Seen, Blame, Names, HadFault, bytes_at, with_file}
+use Rattle.std.specs.Prelude.{ℕ, ◌≡◌, ◌⊎◌, ◌≤◌, List, [], true, option_map, IfSome, IsSome}
+use Rattle.pet_base.specs.Seen.{Blame, Names, HadFault, bytes_at, with_file}
 use Rattle.pet_base.specs.LinkSeen.{LinkSeen, OnlyBinds}
 use Rattle.pet_base.specs.OutsideSeen.{OutsideSeen}
 use Rattle.command_files.specs.Printed.{Printed, Unprinted, PrintedFront}

@@ -1,6 +1,6 @@
 -- What stands in the output while datagrams are read: the text of those read so far, or a front of it. This project's
 -- own. No list of datagrams is stored.
-use Rattle.std.specs.Prelude.{◌≡◌, ◌⊎◌, ℕ, ◌+◌, ◌<◌, ◌≤◌, List, [], ◌++◌, length, Option, IfSome}
+use Rattle.std.specs.Prelude.{◌≡◌, ◌⊎◌, ℕ, ◌+◌, ◌<◌, ◌≤◌, List, [], length, Option, IfSome}
 use Rattle.pet_base.specs.declared.limits.TheConstants.{MAX_DATAGRAMS}
 use Rattle.pet_base.specs.Causes.{Blames}
 use Rattle.pet_base.specs.declared.place.Side.TheVariants.{Read, Written}
@@ -8,7 +8,7 @@ use Rattle.pet_base.specs.Seen.{Seen, Blame}
 use Rattle.pet_base.specs.LinkSeen.{LinkSeen, OnlyReceives}
 use Rattle.command_files.specs.Outputs.{IsPrefix, Puts, PutsPart}
 use Rattle.datagram_route.specs.Way.{Way, OnFile, OnLink}
-use Rattle.datagram_route.specs.Coming.{coming, HaveCome}
+use Rattle.datagram_route.specs.Coming.{HaveCome}
 use Rattle.datagram_route.specs.declared.fault.RouteStop.{RouteStop}
 use Rattle.datagram_route.specs.declared.fault.RouteStop.TheVariants as stop
 use Rattle.pet_receive.specs.Arrivals.{ReceiverState, kept_set}

@@ -1,6 +1,6 @@
 -- Stores of one session are merged, from what each end tells.
-use Rattle.std.proofs.Common.{◌≡◌, ℕ, ◌≤◌, Bool, List, [], ◌∷◌, ◌++◌, length, Option, None, Some, Result, Ok, Err, refl, sym, ap, subst, ◌∙◌, inl, inr}
-use Rattle.std.specs.Prelude.{option_map, IfSome, if◌then◌else◌}
+use Rattle.std.proofs.Common.{◌≡◌, ℕ, List, [], ◌∷◌, ◌++◌, length, Option, None, Some, refl, sym, ap, ◌∙◌, inl, inr}
+use Rattle.std.specs.Prelude.{option_map, IfSome}
 use Rattle.std.specs.Io.KnownBytes.{append_known}
 use Rattle.pet_base.specs.declared.limits.TheConstants.{MAX_SESSION}
 use Rattle.pet_base.specs.OutsideSeen.{OutsideSeen}
@@ -8,12 +8,12 @@ use Rattle.pet_base.specs.Seen.{Seen, Files, Blame, HadFault, with_file}
 use Rattle.command_files.specs.Printed.{Printed}
 use Rattle.command_files.specs.Uses.{reading, writing, Failed}
 use Rattle.command_files.specs.Wrote.{with_files}
-use Rattle.pet_encode.specs.Session.{Session, IsSession, Fits}
+use Rattle.pet_encode.specs.Session.{Session}
 use Rattle.pet_field.specs.Gf16.{gf16_coding}
 use Rattle.packet_frame.specs.Frame.{Fields}
-use Rattle.pet_receive.specs.KeptSet.{KeptSet, cost_kept, kept_in_all}
+use Rattle.pet_receive.specs.KeptSet.{KeptSet, kept_in_all}
 use Rattle.pet_receive.specs.laws.FramesLaws.{frames_many}
-use Rattle.pet_receive.specs.Union.{union, absorb_fault, frames_in}
+use Rattle.pet_receive.specs.Union.{union, absorb_fault}
 use Rattle.pet_receive.specs.declared.union.Absorb.{Absorb}
 use Rattle.pet_receive.specs.declared.union.Absorb.TheVariants as absorb
 use Rattle.store_merge.specs.Files.{store_file}

@@ -1,23 +1,23 @@
 -- The layers that a layers text names are those that are shown, each once.
 use Rattle.std.proofs.Common.{◌≡◌, ◌≢◌, ◌⊎◌, ℕ, zero, suc, ◌+◌, ◌<◌, ◌≤◌, Bool, true, false, cond, List, [], ◌∷◌, ◌++◌, length, map, Option, None, Some, refl, sym, ap, subst, ◌∙◌, append_assoc, arith, inl, inr}
-use Rattle.std.proofs.lemmas.Bool.{cases_Bool, cases_lt, cases_eq}
-use Rattle.std.specs.Prelude.{◌↔◌, Contains, MatchOption, filter, max, unwrap_or, option_map}
+use Rattle.std.proofs.lemmas.Bool.{cases_lt, cases_eq}
+use Rattle.std.specs.Prelude.{Contains, MatchOption, filter, unwrap_or, option_map}
 use Rattle.std.specs.List.{range_with_len}
 use Rattle.stripe_plan.specs.Counts.{longest_meeting}
 use Rattle.stripe_plan.specs.Layers.{count_of, plan_stripes, words_before}
 use Rattle.stripe_plan.specs.declared.layer.LayerSize.{LayerSize}
-use Rattle.packet_frame.specs.Frame.{Fields, IsFrame}
+use Rattle.packet_frame.specs.Frame.{Fields}
 use Rattle.packet_frame.specs.Refusals.{fields_of, first_fault}
 use Rattle.packet_frame.specs.declared.frame.Header.{Header}
 use Rattle.packet_frame.specs.laws.Laws.{reads_frames}
 use Rattle.packet_set.specs.Packets.{Packets}
 use Rattle.pet_field.specs.Field.{Coding}
 use Rattle.pet_receive.specs.Arrivals.{Order, layers_of}
-use Rattle.pet_receive.specs.KeptSet.{KeptSet, IsKeptSet, keep, open_group, group_with, header_of, count_in, count_kept}
+use Rattle.pet_receive.specs.KeptSet.{KeptSet, IsKeptSet, keep, open_group, group_with, count_in, count_kept}
 use Rattle.pet_receive.specs.ShownBytes.{IsShown, IsShownIn}
-use Rattle.pet_receive.specs.Verdicts.{verdict_of, frame_verdict, is_kept, newly_shown, shown_between, after, after_all}
+use Rattle.pet_receive.specs.Verdicts.{verdict_of, is_kept, newly_shown, after, after_all}
 use Rattle.pet_receive.specs.laws.KeptSetLaws.{IsKeepable, keepable, open_here, open_other, header_with, count_with, verdict_read, after_kept, after_other, after_sound, empty_sound}
-use Rattle.pet_receive.specs.laws.LayerSetLaws.{IsNewlyShown, filter_more, newly_shown-is}
+use Rattle.pet_receive.specs.laws.LayerSetLaws.{filter_more, newly_shown-is}
 use Rattle.met_packets.specs.Kept.{nothing_of, kept_of}
 use Rattle.met_packets.specs.LayersText.{AreRecords, IsArrivalText, IsLayersText, order_after, record_text, shown_by}
 use Rattle.met_packets.specs.Gf16 as G

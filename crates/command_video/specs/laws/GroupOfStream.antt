@@ -1,5 +1,5 @@
 -- The video of a group of the session of a stream: the bytes of the stream of its runs in the layers that lead.
-use Rattle.std.proofs.Common.{◌≡◌, cond, ℕ, zero, suc, ◌+◌, ◌-◌, ◌<◌, ◌≤◌, ◌^◌, true, false, Bool, List, [], ◌∷◌, length, get_or, map, Some, All, refl, sym, ap, subst, ◌∙◌, arith, inl, inr}
+use Rattle.std.proofs.Common.{◌≡◌, cond, ℕ, zero, suc, ◌<◌, ◌≤◌, ◌^◌, true, false, Bool, List, [], ◌∷◌, length, get_or, map, Some, All, refl, sym, ap, subst, ◌∙◌, arith, inl, inr}
 use Rattle.std.specs.Prelude.{nat_lt, slice_get, option_map}
 use Rattle.std.specs.List.{filter, flat_map, range_with_len}
 use Rattle.std.proofs.lemmas.Bool.{le-ltb}
@@ -9,7 +9,6 @@ use Rattle.std.proofs.lemmas.List.Elements.{All-map, All-get_or}
 use Rattle.std.proofs.lemmas.List.FromFn.{length-map-range_with_len, get_or-map-range_with_len}
 use Rattle.std.proofs.lemmas.Option.{slice_get-map, slice_get_within, get_or_from_slice_get}
 use Rattle.pet_base.specs.declared.limits.TheConstants.{MAX_SESSION}
-use Rattle.mpeg_scan.specs.declared.piece.Piece.{Piece}
 use Rattle.mpeg_scan.specs.declared.refusal.Scan.TheVariants.{TooLong}
 use Rattle.mpeg_scan.specs.Pieces.{pieces_of}
 use Rattle.mpeg_scan.specs.Refusals.{max_stream}
@@ -21,14 +20,11 @@ use Rattle.layer_split.specs.declared.cut.Run.{Run}
 use Rattle.layer_split.specs.Groups.{groups_of}
 use Rattle.layer_split.specs.Layers.{Cut, cut_of, lengths_of, layer_length, bytes_of_run}
 use Rattle.layer_split.specs.RunTable.{fits}
-use Rattle.layer_split.specs.laws.CutLaws.{StandsIn}
 use Rattle.group_cutter.specs.laws.StandingLaws.{groups_stand}
 use Rattle.pet_field.specs.Gf16.{gf16_coding}
 use Rattle.packet_set.specs.Packets.{Packets}
 use Rattle.pet_encode.specs.Session.{Session, SessionGroup, IsSession, bytes_of_layer}
-use Rattle.pet_receive.specs.Arrivals.{layers_of}
 use Rattle.pet_receive.specs.KeptSet.{KeptSet, open_group}
-use Rattle.pet_receive.specs.ShownBytes.{IsShown}
 use Rattle.met_packets.specs.Met.{Pair}
 use Rattle.met_packets.specs.laws.SetOfPairs.{IsMetSet}
 use Rattle.reassemble.specs.Leading.{AreShownBytes}
@@ -36,14 +32,13 @@ use Rattle.reassemble.specs.Video.{group_video}
 use Rattle.reassemble.specs.laws.TableFits.{CanBeNamed}
 use Rattle.reassemble.specs.laws.WholeVideo.{group_named}
 use Rattle.reassemble.specs.laws.MessageLayers.{message_fits, video_of_message}
-use Rattle.reassemble.proofs.Layers.{shown_in}
 use Rattle.stream_session.specs.Accepted.{IsAcceptedSession, group_of, session_of}
 use Rattle.stream_session.specs.Tables.{sizes_with, cuts_of_stream}
 use Rattle.stream_session.specs.laws.SessionLaws.{layers_named}
 use Rattle.stream_session.specs.laws.SessionOfLaws.{accepted_lawful, is_session}
 use Rattle.command_video.specs.StoreVideo.{IsGroupVideo, HasBadTable, numbers_in}
 use Rattle.command_video.specs.StreamVideo.{leading_shown, cut_video}
-use Rattle.command_video.specs.laws.MetGroups.{shown_to, leading_is, none_leading, layers_are, shown_bytes_are, group_in}
+use Rattle.command_video.specs.laws.MetGroups.{shown_to, leading_is, none_leading, layers_are, shown_bytes_are}
 
 -- no layer, no bytes
 pub nothing_cut : (stream : List ℕ) (cut : Cut) → cut_video stream 0 cut ≡ []

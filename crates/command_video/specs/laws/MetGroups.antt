@@ -22,7 +22,7 @@ use Rattle.pet_encode.specs.Session.{Session, SessionGroup, IsSession, IsSession
 use Rattle.pet_encode.specs.laws.SessionLaws.{packets_are}
 use Rattle.pet_receive.specs.Arrivals.{layers_of}
 use Rattle.pet_receive.specs.KeptSet.{KeptSet, open_group, count_in}
-use Rattle.pet_receive.specs.ShownBytes.{IsShown, IsShownIn, IsShownBytes, Agrees}
+use Rattle.pet_receive.specs.ShownBytes.{IsShown, IsShownIn, IsShownBytes}
 use Rattle.pet_receive.specs.Union.{frames_in}
 use Rattle.open_group.proofs.Agreement.{agreed_bytes}
 use Rattle.met_packets.specs.Met.{Pair, has_pair, distinct_met, shows}

@@ -1,6 +1,6 @@
 -- What callers know of the bytes of a stream that are shown: they are those of its pieces in the layers that lead, in their order. This
 -- project's own.
-use Rattle.std.proofs.Common.{◌≡◌, ℕ, ◌+◌, ◌≤◌, Bool, true, false, cond, List, [], ◌∷◌, ◌++◌, length, map, take, drop, All, refl, sym, ap, subst, ◌∙◌, arith, inl, inr, take-add, drop-drop}
+use Rattle.std.proofs.Common.{◌≡◌, ℕ, ◌+◌, Bool, true, false, cond, List, [], ◌∷◌, ◌++◌, length, map, take, drop, All, refl, sym, ap, subst, ◌∙◌, arith, inl, inr, take-add, drop-drop}
 use Rattle.std.specs.Prelude.{◌==◌, nat_lt}
 use Rattle.std.specs.List.{filter, flat_map, enumerate_from}
 use Rattle.std.proofs.lemmas.Bool.{cases_Bool, cond-true, cond-false, eqb-true}
@@ -14,8 +14,8 @@ use Rattle.priority_file.specs.Refusals.{priorities_of}
 use Rattle.layer_split.specs.declared.cut.Run.{Run}
 use Rattle.layer_split.specs.Groups.{groups_of}
 use Rattle.layer_split.specs.Layers.{Cut, cut_of, bytes_of_run}
-use Rattle.layer_split.specs.Places.{Placed, placed, placed_at, placed_behind}
-use Rattle.layer_split.specs.Runs.{run_of, runs_of, both, joined_from}
+use Rattle.layer_split.specs.Places.{placed, placed_at, placed_behind}
+use Rattle.layer_split.specs.Runs.{run_of, both, joined_from}
 use Rattle.layer_split.specs.laws.CutLaws.{StandsIn}
 use Rattle.group_cutter.specs.laws.StandingLaws.{groups_stand}
 use Rattle.reassemble.specs.laws.RunsOnEnd.{AreOnEnd}

@@ -1,5 +1,5 @@
 -- The store of a session of a stream gives the bytes of the stream that are shown, by what `video` does.
-use Rattle.std.proofs.Common.{◌≡◌, ℕ, ◌<◌, ◌≤◌, List, [], ◌∷◌, length, Option, None, Some, refl, sym, ap, subst, ◌∙◌, arith, inl, inr}
+use Rattle.std.proofs.Common.{◌≡◌, ℕ, ◌<◌, List, [], ◌∷◌, length, Option, Some, refl, ap, subst, ◌∙◌, arith, inl, inr}
 use Rattle.std.specs.Prelude.{option_map}
 use Rattle.std.specs.Io.KnownBytes.{append_known}
 use Rattle.pet_base.specs.OutsideSeen.{OutsideSeen}
@@ -19,7 +19,6 @@ use Rattle.stream_session.specs.Accepted.{session_of}
 use Rattle.stream_session.specs.laws.SessionOfLaws.{is_session, session_fits}
 use Rattle.pet_text.specs.Lines.{video_text}
 use Rattle.command_video.specs.StoreVideo.{AreVideos, HasBadTable}
-use Rattle.command_video.specs.StreamVideo.{stream_video}
 use Rattle.command_video.specs.Videos.{FailedInTurn, WritesVideo, StopsAtTable, EndsVideo, Videos, video_file}
 use Rattle.command_video.specs.VideosSession.{HasStoreOf, CanVideo, VideosSession, CompletesVideo}
 use Rattle.command_video.specs.laws.WholeStream.{whole_stream}

@@ -1,5 +1,5 @@
 -- The videos of all groups of the store of a session of a stream: the bytes of the stream that are shown, and no bad table.
-use Rattle.std.proofs.Common.{◌≡◌, ℕ, suc, ◌+◌, ◌<◌, ◌≤◌, List, [], ◌∷◌, ◌++◌, length, map, get_or, Some, All, refl, sym, ap, subst, ◌∙◌, arith}
+use Rattle.std.proofs.Common.{◌≡◌, ℕ, suc, ◌+◌, ◌<◌, List, [], ◌∷◌, ◌++◌, length, get_or, Some, All, refl, sym, ap, subst, ◌∙◌, arith}
 use Rattle.std.specs.Prelude.{slice_get, unwrap_or, option_map, MatchOption}
 use Rattle.std.specs.List.{concat, flat_map, enumerate_from}
 use Rattle.std.specs.Ordering.{nat_cmp}
@@ -25,7 +25,7 @@ use Rattle.stream_session.specs.Accepted.{IsAcceptedSession, group_of, session_o
 use Rattle.stream_session.specs.Tables.{cuts_of_stream}
 use Rattle.stream_session.specs.laws.SessionOfLaws.{is_session}
 use Rattle.command_video.specs.StoreVideo.{AreVideos, HasBadTable}
-use Rattle.command_video.specs.StreamVideo.{leading_shown, cut_video, shown_video, stream_video}
+use Rattle.command_video.specs.StreamVideo.{cut_video, shown_video, stream_video}
 use Rattle.command_video.specs.laws.MetGroups.{none_leading}
 use Rattle.command_video.specs.laws.GroupOfStream.{nothing_cut, video_is, no_bad_table}
 

@@ -5,8 +5,8 @@ use Rattle.datagram_route.specs.Way.{way_of}
 use Rattle.datagram_route.specs.Coming.{coming}
 use Rattle.pet_receive.specs.KeptSet.{KeptSet}
 use Rattle.command_receive.specs.SoFar.{HasReceived, StoppedSoFar}
-use Rattle.command_receive.proofs.FilesRead.{reads_with_totals, port_printed, link_kept, still_bound, begun_bound}
-use Rattle.command_receive.proofs.Stops.{all_bound_where_stopped, stopped_opening, stopped_reading, stopped_storing}
+use Rattle.command_receive.proofs.FilesRead.{reads_with_totals, port_printed, still_bound, begun_bound}
+use Rattle.command_receive.proofs.Stops.{all_bound_where_stopped, stopped_reading, stopped_storing}
 use Rattle.command_receive.proofs.reading.read_all.Goals as goal
 
 pub returns-in_err-read-clause-stop : goal.returns-in_err-read-clause-stop

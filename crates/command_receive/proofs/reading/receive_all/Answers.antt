@@ -1,11 +1,11 @@
 use Rattle.std.proofs.Common.{◌+◌, ◌∙◌, arith, refl, subst}
 use Rattle.datagram_route.specs.Way.{way_of}
 use Rattle.datagram_route.specs.Coming.{coming, TakesDatagram}
-use Rattle.datagram_route.specs.RouteFaults.{stop_of_place, stop_of_route}
+use Rattle.datagram_route.specs.RouteFaults.{stop_of_place}
 use Rattle.pet_base.specs.laws.SeenLaws.{KeepsNames-same, KeepsNames-then, OnlyReads-KeepsNames, OnlyWrites-KeepsNames}
 use Rattle.pet_receive.specs.Arrivals.{kept_set}
 use Rattle.command_receive.specs.SoFar.{StoppedSoFar}
-use Rattle.command_receive.proofs.DatagramsSoFar.{so_far_start, so_far_more, received_all, stopped_so_far, stopped_at_one, input_kept, receives_nothing, receives_more, put_since}
+use Rattle.command_receive.proofs.DatagramsSoFar.{so_far_start, so_far_more, stopped_at_one, input_kept, receives_nothing, receives_more, put_since}
 use Rattle.command_receive.proofs.Stops.{stop_is}
 use Rattle.command_receive.proofs.reading.receive_all.Goals as goal
 
