@@ -11,8 +11,8 @@ use pet_interp::Progress;
 use pet_rows::Rows;
 use stripe_plan::Table;
 
-/// Writes the words of each stripe that is as long as the number of points that were met. Such a stripe has just met the
-/// last point that it needed.
+/// Writes the words of each stripe that is as long as the number of points that were met. Once a point was met, such a
+/// stripe has just met the last point that it needed.
 pub(crate) fn write_known<F: Rows>(
     field: &F,
     table: &Table,
@@ -32,32 +32,9 @@ pub(crate) fn write_known<F: Rows>(
     ensures others { (j : ℕ) → j < length progress.now.stripes → length (stripe_of progress.now j) ≢ progress.now.met
         → slice_index_or (stripes_in F.coding table.now.layers message.new) j [] ≡ slice_index_or (stripes_in F.coding table.now.layers message.old) j [] }
 {
-    if progress.has_just_enough() {
-        write_each_known(field, table, progress, message);
+    if !progress.has_just_enough() {
+        return;
     }
-}
-
-/// Writes the words of each stripe that is as long as the number of points that were met, and asks each stripe for its
-/// length.
-fn write_each_known<F: Rows>(
-    field: &F,
-    table: &Table,
-    progress: &Progress<'_, F>,
-    message: &mut [u8],
-)
-    requires table { IsTable table.now.packets table.now.layers }
-    requires lengths { lengths_of progress.now ≡ stripe_lengths table.now.layers }
-    requires stands { (points : List (F.Elem × List F.Elem))
-        × StandsFor F.is_element F.coding.ops progress.now points }
-    requires room { length message.old ≡ length (needs_of table.now.layers) * F.coding.width }
-    requires bytes { All (λ b. b < 256) message.old }
-    ensures room { length message.new ≡ length message.old }
-    ensures bytes { All (λ b. b < 256) message.new }
-    ensures known { (j : ℕ) → j < length progress.now.stripes → length (stripe_of progress.now j) ≡ progress.now.met
-        → slice_index_or (stripes_in F.coding table.now.layers message.new) j [] ≡ stripe_of progress.now j }
-    ensures others { (j : ℕ) → j < length progress.now.stripes → length (stripe_of progress.now j) ≢ progress.now.met
-        → slice_index_or (stripes_in F.coding table.now.layers message.new) j [] ≡ slice_index_or (stripes_in F.coding table.now.layers message.old) j [] }
-{
     for (stripe, (at, size)) in table.plan().enumerate() {
         write_if_known(field, progress, stripe, at, size, message);
     }

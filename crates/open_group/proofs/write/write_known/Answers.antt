@@ -1,4 +1,4 @@
-use Rattle.std.proofs.Common.{◌≡◌, ℕ, ◌+◌, ◌-◌, ◌*◌, ◌<◌, ◌≤◌, [], length, get_or, drop, refl, sym, ap, subst, ◌∙◌, inl, arith}
+use Rattle.std.proofs.Common.{◌≡◌, ℕ, ◌+◌, ◌-◌, ◌*◌, ◌<◌, ◌≤◌, [], length, drop, refl, sym, ap, subst, ◌∙◌, inl, arith}
 use Rattle.std.proofs.Math.Nat.{mul-le-mul_right}
 use Rattle.std.proofs.lemmas.List.{length-drop}
 use Rattle.std.proofs.lemmas.List.Elements.{All-from_get_or}
@@ -6,32 +6,31 @@ use Rattle.std.specs.Iterator.Adapters.{enumerate_source, enumerate_count}
 use Rattle.stripe_plan.specs.Layers.{needs_of, plan_stripes}
 use Rattle.stripe_plan.specs.Walk.{stripes_left, IsWithin}
 use Rattle.stripe_plan.proofs.PlanLemmas.{length-plan_stripes}
-use Rattle.open_group.proofs.Cuts.{next_from, sizes_are}
-use Rattle.open_group.proofs.Known.{IsStep, step_inside, step_known, step_others}
-use Rattle.open_group.proofs.write.write_each_known.Goals as goal
+use Rattle.open_group.proofs.Cuts.{sizes_are}
+use Rattle.open_group.proofs.Known.{IsStep, taken, step_known, step_others}
+use Rattle.open_group.proofs.write.write_known.Goals as goal
 
 pub write_if_known-requires-clause-stripe : goal.write_if_known-requires-clause-stripe
 write_if_known-requires-clause-stripe g c =
     let layers = c.args.table.now.layers in
     let took = c.in-Some.ensures.steps in
-    let next = next_from (plan_stripes layers) (enumerate_count c.loop-stripe.stripe-iterator) (0, 0) (c.in-Some.at, c.in-Some.size) (stripes_left (enumerate_source c.next.new.self)) (sym c.loop-stripe.invariant.rest ∙ took.0) in
-    omega (arith, (sizes_are c.args.progress.now layers c.requires.lengths).count, next.inside, took.1)
+    let now = taken layers (enumerate_count c.loop-stripe.stripe-iterator) c.in-Some.stripe c.in-Some.at c.in-Some.size _ _ c.loop-stripe.invariant.rest took.0 took.1 in
+    omega (arith, (sizes_are c.args.progress.now layers c.requires.lengths).count, now.0.inside)
 
 pub write_if_known-requires-clause-size : goal.write_if_known-requires-clause-size
 write_if_known-requires-clause-size g c =
     let layers = c.args.table.now.layers in
     let took = c.in-Some.ensures.steps in
-    let next = next_from (plan_stripes layers) (enumerate_count c.loop-stripe.stripe-iterator) (0, 0) (c.in-Some.at, c.in-Some.size) (stripes_left (enumerate_source c.next.new.self)) (sym c.loop-stripe.invariant.rest ∙ took.0) in
-    let here = ap (λ (i : ℕ). get_or (plan_stripes layers) i (0, 0)) took.1 ∙ next.here in
-    (sizes_are c.args.progress.now layers c.requires.lengths).each c.in-Some.stripe ∙ ap (λ (p : ℕ × ℕ). p.1) here
+    let now = taken layers (enumerate_count c.loop-stripe.stripe-iterator) c.in-Some.stripe c.in-Some.at c.in-Some.size _ _ c.loop-stripe.invariant.rest took.0 took.1 in
+    (sizes_are c.args.progress.now layers c.requires.lengths).each c.in-Some.stripe ∙ ap (λ (p : ℕ × ℕ). p.1) now.0.here
 
 pub write_if_known-requires-clause-room : goal.write_if_known-requires-clause-room
 write_if_known-requires-clause-room g c =
     let layers = c.args.table.now.layers in
     let took = c.in-Some.ensures.steps in
-    let next = next_from (plan_stripes layers) (enumerate_count c.loop-stripe.stripe-iterator) (0, 0) (c.in-Some.at, c.in-Some.size) (stripes_left (enumerate_source c.next.new.self)) (sym c.loop-stripe.invariant.rest ∙ took.0) in
-    let inside = step_inside layers (enumerate_count c.loop-stripe.stripe-iterator) c.in-Some.at c.in-Some.size next.inside next.here in
-    let most : (c.in-Some.at + c.in-Some.size) * g.F.Field.coding.width ≤ length (needs_of layers) * g.F.Field.coding.width = mul-le-mul_right g.F.Field.coding.width inside in
+    let now = taken layers (enumerate_count c.loop-stripe.stripe-iterator) c.in-Some.stripe c.in-Some.at c.in-Some.size _ _ c.loop-stripe.invariant.rest took.0 took.1 in
+    let width = g.F.Field.coding.width in
+    let most : (c.in-Some.at + c.in-Some.size) * width ≤ length (needs_of layers) * width = mul-le-mul_right width now.0.ended in
     omega (arith, most, c.loop-stripe.invariant.room, c.requires.room)
 
 pub loop-stripe-preserved : goal.loop-stripe-preserved
@@ -39,12 +38,12 @@ loop-stripe-preserved g c =
     let F = g.F.Field in
     let layers = c.args.table.now.layers in
     let took = c.in-Some.ensures.steps in
-    let next = next_from (plan_stripes layers) (enumerate_count c.loop-stripe.stripe-iterator) (0, 0) (c.in-Some.at, c.in-Some.size) (stripes_left (enumerate_source c.next.new.self)) (sym c.loop-stripe.invariant.rest ∙ took.0) in
+    let now = taken layers (enumerate_count c.loop-stripe.stripe-iterator) c.in-Some.stripe c.in-Some.at c.in-Some.size _ _ c.loop-stripe.invariant.rest took.0 took.1 in
+    let moved : c.in-Some.stripe + 1 ≡ enumerate_count c.next.new.self = omega (arith, took.1, took.2) in
     let laws = g.met.F.Field.lawful.spellings in
     let step : IsStep F.is_element F.coding layers c.args.progress.now c.loop-stripe.message c.write_if_known.new.message c.in-Some.stripe c.in-Some.at c.in-Some.size = record {
       lengths = c.requires.lengths;
-      inside = omega (arith, next.inside, took.1);
-      here = ap (λ (i : ℕ). get_or (plan_stripes layers) i (0, 0)) took.1 ∙ next.here;
+      stands = now.0;
       room = c.loop-stripe.invariant.room ∙ c.requires.room;
       written = c.write_if_known.ensures.written;
       same = c.write_if_known.ensures.same;
@@ -52,11 +51,11 @@ loop-stripe-preserved g c =
     record {
       can = c.in-Some.ensures.goes.keeps;
       ends = tt;
-      rest = sym next.rest ∙ ap (λ (n : ℕ). drop n (plan_stripes layers)) (sym took.2);
+      rest = now.1 ∙ ap (λ (n : ℕ). drop n (plan_stripes layers)) moved;
       room = omega arith;
       bytes = All-from_get_or (λ b. b < 256) c.write_if_known.new.message 0 (λ k l. omega (arith, c.type_inv.message k));
       known = λ j l e. step_known F.is_element F.coding laws layers c.args.progress.now c.loop-stripe.message c.write_if_known.new.message c.in-Some.stripe c.in-Some.at c.in-Some.size step
-          (λ i before. c.loop-stripe.invariant.known i (omega (arith, before, took.1))) j (omega (arith, l, took.1, took.2)) e;
+          (λ i before. c.loop-stripe.invariant.known i (omega (arith, before, took.1))) j (omega (arith, l, moved)) e;
       others = step_others F.is_element F.coding laws layers c.args.progress.now c.loop-stripe.message c.write_if_known.new.message c.in-Some.stripe c.in-Some.at c.in-Some.size step c.args.message.now c.loop-stripe.invariant.others;
     }
 

@@ -4,7 +4,7 @@ use Rattle.stripe_plan.specs.Layers.{plan_stripes}
 use Rattle.stripe_plan.specs.Walk.{stripes_left}
 use Rattle.pet_interp.specs.Progressive.{stripe_of}
 use Rattle.pet_encode.specs.Payload.{stripes_in}
-use Rattle.open_group.proofs.write.write_each_known.Given as goal
+use Rattle.open_group.proofs.write.write_known.Given as goal
 
 abbrev pub invariant-loop-stripe : goal.invariant-loop-stripe
 invariant-loop-stripe g l = record {
