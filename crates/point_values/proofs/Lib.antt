@@ -1,1 +1,2 @@
 pub mod RowAfterRow
+mod RowLanes

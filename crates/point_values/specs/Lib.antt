@@ -1,1 +1,3 @@
 pub mod Matrix
+pub mod Wide
+pub mod laws

@@ -5,5 +5,7 @@
 #![tactic(auto)]
 
 mod all_values;
+mod wide;
 
 pub use all_values::AllValues;
+pub use wide::side_by_side;

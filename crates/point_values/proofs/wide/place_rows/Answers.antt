@@ -1,0 +1,37 @@
+use Rattle.std.proofs.Common.{◌+◌, ◌<◌, ◌≤◌, length, ◌∙◌, arith, rules}
+use Rattle.point_values.proofs.RowAfterRow.{row_within}
+use Rattle.point_values.proofs.RowLanes.{new_long, placed_more, others_more}
+use Rattle.point_values.proofs.wide.place_rows.Goals as goal
+
+pub offset_bounds-into-to : goal.offset_bounds-into-to
+offset_bounds-into-to g c =
+    let q = c.loop.counter in
+    let l : q < c.args.size = omega (arith, c.requires.fewer) in
+    let room : c.loop.at + c.args.lane + c.args.width ≤ length c.loop.into =
+    omega (arith, row_within q c.args.size c.args.stripes l, c.loop.invariant.at_is, c.loop.invariant.long, c.requires.lane) in
+    search rules
+
+pub loop-preserved : goal.loop-preserved
+loop-preserved g c =
+    let q = c.loop.counter in
+    let n = c.args.count in
+    let w = c.args.width in
+    let rows = c.args.rows.now in
+    let into = c.loop.into in
+    let piece = c.copy_from_slice.new.self in
+    let l : q < n = omega arith in
+    record {
+      from_is = omega (arith, c.loop.invariant.from_is);
+      at_is = omega (arith, c.loop.invariant.at_is);
+      long =
+          new_long n w c.args.stripes c.args.lane c.args.size q c.loop.from c.loop.at rows into piece l c.requires.fewer c.requires.lane c.requires.rows c.loop.invariant.long c.loop.invariant.from_is c.loop.invariant.at_is (search rules)
+          ∙ c.loop.invariant.long;
+      placed =
+          λ d.
+          placed_more n w c.args.stripes c.args.lane c.args.size q c.loop.from c.loop.at rows into piece l c.requires.fewer c.requires.lane c.requires.rows c.loop.invariant.long c.loop.invariant.from_is c.loop.invariant.at_is (search rules) d
+          (c.loop.invariant.placed d);
+      others =
+          λ d.
+          others_more n w c.args.stripes c.args.lane c.args.size q c.loop.from c.loop.at rows into piece l c.requires.fewer c.requires.lane c.requires.rows c.loop.invariant.long c.loop.invariant.from_is c.loop.invariant.at_is (search rules) d
+          c.args.into.now (c.loop.invariant.others d);
+    }
