@@ -1,6 +1,6 @@
 //! Compares what the row calls of the field of 65,536 elements answer, by blocks of 1, 8 and 32 stripes, with the answers of
-//! single products: the packets of a group that is encoded, and the words of one that is decoded. With the word `time` a
-//! larger group is taken, and each line also tells how long a product took.
+//! single products: the packets of a group that is encoded, and the words of one that is decoded; and those of the additive fast
+//! Fourier transform with them. With the word `time` a larger group is taken, and each line also tells how long a product took.
 #![tactic(auto)]
 
 ghost use Rattle.std.specs.Prelude.{ℕ, ◌<◌};
@@ -8,8 +8,10 @@ ghost use Rattle.std.specs.Prelude.{ℕ, ◌<◌};
 mod calls;
 mod coding;
 mod group;
+mod transform;
 
 use crate::group::{Group, decode, encode, lay_out, plain_packets, words};
+use crate::transform::transformed;
 use pet_field::Gf16Plain;
 use pet_rows::Rows;
 use pet_tables::Gf16Tables;
@@ -44,7 +46,8 @@ fn main(rt: HostRuntime) -> io::Result<()> {
     for width in [1, 8, 32] {
         compare(&rt, &tables, "tables", width, timed)?;
     }
-    compare(&rt, &Gf16Plain, "plain", 32, timed)
+    compare(&rt, &Gf16Plain, "plain", 32, timed)?;
+    compare_transform(&rt, &tables, timed)
 }
 
 /// Codes a group by blocks of one width, and compares.
@@ -81,6 +84,24 @@ fn compare<F: Rows<Elem = u16>>(
             picoseconds(singly, products),
             picoseconds(decoded, group.decoding())
         )?;
+    }
+    Ok(())
+}
+
+/// Codes a group by the additive fast Fourier transform, and compares.
+fn compare_transform(rt: &HostRuntime, tables: &Gf16Tables, timed: bool) -> io::Result<()> {
+    let group = if timed { LARGE } else { SMALL };
+    let alloc = rt.alloc();
+    let row = words(alloc, group.words())?;
+    let start = Instant::now(rt)?;
+    let values = transformed::<Brand>(alloc, &group, &row, Blank::new(1))?;
+    let encoded = start.elapsed(rt)?;
+    let plain = plain_packets::<Gf16Tables, Brand>(alloc, tables, &group, &row, Blank::new(1))?;
+    let encodes = values.starts_with(&plain);
+    println!(rt; "transform: encodes {encodes}")?;
+    if timed {
+        let time = picoseconds(encoded, group.encoding());
+        println!(rt; "  encode {time} ps a product of Horner's rule")?;
     }
     Ok(())
 }

@@ -1,0 +1,63 @@
+//! The packets of a group by the additive fast Fourier transform, over all stripes at once.
+ghost use Rattle.std.specs.Prelude.{◌≡◌, ◌*◌, ◌<◌, ◌≤◌, ◌^◌, length, vec_len, IfOk};
+
+use crate::group::Group;
+use additive_fft::values;
+use pet_base::Steps;
+use pet_rows::transpose;
+use std::alloc::{AllocError, Global};
+use std::sync::ledger::{Blank, Ledger};
+
+/// The values at so many points: 2 to the power `LEVEL`.
+const LEVEL: u32 = 7;
+
+/// How many points these are.
+const POINTS: usize = 128;
+
+/// The values of each stripe at the points of 0 to 127, a row for each point.
+#[inline(never)]
+pub fn transformed<L: Ledger>(
+    alloc: Global,
+    group: &Group,
+    row: &[u16],
+    blank: Blank,
+) -> Result<Vec<u16>, AllocError>
+    requires name { blank.name ≡ L.name }
+    requires parts { blank.parts ≡ L.parts }
+    requires some { 0 < blank.parts }
+{
+    let mut steps = Steps::<L>::new(blank);
+    let stripes = usize::from(group.stripes);
+    let mut rows = zeros(alloc, POINTS * stripes)?;
+    put_values(
+        row,
+        usize::from(group.length),
+        stripes,
+        &mut rows,
+        &mut steps,
+    );
+    Ok(rows)
+}
+
+/// So many zeros.
+fn zeros(alloc: Global, count: usize) -> Result<Vec<u16>, AllocError>
+    ensures { IfOk result (λ v. vec_len v ≡ count) }
+{
+    vec![in alloc; 0u16; count]
+}
+
+/// Lays out the stripes and leaves their values.
+fn put_values<L: Ledger>(
+    row: &[u16],
+    count: usize,
+    stripes: usize,
+    rows: &mut [u16],
+    steps: &mut Steps<L>,
+)
+    requires { length rows.old ≡ 2 ^ 7 * stripes }
+{
+    if count <= POINTS && stripes <= 65_535 && row.len() == count * stripes {
+        transpose(row, count, stripes, &mut rows[..row.len()]);
+        values(rows, stripes, LEVEL, 0, steps);
+    }
+}
