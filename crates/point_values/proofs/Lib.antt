@@ -1,2 +1,3 @@
 pub mod RowAfterRow
 mod RowLanes
+mod TransformedRows

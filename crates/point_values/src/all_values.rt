@@ -4,6 +4,7 @@ ghost use Rattle.pet_poly.specs.Value.{value};
 ghost use Rattle.pet_rows.specs.Blocks.{columns_of, size_of, width_of};
 ghost use Rattle.point_values.specs.Matrix.{HasRows};
 
+use crate::transformed::{is_taken, level_of, longest, transformed};
 use pet_base::{MAX_PACKETS, NoMemory, Steps};
 use pet_field::Gf16Plain;
 use pet_rows::{Block, MAX_WIDTH, Rows, block_values};
@@ -39,24 +40,61 @@ pub trait AllValues: Rows {
             (columns_of Self.coding.ops.nought blocks.now laid.now)) values.items) }
         ensures cost { steps.new ≤ steps.old + count * length laid.now }
     {
-        let mut values = vec![in alloc; self.zero(); count * stripes]?;
-        fill_rows(
-            self,
-            blocks,
-            laid,
-            stripes,
-            first,
-            count,
-            &mut values,
-            steps,
-        );
-        Ok(values)
+        point_by_point(self, alloc, blocks, laid, stripes, first, count, steps)
     }
 }
 
 impl AllValues for Gf16Plain {}
 
-impl AllValues for Gf16Tables {}
+/// By the additive fast Fourier transform where that makes fewer products and its buffer is small, and else point after point.
+impl AllValues for Gf16Tables {
+    fn value_rows<L: Ledger>(
+        &self,
+        alloc: Global,
+        blocks: &[Block],
+        laid: &[u16],
+        stripes: usize,
+        first: usize,
+        count: usize,
+        steps: &mut Steps<L>,
+    ) -> Result<Vec<u16>, NoMemory> {
+        let most = longest(blocks).max(first + count);
+        let level = level_of(most);
+        if most <= MAX_PACKETS as usize && is_taken(level, stripes, count, laid.len()) {
+            transformed(alloc, blocks, laid, stripes, first, count, level, steps)
+        } else {
+            point_by_point(self, alloc, blocks, laid, stripes, first, count, steps)
+        }
+    }
+}
+
+/// These rows point after point, by Horner's rule.
+fn point_by_point<F: Rows, L: Ledger>(
+    f: &F,
+    alloc: Global,
+    blocks: &[Block],
+    laid: &[F::Elem],
+    stripes: usize,
+    first: usize,
+    count: usize,
+    steps: &mut Steps<L>,
+) -> Result<Vec<F::Elem>, NoMemory>
+    requires narrow { All (λ b. b.width ≤ MAX_WIDTH) blocks.now }
+    requires whole { length laid.now ≡ size_of blocks.now }
+    requires stripes { stripes ≡ width_of blocks.now }
+    requires room { count * stripes < 2 ^ 64 }
+    requires elements { All F.is_element laid.now }
+    requires points { first + count ≤ F.COUNT }
+    requires few { first + count ≤ MAX_PACKETS }
+    ensures rows { IfOk result (λ values. HasRows stripes count
+        (λ p. map (λ s. value F.coding.ops s (F.coding.point_of (first + p)))
+        (columns_of F.coding.ops.nought blocks.now laid.now)) values.items) }
+    ensures cost { steps.new ≤ steps.old + count * length laid.now }
+{
+    let mut values = vec![in alloc; f.zero(); count * stripes]?;
+    fill_rows(f, blocks, laid, stripes, first, count, &mut values, steps);
+    Ok(values)
+}
 
 /// Writes the values of all stripes at these points into the rows, point after point. It counts one step for each word and
 /// number.

@@ -1,10 +1,12 @@
 //! The values of all stripes that blocks keep, at many points at once.
 //!
 //! `AllValues` is a field that gives them, row after row. Any lawful field does so point after point, by Horner's rule over
-//! rows; a body that makes fewer products, as an additive fast Fourier transform, has the same contract.
+//! rows. `Gf16Tables` does so by the additive fast Fourier transform, under the same contract, where that makes fewer
+//! products: `side_by_side` lays the stripes out for it, as columns of rows, each behind its end filled up with zeros.
 #![tactic(auto)]
 
 mod all_values;
+mod transformed;
 mod wide;
 
 pub use all_values::AllValues;

@@ -1,10 +1,10 @@
 -- What callers may conclude about stripes side by side.
-use Rattle.std.proofs.Common.{◌≡◌, ℕ, zero, suc, inl, inr, ◌-◌, ◌<◌, ◌≤◌, List, [], ◌∷◌, ◌++◌, length, get_or, replicate, refl, sym, ap, ap₂, ◌∙◌, arith}
+use Rattle.std.proofs.Common.{◌≡◌, ℕ, zero, suc, inl, inr, ◌-◌, ◌<◌, ◌≤◌, List, [], ◌∷◌, ◌++◌, length, get_or, replicate, refl, sym, ap, ◌∙◌, arith}
 use Rattle.std.proofs.lemmas.Bool.{cases_lt}
 use Rattle.std.proofs.lemmas.List.{ext_get_or, get_or-append_right, get_or_append_left, get_or-replicate, length-append, length-replicate}
 use Rattle.pet_field.specs.Field.{Operations, IsField}
-use Rattle.pet_field.specs.laws.FieldLaws as A
-use Rattle.pet_poly.specs.Value.{power, value_from, value}
+use Rattle.pet_poly.specs.Value.{value}
+use Rattle.additive_fft.specs.laws.PaddedLaws.{value_padded}
 use Rattle.pet_rows.specs.Columns.{column}
 use Rattle.pet_rows.specs.laws.ColumnLaws.{length-column, column_at}
 use Rattle.point_values.specs.Wide.{AreSideBySide}
@@ -35,30 +35,11 @@ column_is d size c stripes rows h l short =
           ∙ sym (get_or-append_right stripe (replicate (size - k) d) k i d refl s ∙ get_or-replicate (size - k) (i - k) d d (omega arith))
     ])
 
--- zeros behind the coefficients change no value
 module _ {E : Type 0} (P : E → Type 0) (o : Operations E) (f : IsField P o) where
-  power_is : (x : E) (k : ℕ) → P x → P (power o x k)
-  power_is x zero h = f.one_is
-  power_is x (suc k) h = f.times_is x (power o x k) h (power_is x k h)
-
-  zeros_from : (r k : ℕ) (x : E) → P x → value_from o x k (replicate r o.nought) ≡ o.nought
-  zeros_from zero k x hx = refl
-  zeros_from (suc r) k x hx =
-      let p = power_is x k hx in
-      ap₂ o.plus (f.times_comm o.nought (power o x k) f.zero_is p ∙ A.times-zero P o f (power o x k) p) (zeros_from r (suc k) x hx)
-      ∙ f.plus-zero o.nought f.zero_is
-
-  value_zeros : (cs : List E) (r k : ℕ) (x : E) → P x → value_from o x k (cs ++ replicate r o.nought) ≡ value_from o x k cs
-  value_zeros [] r k x hx = zeros_from r k x hx
-  value_zeros (c ∷ cs) r k x hx = ap (o.plus (o.times c (power o x k))) (value_zeros cs r (suc k) x hx)
-
-  pub value_padded : (cs : List E) (r : ℕ) (x : E) → P x → value o (cs ++ replicate r o.nought) x ≡ value o cs x
-  value_padded cs r x hx = value_zeros cs r 0 x hx
-
   -- the value of a column is that of the stripe
   pub value_is_stripe : (size c : ℕ) (stripes : List (List E)) (rows : List E) (x : E) → AreSideBySide o.nought size stripes rows → c < length stripes
       → length (get_or stripes c []) ≤ size → P x
       → value o (column o.nought (length stripes) size c rows) x ≡ value o (get_or stripes c []) x
   value_is_stripe size c stripes rows x h l short hx =
       ap (λ cs. value o cs x) (column_is o.nought size c stripes rows h l short)
-      ∙ value_padded (get_or stripes c []) (size - length (get_or stripes c [])) x hx
+      ∙ value_padded P o f (get_or stripes c []) (size - length (get_or stripes c [])) x hx
