@@ -27,6 +27,3 @@ pub use parts::{Head, Parts};
 pub use read::read_frame;
 pub use text::read_text;
 pub use write::{begin_frame, end_frame, write_frame, write_text};
-
-#[cfg(test)]
-mod tests;

@@ -22,6 +22,3 @@ pub use cost::group_cost;
 pub use encoder::Encoder;
 pub use laid::{laid_out, plan_blocks};
 pub use values::{append_elements, elements, stripe_values};
-
-#[cfg(test)]
-mod tests;

@@ -23,10 +23,3 @@ pub use datagram::{group_of, number_of};
 pub use receiver::Receiver;
 pub use union::Absorb;
 pub use verdict::{LayerSet, Verdict};
-
-#[cfg(test)]
-mod fixtures;
-#[cfg(test)]
-mod tests;
-#[cfg(test)]
-mod union_tests;

@@ -11,6 +11,3 @@
 mod group;
 
 pub use group::put_group;
-
-#[cfg(test)]
-mod tests;

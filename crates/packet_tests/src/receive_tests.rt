@@ -1,15 +1,15 @@
 //! What a receiver answers to datagrams.
 ghost use Rattle.std.specs.Prelude.{◌≡◌, ◌<◌};
 
-use crate::fixtures::{
+use crate::receive_fixtures::{
     EMPTY_LAYERS_0, EMPTY_LAYERS_1, EVERY_LAYER, EXAMPLE, EXAMPLE_2, EXAMPLE_5, EXAMPLE_LAYER,
     IN_GROUP_258, LONG_LAYER, OF_ANOTHER_SESSION, ONLY_LAYER, SEVEN_0, SEVEN_2, SHORT_LAYER,
     TWO_GROUPS_TAG, WORDS_1, WORDS_3, two_layers,
 };
-use crate::{LayerSet, Receiver, Verdict, group_of};
 use packet_frame::read_frame;
 use pet_base::{NoMemory, Steps};
 use pet_field::Gf16Plain;
+use pet_receive::{LayerSet, Receiver, Verdict, group_of};
 use std::alloc::Global;
 use std::marker::Brand;
 use std::sync::ledger::{Blank, Ledger};
@@ -26,7 +26,18 @@ struct Received {
 }
 
 /// What a receiver answers to the first `count` datagrams.
-fn receive<L: Ledger>(
+fn receive(
+    alloc: Global,
+    limit: u64,
+    datagrams: &[&[u8]],
+    count: usize,
+    layer: u8,
+) -> Result<Received, NoMemory> {
+    receive_counted::<Brand>(alloc, limit, datagrams, count, layer, Blank::new(1))
+}
+
+/// The same, on a counter of its own.
+fn receive_counted<L: Ledger>(
     alloc: Global,
     limit: u64,
     datagrams: &[&[u8]],
@@ -115,9 +126,7 @@ fn judges_datagrams_and_shows_a_layer(rt: HostRuntime) -> Result<(), Fail> {
         ),
     ];
     for (limit, datagrams, verdicts, layer, totals) in rows {
-        let got = receive::<Brand>(rt.alloc(), limit, datagrams, 10, 0, Blank::new(1)).expect(
-            &rt, "memory",
-        );
+        let got = receive(rt.alloc(), limit, datagrams, 10, 0).expect(&rt, "memory");
         assert_eq!(rt; got.verdicts.as_slice(), verdicts);
         assert_eq!(rt; got.layer.as_slice(), layer);
         assert_eq!(rt; got.totals, totals);
@@ -188,15 +197,7 @@ fn shows_layers(rt: HostRuntime) -> Result<(), Fail> {
     let told = told();
     for (first, count, layer, is_shown, bytes, totals) in rows {
         assert!(rt; first <= 8 && count <= 10 && first < frames.len());
-        let got = receive::<Brand>(
-            rt.alloc(),
-            2_000,
-            &frames[first..],
-            count,
-            layer,
-            Blank::new(1),
-        )
-        .expect(&rt, "memory");
+        let got = receive(rt.alloc(), 2_000, &frames[first..], count, layer).expect(&rt, "memory");
         assert_eq!(rt; got.verdicts.as_slice(), &told[first..first + count]);
         assert_eq!(rt; got.is_shown, is_shown);
         assert_eq!(rt; got.layer.as_slice(), bytes);

@@ -1,10 +1,10 @@
 //! What a receiver answers that takes in what another has kept.
 ghost use Rattle.std.specs.Prelude.{◌≡◌, ◌<◌};
 
-use crate::fixtures::{EXAMPLE, EXAMPLE_2, EXAMPLE_5, WORDS_1};
-use crate::{Absorb, Receiver};
+use crate::receive_fixtures::{EXAMPLE, EXAMPLE_2, EXAMPLE_5, WORDS_1};
 use pet_base::{NoMemory, Steps};
 use pet_field::Gf16Plain;
+use pet_receive::{Absorb, Receiver};
 use std::alloc::Global;
 use std::marker::Brand;
 use std::sync::ledger::{Blank, Ledger};
@@ -35,7 +35,18 @@ fn some_of<'a, 'b>(frames: &'a [&'b [u8]], first: usize, count: usize) -> &'a [&
 }
 
 /// A receiver takes in what another has kept, each after some datagrams.
-fn join<L: Ledger>(
+fn join(
+    alloc: Global,
+    limit: u64,
+    session: [u8; 8],
+    here: &[&[u8]],
+    there: &[&[u8]],
+) -> Result<Joined, NoMemory> {
+    join_counted::<Brand>(alloc, limit, session, here, there, Blank::new(1))
+}
+
+/// The same, on a counter of its own.
+fn join_counted<L: Ledger>(
     alloc: Global,
     limit: u64,
     session: [u8; 8],
@@ -118,13 +129,12 @@ fn takes_in_what_another_has_kept(rt: HostRuntime) -> Result<(), Fail> {
         (1_000, OTHER, (0, 0), (0, 2), other, &[], (0, 0), 0),
     ];
     for (limit, session, here, there, fault, shown, totals, packets) in rows {
-        let got = join::<Brand>(
+        let got = join(
             rt.alloc(),
             limit,
             session,
             some_of(&frames, here.0, here.1),
             some_of(&frames, there.0, there.1),
-            Blank::new(1),
         )
         .expect(&rt, "memory");
         assert_eq!(rt; got.fault, fault);
@@ -138,13 +148,12 @@ fn takes_in_what_another_has_kept(rt: HostRuntime) -> Result<(), Fail> {
 #[test]
 fn lends_what_was_taken_in(rt: HostRuntime) -> Result<(), Fail> {
     let frames: [&[u8]; 4] = [&EXAMPLE, &EXAMPLE_2, &EXAMPLE_5, &WORDS_1];
-    let got = join::<Brand>(
+    let got = join(
         rt.alloc(),
         1_000,
         SESSION,
         some_of(&frames, 0, 2),
         some_of(&frames, 2, 1),
-        Blank::new(1),
     )
     .expect(&rt, "memory");
     assert_eq!(rt; got.groups, Some(1));

@@ -1,6 +1,6 @@
 //! A small frame of each version as its bytes, the refusals of their neighbours, and each change of one bit. The tags were
 //! made by another program.
-use super::{Field1, FrameFault, Header, read_frame, read_old_frame, write_frame};
+use packet_frame::{Field1, FrameFault, Header, read_frame, read_old_frame, write_frame};
 use std::alloc::{AllocError, Global};
 use std::test::Fail;
 use stripe_plan::{LayerSize, Table, datagram_length};
