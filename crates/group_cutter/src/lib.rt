@@ -8,6 +8,3 @@
 mod groups;
 
 pub use groups::{Group, GroupCutter};
-
-#[cfg(test)]
-mod group_tests;

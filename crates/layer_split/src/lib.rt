@@ -24,6 +24,3 @@ pub use fault::SplitFault;
 pub use run_table::{NamedRun, read_run_table};
 pub use splitter::Splitter;
 pub use whole::split;
-
-#[cfg(test)]
-mod tests;

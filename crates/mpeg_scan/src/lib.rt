@@ -16,6 +16,3 @@ mod scanner;
 pub use piece::Piece;
 pub use refusal::Scan;
 pub use scanner::Scanner;
-
-#[cfg(test)]
-mod tests;

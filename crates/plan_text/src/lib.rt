@@ -15,6 +15,3 @@ pub use lengths::lengths_line;
 pub use plan_file::{PlanFault, Repeat, read_plan};
 pub use plan_lines::{least_line, plan_group_line, plan_layer_line, plan_session_line, send_line};
 pub use whole_plan::plan_text;
-
-#[cfg(test)]
-mod tests;

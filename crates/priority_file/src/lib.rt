@@ -22,6 +22,3 @@ pub use fault::PriorityFault;
 pub use kinds::{KindSet, LAST_PLACE};
 pub use priority::{LayerRule, Priority};
 pub use read::read_priority;
-
-#[cfg(test)]
-mod tests;

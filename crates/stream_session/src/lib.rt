@@ -26,12 +26,3 @@ pub use needs::is_table_of;
 pub use pass::{Pass, SessionPlan, StreamFault};
 pub use planner::Planner;
 pub use source::{Source, SourceFault, read_source};
-
-#[cfg(test)]
-mod fixtures;
-#[cfg(test)]
-mod mark_tests;
-#[cfg(test)]
-mod source_tests;
-#[cfg(test)]
-mod tests;

@@ -19,8 +19,6 @@ mod old;
 mod plan;
 mod runs;
 mod table;
-#[cfg(test)]
-mod tests;
 mod walk;
 
 pub use bounds::{BOUNDS, Bounds, OLD_BOUNDS, bounds_are, measured};

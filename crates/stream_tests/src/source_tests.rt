@@ -1,27 +1,12 @@
 //! The example session over files in memory, and what two files are refused for.
-ghost use Rattle.std.specs.Prelude.{◌<◌};
-
-use super::*;
-use crate::fixtures::is_example;
+use crate::is_example;
+use example_session::{PRIORITIES, SESSION, STREAM};
 use mpeg_scan::Scan;
 use pet_base::MemoryPlace;
 use priority_file::{Priority, PriorityFault, read_priority};
 use std::alloc::Global;
 use std::test::Fail;
-
-/// The example stream.
-const STREAM: [u8; 44] = [
-    0x00, 0x00, 0x01, 0xB3, 0x11, 0x22, 0x00, 0x00, 0x01, 0xB8, 0x33, 0x00, 0x00, 0x01, 0x00, 0x00,
-    0x08, 0x44, 0x00, 0x00, 0x01, 0x00, 0x00, 0x10, 0x55, 0x00, 0x00, 0x01, 0x00, 0x00, 0x18, 0x66,
-    0x00, 0x00, 0x01, 0x00, 0x00, 0x18, 0x77, 0x77, 0x00, 0x00, 0x01, 0xB7,
-];
-
-/// The example priorities.
-const PRIORITIES: &str =
-    "packets = 6\n[[layer]]\nname = \"base\"\nkinds = [\"head\", \"I\"]\nneed = 2\n[[layer]]\nname = \"P\"\nkinds = [\"P\"]\nneed = 3\n[[layer]]\nname = \"B\"\nkinds = [\"B\"]\nneed = 5\n";
-
-/// The number of their session.
-const NUMBER: [u8; 8] = [0xA5, 0xAC, 0x94, 0x61, 0xB0, 0x3B, 0xCF, 0x36];
+use stream_session::{Pass, SessionPlan, SourceFault, StreamFault, read_source};
 
 /// The plan of a stream that comes in portions of so many bytes.
 fn plan_of(
@@ -42,7 +27,7 @@ fn plans_the_example_stream_in_portions(rt: HostRuntime) -> Result<(), Fail> {
     let priority = read_priority(rt.alloc(), PRIORITIES.as_bytes()).expect(&rt, "a priority");
     for portion in [1, 3, 7, 43, 44, 100] {
         let plan = plan_of(rt.alloc(), &priority, &STREAM, portion).expect(&rt, "a plan");
-        assert_eq!(rt; plan.number, NUMBER, "in portions of {portion}");
+        assert_eq!(rt; plan.number, SESSION, "in portions of {portion}");
         assert!(rt; is_example(&plan.tables), "in portions of {portion}");
     }
     Ok(())
@@ -65,21 +50,23 @@ fn keeps_a_refusal_of_the_stream(rt: HostRuntime) -> Result<(), Fail> {
     Ok(())
 }
 
-/// A place with these two files, whose calls of these numbers fail.
+/// A place with these two files, or without the stream, whose calls of these numbers fail.
 fn place_with(
     alloc: Global,
-    stream: &[u8],
+    stream: Option<&[u8]>,
     priorities: &[u8],
     failing: Vec<u64>,
 ) -> Option<MemoryPlace> {
     let mut place = MemoryPlace::new(alloc, failing);
-    place.add("s", stream).ok()?;
+    if let Some(bytes) = stream {
+        place.add("s", bytes).ok()?;
+    }
     place.add("p", priorities).ok()?;
     Some(place)
 }
 
 /// Why these two files are no session.
-fn fault_of(alloc: Global, stream: &[u8], priorities: &[u8]) -> Option<SourceFault> {
+fn fault_of(alloc: Global, stream: Option<&[u8]>, priorities: &[u8]) -> Option<SourceFault> {
     let mut place = place_with(alloc, stream, priorities, Vec::new(alloc))?;
     read_source(alloc, "s", "p", &mut place).err()
 }
@@ -87,11 +74,11 @@ fn fault_of(alloc: Global, stream: &[u8], priorities: &[u8]) -> Option<SourceFau
 #[test]
 fn reads_the_example_files(rt: HostRuntime) -> Result<(), Fail> {
     let alloc = rt.alloc();
-    let mut place = place_with(alloc, &STREAM, PRIORITIES.as_bytes(), Vec::new(alloc)).expect(
+    let mut place = place_with(alloc, Some(&STREAM), PRIORITIES.as_bytes(), Vec::new(alloc)).expect(
         &rt, "files",
     );
     let source = read_source(alloc, "s", "p", &mut place).expect(&rt, "a session");
-    assert_eq!(rt; source.number, NUMBER);
+    assert_eq!(rt; source.number, SESSION);
     assert!(rt; is_example(&source.tables));
     assert_eq!(rt; source.priority.packets, 6);
     Ok(())
@@ -109,26 +96,17 @@ fn refuses_the_priority_file_first(rt: HostRuntime) -> Result<(), Fail> {
     let text = SourceFault::Priority(PriorityFault::Text);
     let long = SourceFault::Priority(PriorityFault::Long);
     let empty = SourceFault::Stream(Scan::Empty);
-    let rows: [(&[u8], &[u8], SourceFault); 5] = [
-        (&STREAM, b"packets", text),
-        (&[], b"packets", text),
-        (&[], PRIORITIES.as_bytes(), empty),
-        (&[], &longest, empty),
-        (&[], &longer, long),
+    let rows: [(Option<&[u8]>, &[u8], SourceFault); 6] = [
+        (Some(&STREAM), b"packets", text),
+        (None, b"packets", text),
+        (Some(&[]), b"packets", text),
+        (Some(&[]), PRIORITIES.as_bytes(), empty),
+        (Some(&[]), &longest, empty),
+        (Some(&[]), &longer, long),
     ];
     for (stream, priorities, fault) in rows {
         assert_eq!(rt; fault_of(alloc, stream, priorities), Some(fault));
     }
-    Ok(())
-}
-
-#[test]
-fn refuses_the_priority_file_where_the_stream_is_missing(rt: HostRuntime) -> Result<(), Fail> {
-    let alloc = rt.alloc();
-    let mut place = MemoryPlace::new(alloc, Vec::new(alloc));
-    place.add("p", b"packets").expect(&rt, "a file");
-    let fault = read_source(alloc, "s", "p", &mut place).err();
-    assert_eq!(rt; fault, Some(SourceFault::Priority(PriorityFault::Text)));
     Ok(())
 }
 
@@ -138,7 +116,7 @@ fn answers_a_failed_call_as_a_failure(rt: HostRuntime) -> Result<(), Fail> {
     // the calls are enter, take, take of the one file, and then of the other
     for call in 0..6u64 {
         let failing = Vec::from_array(alloc, [call])?;
-        let mut place = place_with(alloc, &STREAM, PRIORITIES.as_bytes(), failing).expect(
+        let mut place = place_with(alloc, Some(&STREAM), PRIORITIES.as_bytes(), failing).expect(
             &rt, "files",
         );
         let fault = read_source(alloc, "s", "p", &mut place).err();

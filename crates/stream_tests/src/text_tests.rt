@@ -1,10 +1,15 @@
 //! The text of a plan, and the plan file that is read again.
 ghost use Rattle.std.specs.Prelude.{◌≡◌, ◌↔◌, length, IsTrue};
 
-use super::*;
+use crate::{layer, layers_of};
+use example_session::PRIORITIES;
+use plan_text::{
+    PlanFault, Repeat, least_line, lengths_line, plan_group_line, plan_layer_line,
+    plan_session_line, plan_text, read_plan, send_line,
+};
 use priority_file::{Priority, read_priority};
 use std::test::Fail;
-use stripe_plan::{LayerSize, Table};
+use stripe_plan::Table;
 
 #[test]
 fn prints_rows_of_equal_lengths(rt: HostRuntime) -> Result<(), Fail> {
@@ -17,8 +22,7 @@ fn prints_rows_of_equal_lengths(rt: HostRuntime) -> Result<(), Fail> {
         ([(0, 2), (0, 3), (0, 5)], "lengths\n"),
     ];
     for (sizes, line) in &cases {
-        let layers = [layer(sizes[0]), layer(sizes[1]), layer(sizes[2])];
-        let table = Table::new(8, &layers).ok().ok_or("table")?;
+        let table = Table::new(8, &layers_of(*sizes)).ok().ok_or("table")?;
         let mut text = Vec::new(alloc);
         text.push(b'>')?;
         lengths_line(alloc, &table, &mut text).ok().ok_or("memory")?;
@@ -26,13 +30,6 @@ fn prints_rows_of_equal_lengths(rt: HostRuntime) -> Result<(), Fail> {
         assert_eq!(rt; &text[1..], line.as_bytes());
     }
     Ok(())
-}
-
-fn layer(size: (u32, u16)) -> LayerSize {
-    LayerSize {
-        length: size.0,
-        need: size.1,
-    }
 }
 
 #[test]
@@ -94,21 +91,6 @@ fn refuses_a_line_of_another_form(rt: HostRuntime) -> Result<(), Fail> {
     Ok(())
 }
 
-const PRIORITIES: &[u8] = b"packets = 6
-[[layer]]
-name = \"base\"
-kinds = [\"head\", \"I\"]
-need = 2
-[[layer]]
-name = \"P\"
-kinds = [\"P\"]
-need = 3
-[[layer]]
-name = \"B\"
-kinds = [\"B\"]
-need = 5
-";
-
 const PLAN: &[u8] = b"session 00010203fcfdfeff groups 2 packets 6
 group 0 words 35 stripes 15 bound 16 datagram 89
 layer 0 base bytes 46 need 2 count 2
@@ -125,10 +107,12 @@ lengths 2x5
 #[test]
 fn prints_the_plan_of_two_groups(rt: HostRuntime) -> Result<(), Fail> {
     let alloc = rt.alloc();
-    let priority = read_priority(alloc, PRIORITIES).ok().ok_or("priority")?;
-    let first = [layer((46, 2)), layer((7, 3)), layer((15, 5))];
+    let priority = read_priority(alloc, PRIORITIES.as_bytes())
+        .ok()
+        .ok_or("priority")?;
+    let first = layers_of([(46, 2), (7, 3), (15, 5)]);
     let first = Table::new(6, &first).ok().ok_or("first")?;
-    let second = [layer((20, 2)), layer((0, 3)), layer((0, 5))];
+    let second = layers_of([(20, 2), (0, 3), (0, 5)]);
     let second = Table::new(6, &second).ok().ok_or("second")?;
     assert!(rt; has_its_layers(&priority, &first) && has_its_layers(&priority, &second));
     let mut text = Vec::new(alloc);
@@ -152,10 +136,7 @@ fn has_its_layers(priority: &Priority, table: &Table) -> bool
 fn prints_the_lines_of_plan_check_and_send(rt: HostRuntime) -> Result<(), Fail> {
     let alloc = rt.alloc();
     let session = [0xa5, 0xac, 0x94, 0x61, 0xb0, 0x3b, 0xcf, 0x36];
-    let size = LayerSize {
-        length: 46,
-        need: 2,
-    };
+    let size = layer(46, 2);
     let mut text = Vec::new(alloc);
     plan_session_line(alloc, &session, 1, 6, &mut text)
         .ok()

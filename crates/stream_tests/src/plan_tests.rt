@@ -1,151 +1,20 @@
 //! The plan of worked tables, the bounds of a table, and small tables against a slow search.
-use super::{
+use crate::{layer, layers_of};
+use stripe_plan::{
     LayerSize, OldTable, Table, TableFault, bound, count, datagram_length, next_start, stripes,
 };
 
-fn layer(length: u32, need: u16) -> LayerSize {
-    LayerSize { length, need }
-}
-
-/// Layers and packets, with the stripes of their plan, the bound and the counts.
-const WORKED: [([LayerSize; 3], u16, u32, u32, [u16; 3]); 8] = [
+/// The lengths and needs of layers, and packets, with the stripes of their plan, the bound and the counts.
+const WORKED: [([(u32, u16); 3], u16, u32, u32, [u16; 3]); 8] = [
+    ([(20, 10), (6, 20), (0, 20)], 20, 2, 2, [10, 3, 1]),
+    ([(10, 4), (20, 8), (39, 16)], 16, 5, 6, [4, 8, 16]),
+    ([(46, 2), (7, 3), (15, 5)], 6, 15, 16, [2, 3, 5]),
+    ([(20, 2), (0, 3), (0, 5)], 6, 5, 5, [2, 1, 1]),
+    ([(46, 8), (7, 2), (15, 5)], 8, 7, 7, [8, 2, 5]),
+    ([(46, 2), (14, 3), (8, 4)], 6, 15, 16, [2, 3, 4]),
+    ([(10, 10), (0, 1), (10, 10)], 10, 1, 2, [10, 1, 10]),
     (
-        [
-            LayerSize {
-                length: 20,
-                need: 10,
-            },
-            LayerSize {
-                length: 6,
-                need: 20,
-            },
-            LayerSize {
-                length: 0,
-                need: 20,
-            },
-        ],
-        20,
-        2,
-        2,
-        [10, 3, 1],
-    ),
-    (
-        [
-            LayerSize {
-                length: 10,
-                need: 4,
-            },
-            LayerSize {
-                length: 20,
-                need: 8,
-            },
-            LayerSize {
-                length: 39,
-                need: 16,
-            },
-        ],
-        16,
-        5,
-        6,
-        [4, 8, 16],
-    ),
-    (
-        [
-            LayerSize {
-                length: 46,
-                need: 2,
-            },
-            LayerSize { length: 7, need: 3 },
-            LayerSize {
-                length: 15,
-                need: 5,
-            },
-        ],
-        6,
-        15,
-        16,
-        [2, 3, 5],
-    ),
-    (
-        [
-            LayerSize {
-                length: 20,
-                need: 2,
-            },
-            LayerSize { length: 0, need: 3 },
-            LayerSize { length: 0, need: 5 },
-        ],
-        6,
-        5,
-        5,
-        [2, 1, 1],
-    ),
-    (
-        [
-            LayerSize {
-                length: 46,
-                need: 8,
-            },
-            LayerSize { length: 7, need: 2 },
-            LayerSize {
-                length: 15,
-                need: 5,
-            },
-        ],
-        8,
-        7,
-        7,
-        [8, 2, 5],
-    ),
-    (
-        [
-            LayerSize {
-                length: 46,
-                need: 2,
-            },
-            LayerSize {
-                length: 14,
-                need: 3,
-            },
-            LayerSize { length: 8, need: 4 },
-        ],
-        6,
-        15,
-        16,
-        [2, 3, 4],
-    ),
-    (
-        [
-            LayerSize {
-                length: 10,
-                need: 10,
-            },
-            LayerSize { length: 0, need: 1 },
-            LayerSize {
-                length: 10,
-                need: 10,
-            },
-        ],
-        10,
-        1,
-        2,
-        [10, 1, 10],
-    ),
-    (
-        [
-            LayerSize {
-                length: 20_000,
-                need: 60,
-            },
-            LayerSize {
-                length: 30_000,
-                need: 80,
-            },
-            LayerSize {
-                length: 22_000,
-                need: 95,
-            },
-        ],
+        [(20_000, 60), (30_000, 80), (22_000, 95)],
         100,
         471,
         471,
@@ -155,8 +24,8 @@ const WORKED: [([LayerSize; 3], u16, u32, u32, [u16; 3]); 8] = [
 
 #[test]
 fn has_the_numbers_of_worked_tables(rt: HostRuntime) {
-    for (layers, packets, plan, most, counts) in WORKED {
-        match Table::new(packets, &layers) {
+    for (sizes, packets, plan, most, counts) in WORKED {
+        match Table::new(packets, &layers_of(sizes)) {
             Ok(table) => {
                 assert!(rt; table.layers().len() == 3);
                 assert_eq!(rt; table.packets(), packets);

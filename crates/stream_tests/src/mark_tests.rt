@@ -1,10 +1,10 @@
 //! The marks of a stream's groups.
-use super::*;
-use crate::fixtures::TWO_GROUPS;
+use crate::TWO_GROUPS;
 use mpeg_scan::Scan;
 use pet_base::MemoryPlace;
 use std::alloc::Global;
 use std::test::Fail;
+use stream_session::{GroupMark, MarkedSource, SourceFault, read_marked};
 
 /// Priorities of two layers.
 const PRIORITIES: &str =
@@ -82,14 +82,12 @@ fn refuses_what_read_source_refuses(rt: HostRuntime) -> Result<(), Fail> {
 }
 
 #[test]
-fn marks_nothing_as_zeros(rt: HostRuntime) -> Result<(), Fail> {
+fn marks_no_bytes_by_their_digest(rt: HostRuntime) -> Result<(), Fail> {
     let empty = GroupMark::of(&[]);
     assert_eq!(rt; empty.length, 0);
     assert_eq!(rt;
         empty.digest,
         [0xE3, 0xB0, 0xC4, 0x42, 0x98, 0xFC, 0x1C, 0x14]
     );
-    assert_eq!(rt; GroupMark::none().length, 0);
-    assert_eq!(rt; GroupMark::none().digest, [0u8; 8]);
     Ok(())
 }

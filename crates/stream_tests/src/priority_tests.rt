@@ -1,8 +1,7 @@
 //! What the contracts are read against: files that were judged by hand.
-
-use super::{KindSet, LayerRule, Priority, PriorityFault, read_priority};
-use arrayvec::{ArrayString, ArrayVec};
-use pet_base::{Kind, MAX_LAYERS};
+use crate::priority_of;
+use pet_base::Kind;
+use priority_file::{KindSet, LayerRule, Priority, PriorityFault, read_priority};
 use std::alloc::{AllocError, Global};
 use std::test::Fail;
 
@@ -14,27 +13,36 @@ const SPELLINGS: [&str; 4] = [
     "layer = [{kinds = ['head', 'I', 'D'], need = 0b10, name = 'base'}, {percent = 50, name = 'P', kinds = ['P']}, {name = 'B', kinds = ['B'], need = 5}]\npackets = 6\n",
 ];
 
-/// Accepted files, and the needs of their layers.
-const NEEDS: [(&str, &[u16]); 5] = [
+/// Accepted files, and the kinds and places of their layers, as bits, each with its need.
+const READ: [(&str, &[(u32, u16)]); 8] = [
     (
         "packets = 6\nlayer = [{name = 'base', kinds = ['head', 'I'], percent = 1}, {name = 'P', kinds = ['P'], need = 3}, {name = 'B', kinds = ['B'], percent = 99}]\n",
-        &[1, 3, 5],
+        &[(19, 1), (4, 3), (8, 5)],
     ),
     (
         "packets = 4096\nlayer = [{name = 'base', kinds = ['head', 'I'], need = 1}, {name = 'abcdefghijklmn-_', kinds = ['P'], percent = 50}, {name = '+', kinds = ['B'], need = 4096}]\n",
-        &[1, 2048, 4096],
+        &[(19, 1), (4, 2048), (8, 4096)],
     ),
     (
         "packets = 8\nlayer = [{name = 'base', kinds = ['head', 'I'], need = 8}, {name = 'P', kinds = ['P'], need = 2}, {name = 'B', kinds = ['B'], need = 5}]\n",
-        &[8, 2, 5],
+        &[(19, 8), (4, 2), (8, 5)],
     ),
     (
         "packets = 6\nlayer = [{name = 'base', kinds = ['head', 'I'], need = 2}, {name = 'P', kinds = ['P'], need = 3}, {name = 'B', kinds = ['B'], need = 5}, {name = 'n0', kinds = [], need = 6}, {name = 'n1', kinds = [], need = 6}]\n",
-        &[2, 3, 5, 6, 6],
+        &[(19, 2), (4, 3), (8, 5), (0, 6), (0, 6)],
     ),
     (
         "packets = 1\nlayer = [{name = 'base', kinds = ['head', 'I', 'P', 'B', 'D'], percent = 100}]\n",
-        &[1],
+        &[(31, 1)],
+    ),
+    (FIRST_B_WITH_P, &[(19, 2), (16_388, 3), (8, 5)]),
+    (
+        "packets = 6\nlayer = [{name = 'base', kinds = ['P9', 'head', 'I', 'P1'], need = 2}, {name = 'P', kinds = ['P', 'B1'], need = 3}, {name = 'B', kinds = ['B', 'D', 'B9'], need = 5}]\n",
+        &[(8_227, 2), (16_388, 3), (4_194_328, 5)],
+    ),
+    (
+        "packets = 6\nlayer = [{name = 'all', kinds = ['head', 'I', 'P', 'B', 'D', 'P1', 'P2', 'P3', 'P4', 'P5', 'P6', 'P7', 'P8', 'P9', 'B1', 'B2', 'B3', 'B4', 'B5', 'B6', 'B7', 'B8', 'B9'], need = 2}]\n",
+        &[(8_388_607, 2)],
     ),
 ];
 
@@ -199,19 +207,6 @@ const REFUSED_FIRST: [(&str, PriorityFault); 15] = [
 const FIRST_B_WITH_P: &str =
     "packets = 6\nlayer = [{name = 'base', kinds = ['head', 'I'], need = 2}, {name = 'P', kinds = ['P', 'B1'], need = 3}, {name = 'B', kinds = ['B'], need = 5}]\n";
 
-/// Accepted files, and the bits of the sets of their layers.
-const SETS: [(&str, &[u32]); 3] = [
-    (FIRST_B_WITH_P, &[19, 16_388, 8]),
-    (
-        "packets = 6\nlayer = [{name = 'base', kinds = ['P9', 'head', 'I', 'P1'], need = 2}, {name = 'P', kinds = ['P', 'B1'], need = 3}, {name = 'B', kinds = ['B', 'D', 'B9'], need = 5}]\n",
-        &[8_227, 16_388, 4_194_328],
-    ),
-    (
-        "packets = 6\nlayer = [{name = 'all', kinds = ['head', 'I', 'P', 'B', 'D', 'P1', 'P2', 'P3', 'P4', 'P5', 'P6', 'P7', 'P8', 'P9', 'B1', 'B2', 'B3', 'B4', 'B5', 'B6', 'B7', 'B8', 'B9'], need = 2}]\n",
-        &[8_388_607],
-    ),
-];
-
 /// Packets, the bits and needs of layers, and whether these are a priority.
 const MADE: [(u16, &[(u32, u16)], bool); 12] = [
     (8, &[(19, 8), (4, 2), (8, 5)], true),
@@ -248,33 +243,11 @@ fn is_example(priority: &Priority) -> bool {
     }
 }
 
-fn has_needs(layers: &[LayerRule], needs: &[u16]) -> bool {
-    layers.len() == needs.len()
-        && layers
-            .iter()
-            .zip(needs.iter())
-            .all(|(rule, need)| rule.need == *need)
-}
-
-fn has_sets(layers: &[LayerRule], sets: &[u32]) -> bool {
-    layers.len() == sets.len()
-        && layers
-            .iter()
-            .zip(sets.iter())
-            .all(|(rule, bits)| rule.kinds.bits == *bits)
-}
-
-fn priority_of(packets: u16, rules: &[(u32, u16)]) -> Option<Priority> {
-    let mut layers: ArrayVec<LayerRule, MAX_LAYERS> = ArrayVec::new();
-    for (bits, need) in rules {
-        let rule = LayerRule {
-            name: ArrayString::new(),
-            kinds: KindSet { bits: *bits },
-            need: *need,
-        };
-        layers.try_push(rule).ok()?;
-    }
-    Priority::new(packets, layers)
+/// Whether these are layers of these kinds and places and of these needs.
+fn has_layers(layers: &[LayerRule], wanted: &[(u32, u16)]) -> bool {
+    layers.len() == wanted.len()
+        && layers.iter().zip(wanted.iter()).all(|(rule, (bits, need))| rule.kinds.bits == *bits
+            && rule.need == *need)
 }
 
 /// A file of one layer with every kind, and of an empty layer for each name of one byte.
@@ -314,27 +287,14 @@ fn reads_each_spelling_of_the_example_priorities(rt: HostRuntime) -> Result<(), 
 }
 
 #[test]
-fn reads_needs_at_their_bounds(rt: HostRuntime) -> Result<(), Fail> {
+fn reads_kinds_places_and_needs(rt: HostRuntime) -> Result<(), Fail> {
     let alloc = rt.alloc();
-    for (text, needs) in NEEDS {
+    for (text, layers) in READ {
         let priority = match read_priority(alloc, text.as_bytes()) {
             Ok(priority) => priority,
             Err(_) => return Err(Fail::from(text)),
         };
-        assert!(rt; has_needs(priority.layers.as_slice(), needs), "{text}");
-    }
-    Ok(())
-}
-
-#[test]
-fn reads_kinds_and_places_as_bits(rt: HostRuntime) -> Result<(), Fail> {
-    let alloc = rt.alloc();
-    for (text, sets) in SETS {
-        let priority = match read_priority(alloc, text.as_bytes()) {
-            Ok(priority) => priority,
-            Err(_) => return Err(Fail::from(text)),
-        };
-        assert!(rt; has_sets(priority.layers.as_slice(), sets), "{text}");
+        assert!(rt; has_layers(priority.layers.as_slice(), layers), "{text}");
     }
     Ok(())
 }
@@ -378,20 +338,14 @@ fn reads_at_most_32_layers(rt: HostRuntime) -> Result<(), Fail> {
 }
 
 #[test]
-fn refuses_by_each_cause(rt: HostRuntime) {
+fn refuses_by_the_first_cause(rt: HostRuntime) {
     let alloc = rt.alloc();
-    for (text, fault) in REFUSED {
-        assert_eq!(rt; fault_of(alloc, text.as_bytes()), Some(fault), "{text}");
+    for rows in [REFUSED.as_slice(), REFUSED_FIRST.as_slice()] {
+        for (text, fault) in rows {
+            assert_eq!(rt; fault_of(alloc, text.as_bytes()), Some(*fault), "{text}");
+        }
     }
     assert_eq!(rt; fault_of(alloc, b"# \xff\n"), Some(PriorityFault::Text));
-}
-
-#[test]
-fn refuses_by_the_first_of_several_causes(rt: HostRuntime) {
-    let alloc = rt.alloc();
-    for (text, fault) in REFUSED_FIRST {
-        assert_eq!(rt; fault_of(alloc, text.as_bytes()), Some(fault), "{text}");
-    }
 }
 
 #[test]

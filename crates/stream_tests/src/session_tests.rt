@@ -1,21 +1,12 @@
 //! The example stream under the example priorities, and the limits.
-use super::*;
-use crate::fixtures::{is_table, priority_of, three_layers};
+use crate::{EXAMPLE_PIECES, is_table, piece, pieces_on_end, priority_of, three_layers};
 use mpeg_scan::Piece;
 use pet_base::{Kind, NoMemory};
 use priority_file::Priority;
 use std::alloc::Global;
 use std::test::Fail;
+use stream_session::{Planner, SessionFault};
 use stripe_plan::{Table, datagram_length, stripes};
-
-fn piece(kind: Kind, code: u8, at: u64, len: u64) -> Piece {
-    Piece {
-        kind,
-        code,
-        at,
-        len,
-    }
-}
 
 fn add_all(planner: &mut Planner, pieces: &[Piece]) -> Result<(), NoMemory> {
     for piece in pieces {
@@ -55,15 +46,9 @@ fn plan_example(alloc: Global, priority: &Priority) -> Result<Vec<Table>, Sessio
     let Ok(mut planner) = Planner::new(alloc, priority) else {
         return Err(SessionFault::NoMemory);
     };
-    let pieces = [
-        piece(Kind::Head, 0xB3, 0, 6),
-        piece(Kind::Head, 0xB8, 6, 5),
-        piece(Kind::I, 0, 11, 7),
-        piece(Kind::P, 0, 18, 7),
-        piece(Kind::B, 0, 25, 7),
-        piece(Kind::B, 0, 32, 8),
-        piece(Kind::Head, 0xB7, 40, 4),
-    ];
+    let Ok(pieces) = pieces_on_end(alloc, &EXAMPLE_PIECES) else {
+        return Err(SessionFault::NoMemory);
+    };
     if add_all(&mut planner, &pieces).is_err() {
         return Err(SessionFault::NoMemory);
     }

@@ -1,29 +1,16 @@
 //! Streams cut into groups with their bytes.
-use super::*;
+use crate::TWO_GROUPS;
+use example_session::{PRIORITIES, STREAM};
+use group_cutter::{Group, GroupCutter};
 use layer_split::Run;
 use pet_base::NoMemory;
 use priority_file::{Priority, read_priority};
 use std::alloc::Global;
 use std::test::Fail;
 
-/// Two groups of 11 bytes, each a group of pictures and an I picture.
-const TWO_GROUPS: [u8; 22] = [
-    0, 0, 1, 0xB8, 1, 0, 0, 1, 0, 0, 8, 0, 0, 1, 0xB8, 2, 0, 0, 1, 0, 0, 8,
-];
-
-/// A group of heads, an I, a P and two B pictures.
-const EXAMPLE: [u8; 44] = [
-    0, 0, 1, 0xB3, 0x11, 0x22, 0, 0, 1, 0xB8, 0x33, 0, 0, 1, 0, 0, 0x08, 0x44, 0, 0, 1, 0, 0, 0x10,
-    0x55, 0, 0, 1, 0, 0, 0x18, 0x66, 0, 0, 1, 0, 0, 0x18, 0x77, 0x77, 0, 0, 1, 0xB7,
-];
-
 /// Heads, I and D pictures in layer 0, P pictures and the first B picture of a group in layer 1, the others in layer 2.
 const PLACES: &str =
     "packets = 6\n[[layer]]\nname = \"base\"\nkinds = [\"head\", \"I\"]\nneed = 2\n[[layer]]\nname = \"P\"\nkinds = [\"P\", \"B1\"]\nneed = 3\n[[layer]]\nname = \"B\"\nkinds = [\"B\"]\nneed = 5\n";
-
-/// Heads, I and D pictures in layer 0, P pictures in layer 1, B pictures in layer 2.
-const PRIORITIES: &str =
-    "packets = 6\n[[layer]]\nname = \"base\"\nkinds = [\"head\", \"I\"]\nneed = 2\n[[layer]]\nname = \"P\"\nkinds = [\"P\"]\nneed = 3\n[[layer]]\nname = \"B\"\nkinds = [\"B\"]\nneed = 5\n";
 
 fn run(layer: u8, at: u64, len: u32) -> Run {
     Run { layer, at, len }
@@ -121,7 +108,7 @@ fn gives_what_ended_before_a_refusal(rt: HostRuntime) -> Result<(), Fail> {
 #[test]
 fn cuts_the_example_stream_by_places(rt: HostRuntime) -> Result<(), Fail> {
     let priority = read_priority(rt.alloc(), PLACES.as_bytes()).expect(&rt, "a priority");
-    let (groups, whole) = cut_in(rt.alloc(), &priority, &EXAMPLE, 20, 20).expect(&rt, "memory");
+    let (groups, whole) = cut_in(rt.alloc(), &priority, &STREAM, 20, 20).expect(&rt, "memory");
     assert!(rt; whole);
     assert_eq!(rt; groups.len(), 1);
     let runs = [run(0, 0, 18), run(1, 18, 14), run(2, 32, 8), run(0, 40, 4)];

@@ -1,0 +1,99 @@
+//! What the tests share: layers, priorities, pieces, two groups, and the table of the example session.
+ghost use Rattle.std.specs.Prelude.{◌≡◌, IfSome};
+
+use arrayvec::{ArrayString, ArrayVec};
+use mpeg_scan::Piece;
+use pet_base::{Kind, MAX_LAYERS};
+use priority_file::{KindSet, LayerRule, Priority};
+use std::alloc::{AllocError, Global};
+use stripe_plan::{LayerSize, Table};
+
+/// Two groups of 11 bytes, each a group of pictures and an I picture.
+pub const TWO_GROUPS: [u8; 22] = [
+    0, 0, 1, 0xB8, 1, 0, 0, 1, 0, 0, 8, 0, 0, 1, 0xB8, 2, 0, 0, 1, 0, 0, 8,
+];
+
+/// A layer of so many bytes, which needs so many packets.
+pub fn layer(length: u32, need: u16) -> LayerSize
+    ensures { result ≡ record { length = length; need = need } }
+{
+    LayerSize { length, need }
+}
+
+/// Three layers, each of so many bytes and with this need.
+pub fn layers_of(sizes: [(u32, u16); 3]) -> [LayerSize; 3] {
+    let [first, second, third] = sizes;
+    [
+        layer(first.0, first.1),
+        layer(second.0, second.1),
+        layer(third.0, third.1),
+    ]
+}
+
+/// Whether these are the tables of the example session.
+pub fn is_example(tables: &[Table]) -> bool {
+    is_table(tables, 6, [(46, 2), (7, 3), (15, 5)])
+}
+
+/// Whether there is one table, with these packets, and layers of these lengths and needs.
+pub fn is_table(tables: &[Table], packets: u16, sizes: [(u32, u16); 3]) -> bool {
+    match tables {
+        [table] => table.packets() == packets && table.layers() == layers_of(sizes).as_slice(),
+        _ => false,
+    }
+}
+
+/// Layers of kinds and places by their bits, each with its need, where they are a priority.
+pub fn priority_of(packets: u16, rules: &[(u32, u16)]) -> Option<Priority>
+    ensures { IfSome result (λ p. p.packets ≡ packets) }
+{
+    let mut layers: ArrayVec<LayerRule, MAX_LAYERS> = ArrayVec::new();
+    for (bits, need) in rules {
+        let rule = LayerRule {
+            name: ArrayString::new(),
+            kinds: KindSet { bits: *bits },
+            need: *need,
+        };
+        layers.try_push(rule).ok()?;
+    }
+    Priority::new(packets, layers)
+}
+
+/// Heads, I and D pictures in layer 0, P pictures in layer 1, B pictures in layer 2.
+pub fn three_layers(packets: u16, needs: [u16; 3]) -> Option<Priority> {
+    priority_of(packets, &[(19, needs[0]), (4, needs[1]), (8, needs[2])])
+}
+
+/// A piece of a stream.
+pub fn piece(kind: Kind, code: u8, at: u64, len: u64) -> Piece
+    ensures { result ≡ record { kind = kind; code = code; at = at; len = len } }
+{
+    Piece {
+        kind,
+        code,
+        at,
+        len,
+    }
+}
+
+/// The pieces of the example stream: three heads, an I, a P and two B pictures, each with its code and its bytes.
+pub const EXAMPLE_PIECES: [(Kind, u8, u64); 7] = [
+    (Kind::Head, 0xB3, 6),
+    (Kind::Head, 0xB8, 5),
+    (Kind::I, 0, 7),
+    (Kind::P, 0, 7),
+    (Kind::B, 0, 7),
+    (Kind::B, 0, 8),
+    (Kind::Head, 0xB7, 4),
+];
+
+/// Pieces that stand on end from byte 0, each of a kind, with a code, and of so many bytes.
+pub fn pieces_on_end(alloc: Global, kinds: &[(Kind, u8, u64)]) -> Result<Vec<Piece>, AllocError> {
+    let mut pieces = Vec::new(alloc);
+    let mut at = 0u64;
+    for (kind, code, len) in kinds {
+        pieces.push(piece(*kind, *code, at, *len))?;
+        at = at.saturating_add(*len);
+    }
+    Ok(pieces)
+}
