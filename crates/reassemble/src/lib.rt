@@ -16,6 +16,3 @@ mod video;
 
 pub use fault::Assemble;
 pub use video::assemble;
-
-#[cfg(test)]
-mod tests;

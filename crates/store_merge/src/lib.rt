@@ -19,14 +19,3 @@ pub use format::{HEAD_LENGTH, MARK, format_is};
 pub use merge::merge_stores;
 pub use read::read_store;
 pub use write::write_store;
-
-#[cfg(test)]
-mod files_tests;
-#[cfg(test)]
-mod group_tests;
-#[cfg(test)]
-mod read_tests;
-#[cfg(test)]
-mod tests;
-#[cfg(test)]
-mod union_tests;
