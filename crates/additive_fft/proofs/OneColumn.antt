@@ -1,5 +1,5 @@
 -- The conversion and the whole over the rows of one column.
-use Rattle.std.proofs.Common.{◌≡◌, ◌<◌, ◌+◌, ◌-◌, ◌*◌, ◌%◌, ◌^◌, ◌++◌, ℕ, zero, suc, List, [], ◌∷◌, All, length, take, drop, set, get_or, map, refl, sym, ap, ap₂, ◌∙◌, arith, add-one, bit_xor, subst}
+use Rattle.std.proofs.Common.{◌≡◌, ◌<◌, ◌+◌, ◌-◌, ◌*◌, ◌%◌, ◌^◌, ◌++◌, ℕ, zero, suc, List, [], ◌∷◌, All, length, take, drop, get_or, map, refl, sym, ap, ap₂, ◌∙◌, arith, add-one, bit_xor, subst}
 use Rattle.std.specs.List.{AllByRecursion as Each}
 use Rattle.std.proofs.Math.Seq.{take-append_seam, drop-append_seam}
 use Rattle.std.proofs.lemmas.List.{length-append, map-append, get_or-map, length-take-le, length-drop, take-append-drop}
@@ -10,7 +10,7 @@ use Rattle.pet_field.specs.Gf16.{gf16}
 use Rattle.pet_poly.specs.Value.{value}
 use Rattle.additive_fft.specs.Basis.{squared, value_in_basis}
 use Rattle.additive_fft.specs.Columnwise.{along, Flies, Expands, Scales, Converts}
-use Rattle.additive_fft.specs.Trees.{Tree, flat, spread, add, each, scaled, expanded, converted, up}
+use Rattle.additive_fft.specs.Trees.{Tree, flat, spread, add, each, scaled, expanded}
 use Rattle.additive_fft.proofs.Leaves.{Holds}
 use Rattle.additive_fft.specs.Constants.{factor, inverse}
 use Rattle.additive_fft.proofs.Factors.{count_from, count_at, length-count, gf16_converted, gf16_flown}

@@ -8,8 +8,8 @@ use lib.Pow.{pow_mono}
 use Rattle.pet_field.specs.Gf16.{gf16}
 use Rattle.additive_fft.specs.Basis.{hats}
 use Rattle.additive_fft.specs.Columnwise.{along, Flies}
-use Rattle.additive_fft.specs.Trees.{Tree, flat, add, each, flown}
-use Rattle.additive_fft.specs.Constants.{base, inverse}
+use Rattle.additive_fft.specs.Trees.{Tree, flat, add, each}
+use Rattle.additive_fft.specs.Constants.{inverse}
 
 pub along_more : {E : Type 0} (g : E → E → E) (xs ys : List E) (i : ℕ) (d : E) → i < length ys → length ys ≤ length xs
     → set (along g xs (take i ys)) i (g (get_or (along g xs (take i ys)) i d) (get_or ys i d)) ≡ along g xs (take (suc i) ys)

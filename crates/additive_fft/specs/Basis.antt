@@ -1,6 +1,6 @@
 -- The subspaces of small numbers over a field of characteristic two, the polynomial of each, and the basis of their products.
 -- Cantor 1989; von zur Gathen and Gerhard 1996; Gao and Mateer 2010; the normalised basis is that of Lin, Chung and Han 2014.
-use Rattle.std.specs.Prelude.{ℕ, zero, suc, List, [], ◌∷◌, ◌^◌, take, drop, slice_index_or}
+use Rattle.std.specs.Prelude.{ℕ, zero, suc, List, ◌^◌, take, drop, slice_index_or}
 use Rattle.pet_field.specs.Field.{Operations}
 
 -- the square of h plus h, times i

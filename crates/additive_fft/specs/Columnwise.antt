@@ -1,5 +1,5 @@
 -- What each step of the transform makes of each column of rows.
-use Rattle.std.specs.Prelude.{◌≡◌, ◌<◌, ◌+◌, ◌^◌, ℕ, suc, List, [], ◌∷◌, ◌++◌, take, drop, bit_xor}
+use Rattle.std.specs.Prelude.{◌≡◌, ◌<◌, ℕ, suc, List, [], ◌∷◌, ◌++◌, take, drop, bit_xor}
 use Rattle.pet_field.specs.Gf16.{gf16}
 use Rattle.pet_rows.specs.Columns.{column}
 use Rattle.additive_fft.specs.Basis.{hats}

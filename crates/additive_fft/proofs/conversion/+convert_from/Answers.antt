@@ -1,4 +1,4 @@
-use Rattle.std.proofs.Common.{◌-◌, ◌^◌, ◌+◌, ◌≡◌, ap, refl, arith}
+use Rattle.std.proofs.Common.{◌-◌, ◌^◌, ◌+◌, ◌≡◌, ap, arith}
 use Rattle.additive_fft.proofs.Columns.{converts_columns, converts_none_columns}
 use Rattle.additive_fft.proofs.conversion.+convert_from.Goals as goal
 

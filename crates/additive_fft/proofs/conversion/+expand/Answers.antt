@@ -1,4 +1,4 @@
-use Rattle.std.proofs.Common.{◌-◌, ◌^◌, ◌*◌, ◌+◌, ◌≡◌, ◌∙◌, ap, length, refl, arith}
+use Rattle.std.proofs.Common.{◌-◌, ◌^◌, ◌+◌, ◌≡◌, ◌∙◌, ap, refl, arith}
 use Rattle.additive_fft.proofs.Columns.{expands_columns, expands_none_columns, length_low, length_high, power_between}
 use Rattle.additive_fft.proofs.conversion.+expand.Goals as goal
 

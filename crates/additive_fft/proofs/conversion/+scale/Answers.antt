@@ -1,4 +1,4 @@
-use Rattle.std.proofs.Common.{◌-◌, ◌^◌, ◌*◌, ◌+◌, ◌≡◌, ◌∙◌, ap, length, refl, arith}
+use Rattle.std.proofs.Common.{◌-◌, ◌^◌, ◌+◌, ◌≡◌, ◌∙◌, ap, refl, arith}
 use Rattle.pet_field.specs.Gf16.{gf16}
 use Rattle.additive_fft.proofs.Columns.{scales_columns, scales_none_columns, length_low, length_high, power_halves}
 use Rattle.additive_fft.proofs.conversion.+scale.Goals as goal

@@ -1,4 +1,4 @@
-use Rattle.std.proofs.Common.{◌-◌, ◌<◌, ◌≡◌, ◌≤◌, ◌+◌, ◌*◌, ◌∙◌, length, get_or, take, drop, bit_xor, refl, arith}
+use Rattle.std.proofs.Common.{◌-◌, ◌≡◌, ◌≤◌, ◌+◌, ◌*◌, ◌∙◌, length, get_or, take, drop, bit_xor, refl, arith}
 use Rattle.std.proofs.lemmas.List.{length-drop, length-take-le}
 use Rattle.pet_field.specs.Gf16.{gf16}
 use Rattle.pet_rows.proofs.Parts.{part_length}
