@@ -1,3 +1,4 @@
+mod CosetRows
 pub mod RowAfterRow
 mod RowLanes
 mod TransformedRows

@@ -1,7 +1,7 @@
 -- Rows of values, of stripes side by side that a transform took to its values.
-use Rattle.std.proofs.Common.{◌≡◌, ℕ, zero, suc, ◌+◌, ◌-◌, ◌*◌, ◌^◌, ◌<◌, ◌≤◌, List, [], ◌∷◌, length, get_or, take, drop, map, All, replicate, sym, ap, subst, ◌∙◌, arith}
+use Rattle.std.proofs.Common.{◌≡◌, ℕ, zero, suc, ◌+◌, ◌*◌, ◌^◌, ◌<◌, ◌≤◌, List, [], ◌∷◌, length, get_or, take, drop, map, All, replicate, refl, sym, ap, subst, ◌∙◌, arith}
 use native.Mathlib.Nat.{pow-suc}
-use Rattle.std.proofs.lemmas.Nat.{mul-le, pow-add}
+use Rattle.std.proofs.lemmas.Nat.{pow-add}
 use Rattle.std.proofs.lemmas.List.{ext_get_or, get_or-take, get_or-drop, get_or-map, get_or-replicate, length-take-le, length-drop, length-map, length-replicate}
 use Rattle.std.proofs.lemmas.List.Elements.{All-nil, All-head, All-tail, All-append}
 use Rattle.additive_fft.specs.Steps.{butterflies}
@@ -17,22 +17,42 @@ use Rattle.point_values.specs.Wide.{AreSideBySide}
 use Rattle.point_values.specs.laws.WideLaws.{value_is_stripe}
 use Rattle.point_values.proofs.RowAfterRow.{row_within}
 
-few_butterflies : (n : ℕ) → butterflies n ≤ n * 2 ^ n
-few_butterflies zero = omega arith
-few_butterflies (suc n) =
-    let twice : suc n * 2 ^ suc n ≡ suc n * (2 ^ n * 2) = ap (λ t. suc n * t) (pow-suc 2 n) in
-    omega (arith, few_butterflies n, twice)
+two_halves : (p n b : ℕ) → 2 * b ≡ n * p → 2 * (p + 2 * b) ≡ suc n * (p * 2)
+two_halves p n b e = grind arith
+
+-- half as many as there are rows and levels
+butterflies_are : (n : ℕ) → 2 * butterflies n ≡ n * 2 ^ n
+butterflies_are zero = refl
+butterflies_are (suc n) = two_halves (2 ^ n) n (butterflies n) (butterflies_are n) ∙ ap (λ p. suc n * p) (sym (pow-suc 2 n))
+
+twice_by : (a b : ℕ) → 2 * (a * b) ≡ 2 * a * b
+twice_by a b = grind arith
+
+by_twice : (a b : ℕ) → a * (2 * b) ≡ 2 * (a * b)
+by_twice a b = grind arith
+
+regroup : (a b c : ℕ) → a * b * c ≡ a * (b * c)
+regroup a b c = grind arith
 
 -- a transform makes fewer products than Horner's rule
-pub cost_fits : (level size stripes wide words count : ℕ) → size ≡ 2 ^ level → wide ≡ size * stripes → 2 * level * wide + 4 * size ≤ count * words
-    → (level * 2 ^ level + butterflies level) * stripes + 2 ^ (level + 2) ≤ count * words
-cost_fits level size stripes wide words count is wide_is few =
-    let most : (level * 2 ^ level + butterflies level) * stripes ≤ (level * 2 ^ level + level * 2 ^ level) * stripes =
-    mul-le (level * 2 ^ level + butterflies level) stripes (level * 2 ^ level + level * 2 ^ level) stripes (omega (arith, few_butterflies level)) (omega arith) in
-    let same : 2 * level * wide ≡ (level * 2 ^ level + level * 2 ^ level) * stripes =
-    ap (λ t. 2 * level * t) (wide_is ∙ ap (λ t. t * stripes) is) ∙ omega arith in
-    let four : 2 ^ (level + 2) ≡ 2 ^ level * 4 = pow-add 2 level 2 in
-    omega (arith, most, same, four, is, few)
+pub cost_fits : (level size stripes wide further words count : ℕ) → size ≡ 2 ^ level → wide ≡ size * stripes
+    → 2 * (level * wide + 2 * size) + (further + 1) * (level * wide + 4 * size) ≤ 2 * count * words
+    → level * (2 ^ level * stripes) + 2 ^ (level + 1) + (further + 1) * (butterflies level * stripes + 2 ^ (level + 1)) ≤ count * words
+cost_fits level size stripes wide further words count is wide_is few =
+    let b = butterflies level in
+    let each : ℕ = b * stripes + 2 ^ (level + 1) in
+    let two : 2 ^ (level + 1) ≡ 2 ^ level * 2 = pow-add 2 level 1 in
+    let rows : 2 ^ level * stripes ≡ wide = ap (λ t. t * stripes) (sym is) ∙ sym wide_is in
+    let converted : level * (2 ^ level * stripes) ≡ level * wide = ap (λ t. level * t) rows in
+    let flown : 2 * (b * stripes) ≡ level * wide = twice_by b stripes ∙ ap (λ t. t * stripes) (butterflies_are level) ∙ regroup level (2 ^ level) stripes ∙ converted in
+    let both : level * wide + 4 * size ≡ 2 * each = omega (arith, two, flown, is) in
+    let cosets : (further + 1) * (level * wide + 4 * size) ≡ 2 * ((further + 1) * each) = ap (λ t. (further + 1) * t) both ∙ by_twice (further + 1) each in
+    let all : 2 * count * words ≡ 2 * (count * words) = sym (twice_by count words) in
+    let half : level * wide + 2 * size + (further + 1) * each ≤ count * words = halved (level * wide + 2 * size) ((further + 1) * each) (count * words) (omega (arith, cosets, all, few)) in
+    omega (arith, two, is, converted, half)
+  where
+    halved : (a b c : ℕ) → 2 * a + 2 * b ≤ 2 * c → a + b ≤ c
+    halved a b c l = omega arith
 
 lengths_short : (size : ℕ) (bs : List Block) → All (λ b. b.length ≤ size) bs → All (λ n. n ≤ size) (lengths_of bs)
 lengths_short size [] h = All-nil (λ n. n ≤ size)
@@ -48,42 +68,34 @@ stripe_short d size bs laid h c l =
     sym (get_or-map length (columns_of d bs laid) c [] 0 l) ∙ ap (λ ns. get_or ns c 0) (column_lengths d bs laid) in
     rw same (lengths_short size bs h c 0 (omega (arith, ap length (column_lengths d bs laid), length-map (columns_of d bs laid) length)))
 
--- the rows of a range of points
-pub rows_are : (w size first count from : ℕ) (columns : List (List ℕ)) (old new items : List ℕ) → w ≡ length columns → AreSideBySide 0 size columns old
-    → ((c : ℕ) → c < length columns → length (get_or columns c []) ≤ size) → size ≤ 65536 → first + count ≤ size → length new ≡ size * w
-    → ((p c : ℕ) → p < size → c < w → get_or new (p * w + c) 0 ≡ value gf16 (column 0 w size c old) (0 * size + p))
-    → from ≡ first * w → items ≡ take (from + count * w - from) (drop from new)
-    → HasRows w count (λ p. map (λ s. value gf16 s (first + p)) columns) items
-rows_are w size first count from columns old new items wide h short small within long is begins part =
-    let n : from + count * w - from ≡ count * w = omega arith in
-    let room : first * w + count * w ≤ length new = omega (arith, long, mul-le (first + count) w size w within (omega arith)) in
-    let items_long : length items ≡ count * w =
-    ap length part ∙ length-take-le (from + count * w - from) (drop from new) (omega (arith, length-drop from new, n, begins, room)) ∙ n in
+-- rows place by place
+pub rows_are : (w count : ℕ) (row : ℕ → List ℕ) (items : List ℕ) → length items ≡ count * w → ((p : ℕ) → p < count → length (row p) ≡ w)
+    → ((p c : ℕ) → p < count → c < w → get_or items (p * w + c) 0 ≡ get_or (row p) c 0) → HasRows w count row items
+rows_are w count row items long wide is =
     record {
-      long = items_long;
+      long = long;
       each =
           λ p l.
-          let row : List ℕ = take w (drop (p * w) items) in
-          let row_long : length row ≡ w = length-take-le w (drop (p * w) items) (omega (arith, length-drop (p * w) items, row_within p count w l, items_long)) in
-          let there : first + p < size = omega arith in
-          ext_get_or 0 row (map (λ s. value gf16 s (first + p)) columns) (row_long ∙ wide ∙ sym (length-map columns (λ s. value gf16 s (first + p))))
+          let here : List ℕ = take w (drop (p * w) items) in
+          let here_long : length here ≡ w = length-take-le w (drop (p * w) items) (omega (arith, length-drop (p * w) items, row_within p count w l, long)) in
+          ext_get_or 0 here (row p) (here_long ∙ sym (wide p l))
           (λ c m.
-          let low : c < w = omega arith in
-          let place : from + (p * w + c) ≡ (first + p) * w + c = omega (arith, begins) in
-          let inside : p * w + c < from + count * w - from = omega (arith, n, row_within p count w l) in
-          let point : 0 * size + (first + p) ≡ first + p = omega arith in
-          get_or-take w (drop (p * w) items) c 0 low ∙ get_or-drop (p * w) items c 0 ∙ ap (λ xs. get_or xs (p * w + c) 0) part
-          ∙ get_or-take (from + count * w - from) (drop from new) (p * w + c) 0 inside ∙ get_or-drop from new (p * w + c) 0
-          ∙ ap (λ i. get_or new i 0) place ∙ is (first + p) c there low ∙ ap (value gf16 (column 0 w size c old)) point
-          ∙ ap (λ k. value gf16 (column 0 k size c old) (first + p)) wide
-          ∙ value_is_stripe (λ a. a < 65536) gf16 gf16_field size c columns old (first + p) h (omega arith) (short c (omega arith)) (omega arith)
-          ∙ sym (get_or-map (λ s. value gf16 s (first + p)) columns c [] 0 (omega arith)));
+          let k : c < w = omega arith in
+          get_or-take w (drop (p * w) items) c 0 k ∙ get_or-drop (p * w) items c 0 ∙ is p c l k);
     }
+
+-- the values of stripes side by side
+pub values_are : (w size first count : ℕ) (columns : List (List ℕ)) (old items : List ℕ) → w ≡ length columns → AreSideBySide 0 size columns old
+    → ((c : ℕ) → c < length columns → length (get_or columns c []) ≤ size) → first + count ≤ 65536 → length items ≡ count * w
+    → ((p c : ℕ) → p < count → c < w → get_or items (p * w + c) 0 ≡ value gf16 (column 0 w size c old) (first + p))
+    → HasRows w count (λ p. map (λ s. value gf16 s (first + p)) columns) items
+values_are w size first count columns old items wide h short few long is =
+    rows_are w count (λ p. map (λ s. value gf16 s (first + p)) columns) items long (λ p l. length-map columns (λ s. value gf16 s (first + p)) ∙ sym wide)
+    (λ p c l m.
+    is p c l m ∙ ap (λ k. value gf16 (column 0 k size c old) (first + p)) wide
+    ∙ value_is_stripe (λ a. a < 65536) gf16 gf16_field size c columns old (first + p) h (omega arith) (short c (omega arith)) (omega arith)
+    ∙ sym (get_or-map (λ s. value gf16 s (first + p)) columns c [] 0 (omega arith)))
 
 -- what is known of stripes side by side holds of equal rows
 pub side_is : (size s : ℕ) (columns : List (List ℕ)) (old kept : List ℕ) → s ≡ size → old ≡ kept → AreSideBySide 0 s columns kept → AreSideBySide 0 size columns old
 side_is size s columns old kept e f h = subst (λ t. AreSideBySide 0 t columns old) e (subst (λ xs. AreSideBySide 0 s columns xs) (sym f) h)
-
--- the rows of a range of points are among all rows
-pub range_within : (first count size w : ℕ) → first + count ≤ size → first * w + count * w ≤ size * w
-range_within first count size w h = omega (arith, mul-le (first + count) w size w h (omega arith))

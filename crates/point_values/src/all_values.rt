@@ -1,10 +1,11 @@
 //! The values of all stripes at many points: a row for each point.
 ghost use Rattle.std.specs.Prelude.{◌≡◌, ℕ, ◌+◌, ◌*◌, ◌<◌, ◌≤◌, ◌^◌, length, map, All, IfOk};
+ghost use Rattle.pet_field.specs.Gf16.{gf16};
 ghost use Rattle.pet_poly.specs.Value.{value};
 ghost use Rattle.pet_rows.specs.Blocks.{columns_of, size_of, width_of};
 ghost use Rattle.point_values.specs.Matrix.{HasRows};
 
-use crate::transformed::{is_taken, level_of, longest, transformed};
+use crate::transformed::fill_transformed;
 use pet_base::{MAX_PACKETS, NoMemory, Steps};
 use pet_field::Gf16Plain;
 use pet_rows::{Block, MAX_WIDTH, Rows, block_values};
@@ -58,13 +59,45 @@ impl AllValues for Gf16Tables {
         count: usize,
         steps: &mut Steps<L>,
     ) -> Result<Vec<u16>, NoMemory> {
-        let most = longest(blocks).max(first + count);
-        let level = level_of(most);
-        if most <= MAX_PACKETS as usize && is_taken(level, stripes, count, laid.len()) {
-            transformed(alloc, blocks, laid, stripes, first, count, level, steps)
-        } else {
-            point_by_point(self, alloc, blocks, laid, stripes, first, count, steps)
-        }
+        let mut values = vec![in alloc; 0u16; count * stripes]?;
+        fill_values(
+            self,
+            alloc,
+            blocks,
+            laid,
+            stripes,
+            first,
+            count,
+            &mut values,
+            steps,
+        );
+        Ok(values)
+    }
+}
+
+/// Writes the values of all stripes at these points into the rows, by a transform or point after point.
+fn fill_values<L: Ledger>(
+    f: &Gf16Tables,
+    alloc: Global,
+    blocks: &[Block],
+    laid: &[u16],
+    stripes: usize,
+    first: usize,
+    count: usize,
+    into: &mut [u16],
+    steps: &mut Steps<L>,
+)
+    requires narrow { All (λ b. b.width ≤ MAX_WIDTH) blocks.now }
+    requires whole { length laid.now ≡ size_of blocks.now }
+    requires stripes { stripes ≡ width_of blocks.now }
+    requires few { first + count ≤ MAX_PACKETS }
+    requires room { length into.old ≡ count * stripes }
+    ensures rows { HasRows stripes count
+        (λ p. map (λ s. value gf16 s (first + p)) (columns_of 0 blocks.now laid.now)) into.new }
+    ensures cost { steps.new ≤ steps.old + count * length laid.now }
+{
+    if !fill_transformed(alloc, blocks, laid, stripes, first, count, into, steps) {
+        fill_rows(f, blocks, laid, stripes, first, count, into, steps);
     }
 }
 

@@ -6,6 +6,7 @@
 #![tactic(auto)]
 
 mod all_values;
+mod cosets;
 mod transformed;
 mod wide;
 

@@ -1,31 +1,28 @@
 //! The values of all stripes at many points by the additive fast Fourier transform, over the field of 65,536 elements.
-ghost use Rattle.std.specs.Prelude.{◌≡◌, ℕ, ◌+◌, ◌-◌, ◌*◌, ◌<◌, ◌≤◌, ◌^◌, length, take, drop, map, All, IfOk, true};
+ghost use Rattle.std.specs.Prelude.{◌≡◌, ℕ, ◌+◌, ◌*◌, ◌<◌, ◌≤◌, ◌^◌, length, map, All, IfOk, vec_len, true, false};
 ghost use Rattle.additive_fft.specs.Steps.{butterflies};
 ghost use Rattle.pet_field.specs.Gf16.{gf16};
 ghost use Rattle.pet_poly.specs.Value.{value};
 ghost use Rattle.pet_rows.specs.Blocks.{columns_of, size_of, width_of};
 ghost use Rattle.point_values.specs.Matrix.{HasRows};
 
+use crate::cosets::{MAX_LEVEL, coset_of, size_at, transform};
 use crate::wide::side_by_side;
-use additive_fft::values;
-use pet_base::{NoMemory, Steps};
+use pet_base::{MAX_PACKETS, Steps};
 use pet_rows::Block;
-use std::alloc::Global;
+use std::alloc::{AllocError, Global};
 use std::sync::ledger::Ledger;
 
-/// The highest level of a transform: it gives the values at 4,096 points, as many as a group has packets at most.
-const MAX_LEVEL: u32 = 12;
-
-/// The most words of the buffer of a transform: 16 MB.
+/// The most words of the buffers of a transform: 16 MB.
 const MAX_WIDE: usize = 8_388_608;
 
-/// The most words of that buffer for each word of the stripes.
+/// The most words of one buffer for each word of the stripes.
 const MAX_PADDING: usize = 4;
 
 /// The least level of a transform of at least so many rows, or else the highest.
-pub(crate) fn level_of(rows: usize) -> u32
+fn level_of(rows: usize) -> u32
     ensures few { result ≤ MAX_LEVEL }
-    ensures enough { rows ≤ 4096 → rows ≤ 2 ^ result }
+    ensures enough { rows ≤ MAX_PACKETS → rows ≤ 2 ^ result }
 {
     let mut size = 1;
     for level in 0..MAX_LEVEL {
@@ -38,7 +35,7 @@ pub(crate) fn level_of(rows: usize) -> u32
 }
 
 /// The most elements that a stripe has.
-pub(crate) fn longest(blocks: &[Block]) -> usize
+fn longest(blocks: &[Block]) -> usize
     ensures { All (λ b. b.length ≤ result) blocks.now }
 {
     let mut most = 0;
@@ -48,71 +45,80 @@ pub(crate) fn longest(blocks: &[Block]) -> usize
     most
 }
 
-/// The number of points of a transform.
-fn size_at(level: u32) -> usize
-    requires { level ≤ MAX_LEVEL }
-    ensures power { result ≡ 2 ^ level }
-    ensures bounds { result ≤ 4096 }
-{
-    1usize << level
-}
-
-/// Whether a transform of this level is taken for so many stripes, which have so many words: it makes fewer products than
-/// Horner's rule, and its buffer is small.
-pub(crate) fn is_taken(level: u32, stripes: usize, count: usize, words: usize) -> bool
+/// Whether a transform of this level is taken for so many stripes, which have so many words, and as many cosets behind the
+/// first: a bound on its products is at most what Horner's rule makes, and its buffers are small.
+fn is_taken(level: u32, stripes: usize, further: u16, count: usize, words: usize) -> bool
     requires level { level ≤ MAX_LEVEL }
-    requires count { count ≤ 4096 }
+    requires count { count ≤ MAX_PACKETS }
     ensures room { result ≡ true → 2 ^ level * stripes < 2 ^ 64 }
-    ensures cost { result ≡ true → (level * 2 ^ level + butterflies level) * stripes + 2 ^ (level + 2) ≤ count * words }
+    ensures cost { result ≡ true → level * (2 ^ level * stripes) + 2 ^ (level + 1)
+        + (further + 1) * (butterflies level * stripes + 2 ^ (level + 1)) ≤ count * words }
 {
     let size = size_at(level);
     let Some(wide) = size.checked_mul(stripes) else {
         return false;
     };
-    if words > MAX_WIDE || wide > MAX_WIDE || wide > MAX_PADDING * words {
+    let buffers = if further == 0 { 1 } else { 2 };
+    if words > MAX_WIDE || wide > MAX_WIDE / buffers || wide > MAX_PADDING * words {
         return false;
     }
-    let products = 2 * level as usize * wide + 4 * size;
-    if products > count * words {
+    // twice as many as are made
+    let converted = 2 * (level as usize * wide + 2 * size);
+    let flown = level as usize * wide + 4 * size;
+    if converted + (usize::from(further) + 1) * flown > 2 * count * words {
         return false;
     }
     true
 }
 
-/// The values of all stripes at the points of the numbers `first` to `first + count - 1`, by a transform of this level.
-pub(crate) fn transformed<L: Ledger>(
+/// Room for one coset more than the first, if there are several.
+fn room_for(alloc: Global, several: bool, words: usize) -> Result<Vec<u16>, AllocError>
+    ensures { IfOk result (λ v. several ≡ true → vec_len v ≡ words) }
+{
+    let room = if several { words } else { 0 };
+    vec![in alloc; 0u16; room]
+}
+
+/// Writes the values of all stripes at the points of the numbers `first` to `first + count - 1`, a row for each number, if a
+/// transform is taken and there is memory for its buffers. Answers whether it did.
+pub(crate) fn fill_transformed<L: Ledger>(
     alloc: Global,
     blocks: &[Block],
     laid: &[u16],
     stripes: usize,
     first: usize,
     count: usize,
-    level: u32,
+    into: &mut [u16],
     steps: &mut Steps<L>,
-) -> Result<Vec<u16>, NoMemory>
+) -> bool
     requires whole { length laid.now ≡ size_of blocks.now }
     requires stripes { stripes ≡ width_of blocks.now }
-    requires level { level ≤ MAX_LEVEL }
-    requires short { All (λ b. b.length ≤ 2 ^ level) blocks.now }
-    requires points { first + count ≤ 2 ^ level }
-    requires room { 2 ^ level * stripes < 2 ^ 64 }
-    ensures rows { IfOk result (λ rows. HasRows stripes count
-        (λ p. map (λ s. value gf16 s (first + p)) (columns_of 0 blocks.now laid.now)) rows.items) }
-    ensures cost { steps.new ≤ steps.old + ((level * 2 ^ level + butterflies level) * stripes + 2 ^ (level + 2)) }
+    requires few { first + count ≤ MAX_PACKETS }
+    requires room { length into.old ≡ count * stripes }
+    ensures rows { result ≡ true → HasRows stripes count
+        (λ p. map (λ s. value gf16 s (first + p)) (columns_of 0 blocks.now laid.now)) into.new }
+    ensures cost { steps.new ≤ steps.old + count * length laid.now }
+    ensures none { result ≡ false → steps.new ≡ steps.old }
 {
+    let most = longest(blocks);
+    let level = level_of(most);
     let size = size_at(level);
-    let mut rows = side_by_side(alloc, blocks, laid, stripes, size)?;
-    values(&mut rows, stripes, level, 0, steps);
-    let part = part_of(alloc, &rows, first * stripes, count * stripes)?;
-    Ok(part)
-}
-
-/// A copy of `count` words from a place on.
-fn part_of(alloc: Global, words: &[u16], from: usize, count: usize) -> Result<Vec<u16>, NoMemory>
-    requires { from + count ≤ length words.now }
-    ensures { IfOk result (λ part. part.items ≡ take (from + count - from) (drop from words.now)) }
-{
-    let end = from + count;
-    let part = Vec::from_slice(alloc, &words[from..end])?;
-    Ok(part)
+    if count == 0 || most > size {
+        return false;
+    }
+    let from = coset_of(first, level);
+    let last = coset_of(first + count - 1, level);
+    if !is_taken(level, stripes, last - from, count, laid.len()) {
+        return false;
+    }
+    let Ok(mut rows) = side_by_side(alloc, blocks, laid, stripes, size) else {
+        return false;
+    };
+    let Ok(mut spare) = room_for(alloc, from < last, size * stripes) else {
+        return false;
+    };
+    transform(
+        &mut rows, &mut spare, stripes, level, from, last, first, count, into, steps,
+    );
+    true
 }

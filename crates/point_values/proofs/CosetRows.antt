@@ -1,0 +1,55 @@
+-- Rows of values that are made coset after coset.
+use borrow.Rule.Slice.PartMut.{put_mid}
+use Rattle.std.proofs.Common.{◌≡◌, ℕ, inl, inr, ◌+◌, ◌-◌, ◌*◌, ◌<◌, ◌≤◌, List, length, get_or, take, drop, ap, ◌∙◌, arith}
+use Rattle.std.proofs.lemmas.Bool.{cases_lt}
+use Rattle.std.proofs.lemmas.List.{get_or-take, get_or-drop, length-take-le, length-drop}
+use Rattle.pet_rows.proofs.Parts.{part_before, part_inside}
+use Rattle.point_values.proofs.RowAfterRow.{row_within}
+
+-- `count` rows are copied from row `from` on over those from row `to` on
+module _ (width from to count start place words : ℕ) (rows into piece : List ℕ) (source : (from + count) * width ≤ length rows) (target : (to + count) * width ≤ length into)
+    (start_is : start ≡ from * width) (place_is : place ≡ to * width) (words_is : words ≡ count * width) (copied : piece ≡ take (start + words - start) (drop start rows)) where
+  abbrev new : List ℕ
+  new = put_mid place (place + words - place) into piece
+
+  pub source_within : start + words ≤ length rows
+  source_within = omega (arith, source, start_is, words_is)
+
+  pub target_within : place + words ≤ length into
+  target_within = omega (arith, target, place_is, words_is)
+
+  piece_long : length piece ≡ place + words - place
+  piece_long = ap length copied ∙ length-take-le (start + words - start) (drop start rows) (omega (arith, length-drop start rows, source_within)) ∙ omega arith
+
+  within : place + (place + words - place) ≤ length into
+  within = omega (arith, target_within)
+
+  pub copied_at : (p c : ℕ) → p < count → c < width → get_or new ((to + p) * width + c) 0 ≡ get_or rows ((from + p) * width + c) 0
+  copied_at p c l m =
+      let inside : p * width + c < words = omega (arith, row_within p count width l, words_is) in
+      let there : (to + p) * width + c ≡ place + (p * width + c) = omega (arith, place_is) in
+      let here : start + (p * width + c) ≡ (from + p) * width + c = omega (arith, start_is) in
+      ap (λ i. get_or new i 0) there ∙ part_inside 0 place (place + words - place) into piece within piece_long (p * width + c) (omega arith)
+      ∙ ap (λ xs. get_or xs (p * width + c) 0) copied ∙ get_or-take (start + words - start) (drop start rows) (p * width + c) 0 (omega arith)
+      ∙ get_or-drop start rows (p * width + c) 0 ∙ ap (λ i. get_or rows i 0) here
+
+  pub before_at : (i : ℕ) → i < to * width → get_or new i 0 ≡ get_or into i 0
+  before_at i l = part_before 0 place (place + words - place) into piece within piece_long i (omega (arith, place_is))
+
+-- a coset more
+pub cosets_more : (V : ℕ → ℕ → ℕ) (w size coset first count : ℕ) (into after : List ℕ)
+    → ((p c : ℕ) → p < count → first + p < coset * size → c < w → get_or into (p * w + c) 0 ≡ V c (first + p))
+    → ((p c : ℕ) → p < count → coset * size ≤ first + p → first + p < coset * size + size → c < w → get_or after (p * w + c) 0 ≡ V c (first + p))
+    → ((p c : ℕ) → p < count → first + p < coset * size → c < w → get_or after (p * w + c) 0 ≡ get_or into (p * w + c) 0)
+    → (p c : ℕ) → p < count → first + p < coset * size + size → c < w → get_or after (p * w + c) 0 ≡ V c (first + p)
+cosets_more V w size coset first count into after done here before p c l m k =
+    elim (cases_lt (first + p) (coset * size)) [
+      | inl a ↦ before p c l a k ∙ done p c l a k
+      | inr a ↦ here p c l a m k
+    ]
+
+-- one coset is counted more
+pub cost_more : (from coset each : ℕ) → from ≤ coset → (coset + 1 - from) * each ≡ (coset - from) * each + each
+cost_more from coset each l =
+    let e : coset + 1 - from ≡ coset - from + 1 = omega arith in
+    ap (λ n. n * each) e ∙ omega arith
