@@ -13,7 +13,7 @@ use Rattle.pet_poly.specs.Value.{value}
 use Rattle.additive_fft.specs.Basis.{hats, squared, value_in_basis}
 use Rattle.additive_fft.specs.Columnwise.{Columnwise, along, Flies, Lifts, Expands, Scales, Converts}
 use Rattle.additive_fft.specs.Constants.{factor, inverse}
-use Rattle.additive_fft.proofs.Places.{length-along, flies_step, flies_none}
+use Rattle.additive_fft.proofs.Places.{length-along, flies_more, flies_fewer, flies_none}
 use Rattle.additive_fft.proofs.OneColumn.{converts_value, flies_value, expands_step, expands_none, scales_step, scales_none, converts_step, converts_none}
 
 -- ---- rows cut and joined
@@ -135,24 +135,41 @@ module _ (n p w m c : ℕ) (rows : List ℕ) (e : n ≡ p + p) (long : length ro
 
 -- ---- the butterflies
 
-pub flies_columns : (w level k c by m s : ℕ) (rows low high low1 high1 new_low new_high : List ℕ) → level ≡ suc k → length rows ≡ 2 ^ level * w
-    → m ≡ length rows / 2 → s ≡ 2 ^ k → low ≡ take m rows → high ≡ drop m rows → by ≡ hats gf16 inverse k c → length low1 ≡ 2 ^ k * w → length new_low ≡ 2 ^ k * w
-    → ((i : ℕ) → i < length high → get_or low1 i 0 ≡ bit_xor (get_or low i 0) (gf16.times by (get_or high i 0)))
-    → ((i : ℕ) → i < length low1 → get_or high1 i 0 ≡ bit_xor (get_or high i 0) (get_or low1 i 0))
-    → Columnwise (Flies k c) w (2 ^ k) low1 new_low → Columnwise (Flies k (bit_xor c s)) w (2 ^ k) high1 new_high
-    → Columnwise (Flies level c) w (2 ^ level) rows (new_low ++ new_high)
-flies_columns w level k c by m s rows low high low1 high1 new_low new_high e long em es l h b n1 nl l1 h1 f g i li =
-    let p = 2 ^ k in
-    let ep : 2 ^ level ≡ p + p = ap (λ j. 2 ^ j) e ∙ doubled_power k in
-    let C = λ (rows : List ℕ). column 0 w p i rows in
-    subst (Flies level c (column 0 w (2 ^ level) i rows)) (sym (column_append w p p (2 ^ level) i new_low new_high li ep nl))
-    (flies_step level k c by p s (column 0 w (2 ^ level) i rows) (C low) (C high) (C low1) (C high1) (C new_low) (C new_high) e refl es
-    (column_low (2 ^ level) p w m i rows ep long em li low l) (column_high (2 ^ level) p w m i rows ep long em li high h) b
-    (column_along (λ x y. bit_xor x (gf16.times by y)) w p i low high low1 li (length_high (2 ^ level) p w m rows high ep long em h) l1)
-    (column_along bit_xor w p i high low1 high1 li n1 h1) (f i li) (g i li))
+module _ (w level k c by m : ℕ) (rows low high low1 : List ℕ) (e : level ≡ suc k) (long : length rows ≡ 2 ^ level * w) (em : m ≡ length rows / 2)
+    (l : low ≡ take m rows) (h : high ≡ drop m rows) (b : by ≡ hats gf16 inverse k c)
+    (l1 : (i : ℕ) → i < length high → get_or low1 i 0 ≡ bit_xor (get_or low i 0) (gf16.times by (get_or high i 0))) where
+  ep : 2 ^ level ≡ 2 ^ k + 2 ^ k
+  ep = ap (λ j. 2 ^ j) e ∙ doubled_power k
 
-pub flies_none_columns : (w level c : ℕ) (rows : List ℕ) → level ≡ 0 → Columnwise (Flies level c) w (2 ^ level) rows rows
-flies_none_columns w level c rows e i l = flies_none level c (column 0 w (2 ^ level) i rows) e
+  summed : (i : ℕ) → i < w → column 0 w (2 ^ k) i low1 ≡ along (λ x y. bit_xor x (gf16.times by y)) (column 0 w (2 ^ k) i low) (column 0 w (2 ^ k) i high)
+  summed i li = column_along (λ x y. bit_xor x (gf16.times by y)) w (2 ^ k) i low high low1 li (length_high (2 ^ level) (2 ^ k) w m rows high ep long em h) l1
+
+  pub flies_columns : (s half count : ℕ) (high1 new_low new_high : List ℕ) → s ≡ 2 ^ k → half ≡ 2 ^ k → half < count → length low1 ≡ 2 ^ k * w → length new_low ≡ 2 ^ k * w
+      → ((i : ℕ) → i < length high → get_or high1 i 0 ≡ bit_xor (get_or high i 0) (get_or low1 i 0))
+      → Columnwise (Flies k c half) w (2 ^ k) low1 new_low → Columnwise (Flies k (bit_xor c s) (count - half)) w (2 ^ k) high1 new_high
+      → Columnwise (Flies level c count) w (2 ^ level) rows (new_low ++ new_high)
+  flies_columns s half count high1 new_low new_high es eh some n1 nl h1 f g i li =
+      let p = 2 ^ k in
+      let C = λ (rows : List ℕ). column 0 w p i rows in
+      let nh : length high ≡ p * w = length_high (2 ^ level) p w m rows high ep long em h in
+      subst (Flies level c count (column 0 w (2 ^ level) i rows)) (sym (column_append w p p (2 ^ level) i new_low new_high li ep nl))
+      (flies_more level k c by half s count (column 0 w (2 ^ level) i rows) (C low) (C high) (C low1) (C high1) (C new_low) (C new_high) e eh es (omega arith)
+      (column_low (2 ^ level) p w m i rows ep long em li low l ∙ ap (λ t. take t (column 0 w (2 ^ level) i rows)) (sym eh))
+      (column_high (2 ^ level) p w m i rows ep long em li high h ∙ ap (λ t. drop t (column 0 w (2 ^ level) i rows)) (sym eh)) b (summed i li)
+      (column_along bit_xor w p i high low1 high1 li n1 (λ j lj. h1 j (omega arith))) (length-column 0 w p i new_low) (f i li) (g i li))
+
+  pub flies_low_columns : (count : ℕ) (new_low : List ℕ) → count ≤ 2 ^ k → length new_low ≡ 2 ^ k * w
+      → Columnwise (Flies k c count) w (2 ^ k) low1 new_low → Columnwise (Flies level c count) w (2 ^ level) rows (new_low ++ high)
+  flies_low_columns count new_low few nl f i li =
+      let p = 2 ^ k in
+      let C = λ (rows : List ℕ). column 0 w p i rows in
+      subst (Flies level c count (column 0 w (2 ^ level) i rows)) (sym (column_append w p p (2 ^ level) i new_low high li ep nl))
+      (flies_fewer level k c by p count (column 0 w (2 ^ level) i rows) (C low) (C high) (C low1) (C new_low) e refl few
+      (column_low (2 ^ level) p w m i rows ep long em li low l) (column_high (2 ^ level) p w m i rows ep long em li high h) b (summed i li)
+      (length-column 0 w p i new_low) (f i li))
+
+pub flies_none_columns : (w level c count : ℕ) (rows : List ℕ) → (0 < count → level ≡ 0) → Columnwise (Flies level c count) w (2 ^ level) rows rows
+flies_none_columns w level c count rows e i l = flies_none level c count (column 0 w (2 ^ level) i rows) e
 
 -- ---- the expansion
 
@@ -231,14 +248,14 @@ converted_columns w n k x i old new e few hx h long l f =
     (column_elements (λ a. a < 65536) 0 w (2 ^ n) i old l (omega arith) h)
     (subst (λ t. Converts 0 n (column 0 w t i old) (column 0 w t i new)) e (f i l))
 
-pub flown_columns : (w n a d p i : ℕ) (old new : List ℕ) → d ≡ a * 2 ^ n → n < 16 → a * 2 ^ n < 65536 → p < 2 ^ n → All (λ a. a < 65536) old
-    → length old ≡ 2 ^ n * w → i < w → Columnwise (Flies n d) w (2 ^ n) old new
+pub flown_columns : (w n a d count p i : ℕ) (old new : List ℕ) → d ≡ a * 2 ^ n → n < 16 → a * 2 ^ n < 65536 → p < count → count ≤ 2 ^ n → All (λ a. a < 65536) old
+    → length old ≡ 2 ^ n * w → i < w → Columnwise (Flies n d count) w (2 ^ n) old new
     → get_or new (p * w + i) 0 ≡ value_in_basis gf16 inverse n (column 0 w (2 ^ n) i old) (a * 2 ^ n + p)
-flown_columns w n a d p i old new e few small lp h long l f =
-    sym (column_at 0 0 w (2 ^ n) i p new lp)
-    ∙ flies_value n a p (column 0 w (2 ^ n) i old) (column 0 w (2 ^ n) i new) few small lp (length-column 0 w (2 ^ n) i old)
+flown_columns w n a d count p i old new e few small lp within h long l f =
+    sym (column_at 0 0 w (2 ^ n) i p new (omega arith))
+    ∙ flies_value n a count p (column 0 w (2 ^ n) i old) (column 0 w (2 ^ n) i new) few small lp within (length-column 0 w (2 ^ n) i old)
     (column_elements (λ a. a < 65536) 0 w (2 ^ n) i old l (omega arith) h)
-    (subst (λ t. Flies n t (column 0 w (2 ^ n) i old) (column 0 w (2 ^ n) i new)) e (f i l))
+    (subst (λ t. Flies n t count (column 0 w (2 ^ n) i old) (column 0 w (2 ^ n) i new)) e (f i l))
 
 -- the numbers of a coset are elements
 pub in_coset : (n a p : ℕ) → n < 16 → a * 2 ^ n < 65536 → p < 2 ^ n → a * 2 ^ n + p < 65536

@@ -8,3 +8,4 @@ pub mod OneColumn
 pub mod Columns
 pub mod Counting
 pub mod Pieces
+pub mod Zeros

@@ -1,5 +1,5 @@
 -- The conversion and the whole over the rows of one column.
-use Rattle.std.proofs.Common.{◌≡◌, ◌<◌, ◌+◌, ◌-◌, ◌*◌, ◌%◌, ◌^◌, ◌++◌, ℕ, zero, suc, List, [], ◌∷◌, All, length, take, drop, get_or, map, refl, sym, ap, ap₂, ◌∙◌, arith, add-one, bit_xor, subst}
+use Rattle.std.proofs.Common.{◌≡◌, ◌<◌, ◌≤◌, ◌+◌, ◌-◌, ◌*◌, ◌%◌, ◌^◌, ◌++◌, ℕ, zero, suc, List, [], ◌∷◌, All, length, take, drop, get_or, map, refl, sym, ap, ap₂, ◌∙◌, arith, add-one, bit_xor, subst}
 use Rattle.std.specs.List.{AllByRecursion as Each}
 use Rattle.std.proofs.Math.Seq.{take-append_seam, drop-append_seam}
 use Rattle.std.proofs.lemmas.List.{length-append, map-append, get_or-map, length-take-le, length-drop, take-append-drop}
@@ -127,14 +127,15 @@ converts_value n x old new l hx e h f =
     ap (λ r. value_in_basis gf16 inverse n r x) (f t.0 (spread_flat n t.0 ∙ t.1)) ∙ gf16_converted n x t.0 l hx hold ∙ ap (λ r. value gf16 r x) t.1
 
 -- the butterflies leave the values
-pub flies_value : (n a p : ℕ) (old new : List ℕ) → n < 16 → a * 2 ^ n < 65536 → p < 2 ^ n → length old ≡ 2 ^ n → All (λ c. c < 65536) old
-    → Flies n (a * 2 ^ n) old new → get_or new p 0 ≡ value_in_basis gf16 inverse n old (a * 2 ^ n + p)
+pub flies_value : (n a count p : ℕ) (old new : List ℕ) → n < 16 → a * 2 ^ n < 65536 → p < count → count ≤ 2 ^ n → length old ≡ 2 ^ n → All (λ c. c < 65536) old
+    → Flies n (a * 2 ^ n) count old new → get_or new p 0 ≡ value_in_basis gf16 inverse n old (a * 2 ^ n + p)
 unfolding Flies
-flies_value n a p old new l k r e h f =
+flies_value n a count p old new l k s few e h f =
+    let r : p < 2 ^ n = omega arith in
     let t = tree_of n old e in
     let c = a * 2 ^ n in
     let hold : Holds (λ c. c < 65536) n t.0 = holds_flat (λ c. c < 65536) n t.0 (subst (Each (λ c. c < 65536)) (sym t.1) (recursion_from_All (λ c. c < 65536) old h)) in
-    ap (λ s. get_or s p 0) (f t.0 t.1 ∙ gf16_flown n a t.0 l k hold)
+    f t.0 t.1 p s ∙ ap (λ s. get_or s p 0) (gf16_flown n a t.0 l k hold)
     ∙ get_or-map (value_in_basis gf16 inverse n (flat {B = ℕ} n t.0)) (count_from c (2 ^ n)) p 0 0 (omega (arith, length-count c (2 ^ n)))
     ∙ ap₂ (λ r x. value_in_basis gf16 inverse n r x) t.1 (count_at c (2 ^ n) p r)
 

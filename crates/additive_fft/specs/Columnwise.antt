@@ -1,5 +1,5 @@
 -- What each step of the transform makes of each column of rows.
-use Rattle.std.specs.Prelude.{◌≡◌, ◌<◌, ℕ, suc, List, [], ◌∷◌, ◌++◌, take, drop, bit_xor}
+use Rattle.std.specs.Prelude.{◌≡◌, ◌<◌, ℕ, suc, List, [], ◌∷◌, ◌++◌, take, drop, bit_xor, slice_index}
 use Rattle.pet_field.specs.Gf16.{gf16}
 use Rattle.pet_rows.specs.Columns.{column}
 use Rattle.additive_fft.specs.Basis.{hats}
@@ -16,9 +16,10 @@ along g xs [] = xs
 along g [] (y ∷ ys) = []
 along g (x ∷ xs) (y ∷ ys) = g x y ∷ along g xs ys
 
--- the butterflies on the coset of c
-unfoldable pub Flies : ℕ → ℕ → List ℕ → List ℕ → Type 0
-Flies n c old new = (t : Tree ℕ n) → flat n t ≡ old → new ≡ flat n (flown gf16 (λ i x. hats gf16 inverse i x) base n c t)
+-- the butterflies on the coset of c, at the first k places
+unfoldable pub Flies : ℕ → ℕ → ℕ → List ℕ → List ℕ → Type 0
+Flies n c k old new =
+    (t : Tree ℕ n) → flat n t ≡ old → (p : ℕ) → p < k → slice_index new p ≡ slice_index (flat n (flown gf16 (λ i x. hats gf16 inverse i x) base n c t)) p
 
 -- the fourth quarter added to the third, and the new third to the second
 pub record Lifts (m : ℕ) (low high new_low new_high : List ℕ) : Type 0 where

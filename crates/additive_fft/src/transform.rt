@@ -14,61 +14,80 @@ use pet_base::Steps;
 use std::sync::ledger::Ledger;
 
 /// Takes each column of 2^level rows of `width` words, as the coefficients of a polynomial, to the coefficients of the same
-/// polynomial in the basis of the products of the polynomials of the subspaces. It counts one step for each product.
-pub fn convert<L: Ledger>(rows: &mut [u16], width: usize, level: u32, steps: &mut Steps<L>)
+/// polynomial in the basis of the products of the polynomials of the subspaces. The rows from `known` on are zero, and stay so. It
+/// counts at most one step for each word before them and each level, and two for each row.
+pub fn convert<L: Ledger>(
+    rows: &mut [u16],
+    width: usize,
+    level: u32,
+    known: usize,
+    steps: &mut Steps<L>,
+)
     requires few { level < 16 }
     requires size { length rows.old ≡ 2 ^ level * width }
+    requires known { known ≤ 2 ^ level }
+    requires zeros { (i : ℕ) → known * width ≤ i → slice_index rows.old i ≡ 0 }
     ensures coefficients { (c x : ℕ) → c < width → x < 65536 →
         value_in_basis gf16 inverse level (column 0 width (2 ^ level) c rows.new) x
         ≡ value gf16 (column 0 width (2 ^ level) c rows.old) x }
-    ensures cost { steps.new ≤ steps.old + level * length rows.old + 2 ^ (level + 1) }
+    ensures zeros { (i : ℕ) → known * width ≤ i → slice_index rows.new i ≡ 0 }
+    ensures cost { steps.new ≤ steps.old + level * (known * width) + 2 ^ (level + 1) }
 {
     are_elements(rows);
-    convert_from(rows, width, 0, level, steps);
+    convert_from(rows, width, 0, level, known * width, steps);
 }
 
 /// Takes each column of 2^level rows of `width` words, as the coefficients of a polynomial in the basis of the products of
-/// the polynomials of the subspaces, to its values: row p gets those at the point of the number block * 2^level + p. It
-/// counts one step for each product.
+/// the polynomials of the subspaces, to its values: each of the first `count` rows, row p, gets those at the point of the number
+/// block * 2^level + p. What stands in the other rows is not said. It counts at most one step for each word of a butterfly and
+/// two for each row.
 pub fn values_at_coset<L: Ledger>(
     rows: &mut [u16],
     width: usize,
     level: u32,
     block: u16,
+    count: usize,
     steps: &mut Steps<L>,
 )
     requires few { level < 16 }
     requires size { length rows.old ≡ 2 ^ level * width }
     requires block { block * 2 ^ level < 65536 }
-    ensures values { (p c : ℕ) → p < 2 ^ level → c < width → slice_index rows.new (p * width + c)
+    requires count { count ≤ 2 ^ level }
+    ensures values { (p c : ℕ) → p < count → c < width → slice_index rows.new (p * width + c)
         ≡ value_in_basis gf16 inverse level (column 0 width (2 ^ level) c rows.old) (block * 2 ^ level + p) }
     ensures cost { steps.new ≤ steps.old + butterflies level * width + 2 ^ (level + 1) }
 {
     are_elements(rows);
-    fly(rows, width, level, block << level, steps);
+    fly(rows, width, level, block << level, count, steps);
 }
 
-/// Takes each column of 2^level rows of `width` words, as the coefficients of a polynomial, to its values: row p gets those
-/// at the point of the number block * 2^level + p. It counts one step for each product.
+/// Takes each column of 2^level rows of `width` words, as the coefficients of a polynomial, to its values: each of the
+/// first `count` rows, row p, gets those at the point of the number block * 2^level + p. The rows from `known` on are zero. It
+/// counts at most as many steps as the two calls that it is.
 pub fn values<L: Ledger>(
     rows: &mut [u16],
     width: usize,
     level: u32,
+    known: usize,
     block: u16,
+    count: usize,
     steps: &mut Steps<L>,
 )
     requires few { level < 16 }
     requires size { length rows.old ≡ 2 ^ level * width }
+    requires known { known ≤ 2 ^ level }
+    requires zeros { (i : ℕ) → known * width ≤ i → slice_index rows.old i ≡ 0 }
     requires block { block * 2 ^ level < 65536 }
-    ensures values { (p c : ℕ) → p < 2 ^ level → c < width → slice_index rows.new (p * width + c)
+    requires count { count ≤ 2 ^ level }
+    ensures values { (p c : ℕ) → p < count → c < width → slice_index rows.new (p * width + c)
         ≡ value gf16 (column 0 width (2 ^ level) c rows.old) (block * 2 ^ level + p) }
-    ensures padded { (k p c : ℕ) → k ≤ 2 ^ level → p < 2 ^ level → c < width →
+    ensures padded { (k p c : ℕ) → k ≤ 2 ^ level → p < count → c < width →
         ((i : ℕ) → k ≤ i → i < 2 ^ level → slice_index rows.old (i * width + c) ≡ 0)
         → slice_index rows.new (p * width + c)
         ≡ value gf16 (column 0 width k c rows.old) (block * 2 ^ level + p) }
-    ensures cost { steps.new ≤ steps.old + (level * 2 ^ level + butterflies level) * width + 2 ^ (level + 2) }
+    ensures cost { steps.new ≤ steps.old + (level * known + butterflies level) * width + 2 ^ (level + 2) }
     ensures fewer { 4 ≤ level → 0 < width → steps.new ≤ steps.old + 2 ^ level * length rows.old }
 {
-    convert(rows, width, level, steps);
-    values_at_coset(rows, width, level, block, steps);
+    convert(rows, width, level, known, steps);
+    values_at_coset(rows, width, level, block, count, steps);
 }

@@ -12,13 +12,14 @@ pub(crate) fn are_elements(_words: &[u16])
     ensures { All (λ a. a < 65536) _words.now }
 {}
 
-/// Adds words to as many words.
-pub(crate) fn add_words(into: &mut [u16], other: &[u16])
-    requires { length into.old ≡ length other.now }
+/// Adds words, of which those from `known` on are zero, to as many words.
+pub(crate) fn add_words(into: &mut [u16], other: &[u16], known: usize)
+    requires same { length into.old ≡ length other.now }
+    requires zeros { (i : ℕ) → known ≤ i → slice_index other.now i ≡ 0 }
     ensures { (i : ℕ) → i < length other.now → slice_index into.new i
         ≡ bit_xor (slice_index into.old i) (slice_index other.now i) }
 {
-    for i in 0..other.len() {
+    for i in 0..known.min(other.len()) {
         into[i] ^= other[i];
     }
 }
@@ -44,6 +45,20 @@ pub(crate) fn add_multiple<L: Ledger>(
             at = end;
         }
     }
+}
+
+/// Adds a multiple of the words of `high` to those of `low`, and then these to `high`. It counts one step for each word of
+/// `high`, or none where the factor is 0.
+pub(crate) fn butterfly<L: Ledger>(low: &mut [u16], high: &mut [u16], by: u16, steps: &mut Steps<L>)
+    requires { length low.old ≡ length high.old }
+    ensures low { (i : ℕ) → i < length high.old → slice_index low.new i
+        ≡ bit_xor (slice_index low.old i) (gf16.times by (slice_index high.old i)) }
+    ensures high { (i : ℕ) → i < length high.old → slice_index high.new i
+        ≡ bit_xor (slice_index high.old i) (slice_index low.new i) }
+    ensures cost { steps.new ≤ steps.old + length high.old }
+{
+    add_multiple(low, high, by, steps);
+    add_words(high, low, low.len());
 }
 
 /// Multiplies words. It counts one step for each word, or none where the factor is 1.

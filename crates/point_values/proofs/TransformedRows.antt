@@ -1,8 +1,9 @@
 -- Rows of values, of stripes side by side that a transform took to its values.
-use Rattle.std.proofs.Common.{◌≡◌, ℕ, zero, suc, ◌+◌, ◌*◌, ◌^◌, ◌<◌, ◌≤◌, List, [], ◌∷◌, length, get_or, take, drop, map, All, replicate, refl, sym, ap, subst, ◌∙◌, arith}
+use Rattle.std.proofs.Common.{◌≡◌, ℕ, zero, suc, ◌+◌, ◌*◌, ◌/◌, ◌%◌, ◌^◌, ◌<◌, ◌≤◌, List, [], ◌∷◌, length, get_or, take, drop, map, All, inl, inr, replicate, refl, sym, ap, subst, ◌∙◌, arith}
 use native.Mathlib.Nat.{pow-suc}
-use Rattle.std.proofs.lemmas.Nat.{pow-add}
-use Rattle.std.proofs.lemmas.List.{ext_get_or, get_or-take, get_or-drop, get_or-map, get_or-replicate, length-take-le, length-drop, length-map, length-replicate}
+use Rattle.std.proofs.lemmas.Bool.{cases_lt}
+use Rattle.std.proofs.lemmas.Nat.{pow-add, div-add-mod', div_below, le-div, mod_below}
+use Rattle.std.proofs.lemmas.List.{ext_get_or, get_or-take, get_or-drop, get_or-map, get_or_past, get_or-replicate, length-take-le, length-drop, length-map, length-replicate}
 use Rattle.std.proofs.lemmas.List.Elements.{All-nil, All-head, All-tail, All-append}
 use Rattle.additive_fft.specs.Steps.{butterflies}
 use Rattle.pet_field.specs.Gf16.{gf16}
@@ -35,10 +36,10 @@ regroup : (a b c : ℕ) → a * b * c ≡ a * (b * c)
 regroup a b c = grind arith
 
 -- a transform makes fewer products than Horner's rule
-pub cost_fits : (level size stripes wide further words count : ℕ) → size ≡ 2 ^ level → wide ≡ size * stripes
-    → 2 * (level * wide + 2 * size) + (further + 1) * (level * wide + 4 * size) ≤ 2 * count * words
-    → level * (2 ^ level * stripes) + 2 ^ (level + 1) + (further + 1) * (butterflies level * stripes + 2 ^ (level + 1)) ≤ count * words
-cost_fits level size stripes wide further words count is wide_is few =
+pub cost_fits : (level size known stripes wide further words count : ℕ) → size ≡ 2 ^ level → wide ≡ size * stripes
+    → 2 * (level * (known * stripes) + 2 * size) + (further + 1) * (level * wide + 4 * size) ≤ 2 * count * words
+    → level * (known * stripes) + 2 ^ (level + 1) + (further + 1) * (butterflies level * stripes + 2 ^ (level + 1)) ≤ count * words
+cost_fits level size known stripes wide further words count is wide_is few =
     let b = butterflies level in
     let each : ℕ = b * stripes + 2 ^ (level + 1) in
     let two : 2 ^ (level + 1) ≡ 2 ^ level * 2 = pow-add 2 level 1 in
@@ -48,8 +49,8 @@ cost_fits level size stripes wide further words count is wide_is few =
     let both : level * wide + 4 * size ≡ 2 * each = omega (arith, two, flown, is) in
     let cosets : (further + 1) * (level * wide + 4 * size) ≡ 2 * ((further + 1) * each) = ap (λ t. (further + 1) * t) both ∙ by_twice (further + 1) each in
     let all : 2 * count * words ≡ 2 * (count * words) = sym (twice_by count words) in
-    let half : level * wide + 2 * size + (further + 1) * each ≤ count * words = halved (level * wide + 2 * size) ((further + 1) * each) (count * words) (omega (arith, cosets, all, few)) in
-    omega (arith, two, is, converted, half)
+    let half : level * (known * stripes) + 2 * size + (further + 1) * each ≤ count * words = halved (level * (known * stripes) + 2 * size) ((further + 1) * each) (count * words) (omega (arith, cosets, all, few)) in
+    omega (arith, two, is, half)
   where
     halved : (a b c : ℕ) → 2 * a + 2 * b ≤ 2 * c → a + b ≤ c
     halved a b c l = omega arith
@@ -95,6 +96,27 @@ values_are w size first count columns old items wide h short few long is =
     is p c l m ∙ ap (λ k. value gf16 (column 0 k size c old) (first + p)) wide
     ∙ value_is_stripe (λ a. a < 65536) gf16 gf16_field size c columns old (first + p) h (omega arith) (short c (omega arith)) (omega arith)
     ∙ sym (get_or-map (λ s. value gf16 s (first + p)) columns c [] 0 (omega arith)))
+
+-- rows past the longest stripe are zero
+pub side_zeros : (w size known : ℕ) (columns : List (List ℕ)) (rows : List ℕ) → w ≡ length columns → AreSideBySide 0 size columns rows
+    → ((c : ℕ) → c < length columns → length (get_or columns c []) ≤ known) → (i : ℕ) → known * w ≤ i → get_or rows i 0 ≡ 0
+side_zeros w size known columns rows wide h short i l =
+    elim (cases_lt i (length rows)) [
+      | inl s ↦
+          let n = length columns in
+          let inside : i < size * n = omega (arith, h.long) in
+          let some : 0 < n = some_column n size i inside in
+          let p : i / n < size = div_below i n size some inside in
+          let c : i % n < n = mod_below i n some in
+          let past : known ≤ i / n = le-div known i n some (omega (arith, ap (λ t. known * t) wide)) in
+          ap (λ k. get_or rows k 0) (sym (div-add-mod' i n)) ∙ h.each (i / n) (i % n) p c
+          ∙ get_or_past (get_or columns (i % n) []) (i / n) 0 (omega (arith, short (i % n) c))
+      | inr s ↦ get_or_past rows i 0 s
+    ]
+  where
+    some_column : (n size i : ℕ) → i < size * n → 0 < n
+    some_column zero size i l = absurd (omega arith)
+    some_column (suc n) size i l = omega arith
 
 -- what is known of stripes side by side holds of equal rows
 pub side_is : (size s : ℕ) (columns : List (List ℕ)) (old kept : List ℕ) → s ≡ size → old ≡ kept → AreSideBySide 0 s columns kept → AreSideBySide 0 size columns old

@@ -35,13 +35,14 @@ pub(crate) fn coset_of(number: usize, level: u32) -> u16
 }
 
 /// Takes each column of 2^level rows, as the coefficients of a polynomial, to its values at the points of the numbers `first`
-/// to `first + count - 1`, which lie in the cosets `from` to `last`: these go into `into`, a row for each number. Where there
-/// are several cosets, `spare` is as long as the rows.
+/// to `first + count - 1`, which lie in the cosets `from` to `last`: these go into `into`, a row for each number. The rows from
+/// `known` on are zero. Where there are several cosets, `spare` is as long as the rows.
 pub(crate) fn transform<L: Ledger>(
     rows: &mut [u16],
     spare: &mut [u16],
     stripes: usize,
     level: u32,
+    known: usize,
     from: u16,
     last: u16,
     first: usize,
@@ -51,6 +52,8 @@ pub(crate) fn transform<L: Ledger>(
 )
     requires level { level ≤ MAX_LEVEL }
     requires size { length rows.old ≡ 2 ^ level * stripes }
+    requires known { known ≤ 2 ^ level }
+    requires zeros { (i : ℕ) → known * stripes ≤ i → slice_index rows.old i ≡ 0 }
     requires spare { from < last → length spare.old ≡ 2 ^ level * stripes }
     requires order { from ≤ last }
     requires begins { from * 2 ^ level ≤ first }
@@ -61,10 +64,10 @@ pub(crate) fn transform<L: Ledger>(
     requires room { length into.old ≡ count * stripes }
     ensures values { (p c : ℕ) → p < count → c < stripes → slice_index into.new (p * stripes + c)
         ≡ value gf16 (column 0 stripes (2 ^ level) c rows.old) (first + p) }
-    ensures cost { steps.new ≤ steps.old + level * (2 ^ level * stripes) + 2 ^ (level + 1)
+    ensures cost { steps.new ≤ steps.old + level * (known * stripes) + 2 ^ (level + 1)
         + (last - from + 1) * (butterflies level * stripes + 2 ^ (level + 1)) }
 {
-    convert(rows, stripes, level, steps);
+    convert(rows, stripes, level, known, steps);
     fill_cosets(
         rows, spare, stripes, level, from, last, first, count, into, steps,
     );
@@ -135,7 +138,7 @@ fn fill_coset<L: Ledger>(
     let begin = usize::from(coset) * size;
     let low = first.max(begin);
     let high = (first + count).min(begin + size);
-    values_at_coset(rows, stripes, level, coset, steps);
+    values_at_coset(rows, stripes, level, coset, high - begin, steps);
     copy_rows(rows, stripes, low - begin, into, low - first, high - low);
 }
 

@@ -45,13 +45,22 @@ fn longest(blocks: &[Block]) -> usize
     most
 }
 
-/// Whether a transform of this level is taken for so many stripes, which have so many words, and as many cosets behind the
-/// first: a bound on its products is at most what Horner's rule makes, and its buffers are small.
-fn is_taken(level: u32, stripes: usize, further: u16, count: usize, words: usize) -> bool
+/// Whether a transform of this level is taken for so many stripes, the longest of which has `known` words and all together
+/// `words`, and so many cosets behind the first: a bound on its products is at most what Horner's rule makes, and its buffers
+/// are small.
+fn is_taken(
+    level: u32,
+    known: usize,
+    stripes: usize,
+    further: u16,
+    count: usize,
+    words: usize,
+) -> bool
     requires level { level ≤ MAX_LEVEL }
+    requires known { known ≤ 2 ^ level }
     requires count { count ≤ MAX_PACKETS }
     ensures room { result ≡ true → 2 ^ level * stripes < 2 ^ 64 }
-    ensures cost { result ≡ true → level * (2 ^ level * stripes) + 2 ^ (level + 1)
+    ensures cost { result ≡ true → level * (known * stripes) + 2 ^ (level + 1)
         + (further + 1) * (butterflies level * stripes + 2 ^ (level + 1)) ≤ count * words }
 {
     let size = size_at(level);
@@ -63,7 +72,7 @@ fn is_taken(level: u32, stripes: usize, further: u16, count: usize, words: usize
         return false;
     }
     // twice as many as are made
-    let converted = 2 * (level as usize * wide + 2 * size);
+    let converted = 2 * (level as usize * (known * stripes) + 2 * size);
     let flown = level as usize * wide + 4 * size;
     if converted + (usize::from(further) + 1) * flown > 2 * count * words {
         return false;
@@ -108,7 +117,7 @@ pub(crate) fn fill_transformed<L: Ledger>(
     }
     let from = coset_of(first, level);
     let last = coset_of(first + count - 1, level);
-    if !is_taken(level, stripes, last - from, count, laid.len()) {
+    if !is_taken(level, most, stripes, last - from, count, laid.len()) {
         return false;
     }
     let Ok(mut rows) = side_by_side(alloc, blocks, laid, stripes, size) else {
@@ -118,7 +127,7 @@ pub(crate) fn fill_transformed<L: Ledger>(
         return false;
     };
     transform(
-        &mut rows, &mut spare, stripes, level, from, last, first, count, into, steps,
+        &mut rows, &mut spare, stripes, level, most, from, last, first, count, into, steps,
     );
     true
 }

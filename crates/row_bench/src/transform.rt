@@ -1,5 +1,5 @@
 //! The packets of a group by the additive fast Fourier transform, over all stripes at once.
-ghost use Rattle.std.specs.Prelude.{◌≡◌, ◌*◌, ◌<◌, ◌≤◌, ◌^◌, length, vec_len, IfOk};
+ghost use Rattle.std.specs.Prelude.{◌≡◌, ◌*◌, ◌<◌, ◌≤◌, ◌^◌, ℕ, length, slice_index, vec_len, IfOk};
 
 use crate::group::Group;
 use additive_fft::values;
@@ -14,7 +14,7 @@ const LEVEL: u32 = 7;
 /// How many points these are.
 const POINTS: usize = 128;
 
-/// The values of each stripe at the points of 0 to 127, a row for each point.
+/// The values of each stripe at the points of the packets, a row for each point, of at most `POINTS`.
 #[inline(never)]
 pub fn transformed<L: Ledger>(
     alloc: Global,
@@ -33,6 +33,7 @@ pub fn transformed<L: Ledger>(
         row,
         usize::from(group.length),
         stripes,
+        usize::from(group.packets),
         &mut rows,
         &mut steps,
     );
@@ -41,23 +42,27 @@ pub fn transformed<L: Ledger>(
 
 /// So many zeros.
 fn zeros(alloc: Global, count: usize) -> Result<Vec<u16>, AllocError>
-    ensures { IfOk result (λ v. vec_len v ≡ count) }
+    ensures count { IfOk result (λ v. vec_len v ≡ count) }
+    ensures zeros { IfOk result (λ v. (i : ℕ) → slice_index v.items i ≡ 0) }
 {
     vec![in alloc; 0u16; count]
 }
 
-/// Lays out the stripes and leaves their values.
+/// Lays out the stripes and leaves their values at so many points.
 fn put_values<L: Ledger>(
     row: &[u16],
     count: usize,
     stripes: usize,
+    points: usize,
     rows: &mut [u16],
     steps: &mut Steps<L>,
 )
-    requires { length rows.old ≡ 2 ^ 7 * stripes }
+    requires size { length rows.old ≡ 2 ^ 7 * stripes }
+    requires zeros { (i : ℕ) → slice_index rows.old i ≡ 0 }
 {
     if count <= POINTS && stripes <= 65_535 && row.len() == count * stripes {
-        transpose(row, count, stripes, &mut rows[..row.len()]);
-        values(rows, stripes, LEVEL, 0, steps);
+        let (known, _zeros) = rows.split_at_mut(row.len());
+        transpose(row, count, stripes, known);
+        values(rows, stripes, LEVEL, count, 0, points.min(POINTS), steps);
     }
 }

@@ -9,7 +9,7 @@ returns-then-level-gt0-clause-coefficients g t c =
     let e1 : j + (n - 1) + 1 ≡ j + n = omega arith in
     let e2 : j + 1 + (n - 1) ≡ j + n = omega arith in
     converts_columns c.args.width n (n - 1) j c.factor_of.result (2 ^ (j + n)) (2 ^ (j + (n - 1) + 1)) (2 ^ (j + 1 + (n - 1))) c.args.rows.now c.expand.new.rows
-    c.scale.new.rows c.convert_from.new.rows (omega arith) (ap (λ k. 2 ^ k) e1) (ap (λ k. 2 ^ k) e2) c.factor_of.ensures c.expand.ensures c.scale.ensures.products
+    c.scale.new.rows c.convert_from.new.rows (omega arith) (ap (λ k. 2 ^ k) e1) (ap (λ k. 2 ^ k) e2) c.factor_of.ensures c.expand.ensures.expanded c.scale.ensures.products
     c.convert_from.ensures.coefficients
 
 pub returns-else-level-gt0-clause-coefficients : goal.returns-else-level-gt0-clause-coefficients

@@ -1,5 +1,6 @@
-use Rattle.std.proofs.Common.{◌-◌, ◌^◌, ◌+◌, ◌≡◌, ◌∙◌, ap, refl, arith}
-use Rattle.additive_fft.proofs.Columns.{expands_columns, expands_none_columns, length_low, length_high, power_between}
+use Rattle.std.proofs.Common.{◌-◌, ◌^◌, ◌+◌, ◌≡◌, ◌∙◌, ap, refl, sym, arith}
+use Rattle.additive_fft.proofs.Columns.{expands_columns, expands_none_columns, length_low, length_high, middle, power_between}
+use Rattle.additive_fft.proofs.Zeros.{from_front, from_back, from_end, from_append, expands_low}
 use Rattle.additive_fft.proofs.conversion.+expand.Goals as goal
 
 pub lift-requires-clause-first : goal.lift-requires-clause-first
@@ -16,6 +17,9 @@ lift-requires-clause-second t c =
     let s = c.split_at_mut-low in
     length_high (2 ^ (j + n + 1)) (2 ^ (j + (n - 1) + 1)) c.args.width _ c.args.rows.now s.result.1.now (power_between j n (omega arith)) c.requires.size refl s.ensures.back
 
+pub lift-requires-clause-zeros : goal.lift-requires-clause-zeros
+lift-requires-clause-zeros t c = from_back _ c.args.known c.args.rows.now c.split_at_mut-low.result.1.now c.split_at_mut-low.ensures.back c.requires.zeros
+
 pub expand-requires : goal.expand-requires
 expand-requires t c =
     let n = c.args.level in
@@ -24,26 +28,47 @@ expand-requires t c =
       omega arith,
       (
         omega arith,
-        c.lift.auto.low
-            ∙ length_low (2 ^ (j + n + 1)) (2 ^ (j + (n - 1) + 1)) c.args.width _ c.args.rows.now s.result.0.now (power_between j n (omega arith)) c.requires.size refl s.ensures.front,
+        (
+          length_low (2 ^ (j + n + 1)) (2 ^ (j + (n - 1) + 1)) c.args.width _ c.args.rows.now s.result.0.now (power_between j n (omega arith)) c.requires.size refl s.ensures.front,
+          from_front _ c.args.known c.args.rows.now s.result.0.now s.ensures.front c.requires.zeros,
+        ),
       ),
     )
 
-pub expand-requires-then-level-gt0 : goal.expand-requires-then-level-gt0
-expand-requires-then-level-gt0 t c =
+pub expand-requires-else-known-half : goal.expand-requires-else-known-half
+expand-requires-else-known-half t c =
+    let n = c.args.level in
+    let j = c.args.shift in
+    let w = c.args.width in
+    let rows = c.args.rows.now in
+    let s = c.split_at_mut-low in
+    let e : 2 ^ (j + n + 1) ≡ 2 ^ (j + (n - 1) + 1) + 2 ^ (j + (n - 1) + 1) = power_between j n (omega arith) in
+    let long = c.lift.auto.low ∙ length_low (2 ^ (j + n + 1)) (2 ^ (j + (n - 1) + 1)) w _ rows s.result.0.now e c.requires.size refl s.ensures.front in (
+      omega arith,
+      (
+        omega arith,
+        (long, from_end _ c.lift.new.low (omega (arith, long, middle (2 ^ (j + n + 1)) (2 ^ (j + (n - 1) + 1)) w rows e c.requires.size))),
+      ),
+    )
+
+pub expand-requires-else-known-half-2 : goal.expand-requires-else-known-half-2
+expand-requires-else-known-half-2 t c =
     let n = c.args.level in
     let j = c.args.shift in
     let s = c.split_at_mut-low in (
       omega arith,
       (
         omega arith,
-        c.lift.auto.high
-            ∙ length_high (2 ^ (j + n + 1)) (2 ^ (j + (n - 1) + 1)) c.args.width _ c.args.rows.now s.result.1.now (power_between j n (omega arith)) c.requires.size refl s.ensures.back,
+        (
+          c.lift.auto.high
+              ∙ length_high (2 ^ (j + n + 1)) (2 ^ (j + (n - 1) + 1)) c.args.width _ c.args.rows.now s.result.1.now (power_between j n (omega arith)) c.requires.size refl s.ensures.back,
+          c.lift.ensures.zeros,
+        ),
       ),
     )
 
-pub returns-then-level-gt0 : goal.returns-then-level-gt0
-returns-then-level-gt0 t c =
+pub returns-then-known-half-clause-expanded : goal.returns-then-known-half-clause-expanded
+returns-then-known-half-clause-expanded t c =
     let n = c.args.level in
     let j = c.args.shift in
     let w = c.args.width in
@@ -52,11 +77,46 @@ returns-then-level-gt0 t c =
     let k = 2 ^ (j + (n - 1) + 1) in
     let e : 2 ^ (j + n + 1) ≡ k + k = power_between j n (omega arith) in
     let q : j + (n - 1) + 1 ≡ j + n = omega arith in
-    expands_columns w n (n - 1) j _ k (2 ^ (j + n + 1)) rows s.result.0.now s.result.1.now c.lift.new.low c.lift.new.high c.expand.new.rows
-    c.expand-then-level-gt0.new.rows (omega arith) (ap (λ i. 2 ^ i) q) e c.requires.size refl s.ensures.front s.ensures.back
-    (c.expand.auto.rows ∙ c.lift.auto.low ∙ length_low (2 ^ (j + n + 1)) k w _ rows s.result.0.now e c.requires.size refl s.ensures.front) c.lift.ensures
-    c.expand.ensures c.expand-then-level-gt0.ensures
+    expands_low w n (n - 1) j _ k (2 ^ (j + n + 1)) rows s.result.0.now s.result.1.now c.expand.new.rows (omega arith) (ap (λ i. 2 ^ i) q) e c.requires.size refl
+    s.ensures.front s.ensures.back (c.expand.auto.rows ∙ length_low (2 ^ (j + n + 1)) k w _ rows s.result.0.now e c.requires.size refl s.ensures.front)
+    (λ i. from_back _ c.args.known rows s.result.1.now s.ensures.back c.requires.zeros i (omega arith)) c.expand.ensures.expanded
 
-pub returns-else-level-gt0 : goal.returns-else-level-gt0
-returns-else-level-gt0 t c =
+pub returns-then-known-half-clause-zeros : goal.returns-then-known-half-clause-zeros
+returns-then-known-half-clause-zeros t c =
+    let s = c.split_at_mut-low in
+    from_append c.args.known c.expand.new.rows s.result.1.now c.expand.ensures.zeros
+    (λ i l. from_back _ c.args.known c.args.rows.now s.result.1.now s.ensures.back c.requires.zeros i (omega arith))
+
+pub returns-else-known-half-clause-expanded : goal.returns-else-known-half-clause-expanded
+returns-else-known-half-clause-expanded t c =
+    let n = c.args.level in
+    let j = c.args.shift in
+    let w = c.args.width in
+    let rows = c.args.rows.now in
+    let s = c.split_at_mut-low in
+    let k = 2 ^ (j + (n - 1) + 1) in
+    let e : 2 ^ (j + n + 1) ≡ k + k = power_between j n (omega arith) in
+    let q : j + (n - 1) + 1 ≡ j + n = omega arith in
+    expands_columns w n (n - 1) j _ k (2 ^ (j + n + 1)) rows s.result.0.now s.result.1.now c.lift.new.low c.lift.new.high c.expand-else-known-half.new.rows
+    c.expand-else-known-half-2.new.rows (omega arith) (ap (λ i. 2 ^ i) q) e c.requires.size refl s.ensures.front s.ensures.back
+    (c.expand-else-known-half.auto.rows ∙ c.lift.auto.low ∙ length_low (2 ^ (j + n + 1)) k w _ rows s.result.0.now e c.requires.size refl s.ensures.front) c.lift.ensures.lifted
+    c.expand-else-known-half.ensures.expanded c.expand-else-known-half-2.ensures.expanded
+
+pub returns-else-known-half-clause-zeros : goal.returns-else-known-half-clause-zeros
+returns-else-known-half-clause-zeros t c =
+    let n = c.args.level in
+    let j = c.args.shift in
+    let w = c.args.width in
+    let rows = c.args.rows.now in
+    let s = c.split_at_mut-low in
+    let k = 2 ^ (j + (n - 1) + 1) in
+    let e : 2 ^ (j + n + 1) ≡ k + k = power_between j n (omega arith) in
+    let long = c.expand-else-known-half.auto.rows ∙ c.lift.auto.low ∙ length_low (2 ^ (j + n + 1)) k w _ rows s.result.0.now e c.requires.size refl s.ensures.front in
+    let half = middle (2 ^ (j + n + 1)) k w rows e c.requires.size in
+    from_append c.args.known c.expand-else-known-half.new.rows c.expand-else-known-half-2.new.rows
+    (from_end c.args.known c.expand-else-known-half.new.rows (omega (arith, long, half)))
+    (λ i l. c.expand-else-known-half-2.ensures.zeros i (omega (arith, long, half)))
+
+pub returns-else-level-gt0-clause-expanded : goal.returns-else-level-gt0-clause-expanded
+returns-else-level-gt0-clause-expanded t c =
     expands_none_columns c.args.width c.args.level c.args.shift (2 ^ (c.args.shift + c.args.level + 1)) c.args.rows.now (omega arith)

@@ -1,6 +1,9 @@
-use Rattle.std.proofs.Common.{◌-◌, ◌^◌, ◌+◌, ◌≡◌, ◌∙◌, ap, refl, arith}
+use Rattle.std.proofs.Common.{◌-◌, ◌^◌, ◌+◌, ◌*◌, ◌≡◌, ◌≤◌, ◌∙◌, length, drop, ap, refl, sym, arith}
+use Rattle.std.proofs.lemmas.List.{length-take-le}
 use Rattle.pet_field.specs.Gf16.{gf16}
-use Rattle.additive_fft.proofs.Columns.{scales_columns, scales_none_columns, length_low, length_high, power_halves}
+use Rattle.additive_fft.proofs.Columns.{scales_columns, scales_none_columns, length_low, length_high, middle, power_halves}
+use Rattle.additive_fft.proofs.Zeros.{from_front, from_back, from_end, from_append, back_zeros, scales_low, products_known}
+use Rattle.additive_fft.proofs.Counting.{scale_low_cost}
 use Rattle.additive_fft.proofs.conversion.+scale.Goals as goal
 
 pub scale-requires : goal.scale-requires
@@ -13,13 +16,35 @@ scale-requires g t c κs within =
         within,
         (
           omega arith,
-          length_low (2 ^ (j + n)) (2 ^ (j + (n - 1))) c.args.width _ c.args.rows.now s.result.0.now (power_halves j n (omega arith)) c.requires.size refl s.ensures.front,
+          (
+            length_low (2 ^ (j + n)) (2 ^ (j + (n - 1))) c.args.width _ c.args.rows.now s.result.0.now (power_halves j n (omega arith)) c.requires.size refl s.ensures.front,
+            from_front _ c.args.known c.args.rows.now s.result.0.now s.ensures.front c.requires.zeros,
+          ),
         ),
       ),
     )
 
-pub scale-requires-else-level-eq0 : goal.scale-requires-else-level-eq0
-scale-requires-else-level-eq0 g t c κs within =
+pub scale-requires-else-known-half : goal.scale-requires-else-known-half
+scale-requires-else-known-half g t c κs within =
+    let n = c.args.level in
+    let j = c.args.shift in
+    let w = c.args.width in
+    let rows = c.args.rows.now in
+    let s = c.split_at_mut-low in
+    let e : 2 ^ (j + n) ≡ 2 ^ (j + (n - 1)) + 2 ^ (j + (n - 1)) = power_halves j n (omega arith) in
+    let long = length_low (2 ^ (j + n)) (2 ^ (j + (n - 1))) w _ rows s.result.0.now e c.requires.size refl s.ensures.front in (
+      omega arith,
+      (
+        within,
+        (
+          omega arith,
+          (long, from_end _ s.result.0.now (omega (arith, long, middle (2 ^ (j + n)) (2 ^ (j + (n - 1))) w rows e c.requires.size))),
+        ),
+      ),
+    )
+
+pub scale-requires-else-known-half-2 : goal.scale-requires-else-known-half-2
+scale-requires-else-known-half-2 g t c κs within =
     let n = c.args.level in
     let j = c.args.shift in
     let s = c.split_at_mut-low in (
@@ -28,25 +53,78 @@ scale-requires-else-level-eq0 g t c κs within =
         within,
         (
           omega arith,
-          length_high (2 ^ (j + n)) (2 ^ (j + (n - 1))) c.args.width _ c.args.rows.now s.result.1.now (power_halves j n (omega arith)) c.requires.size refl s.ensures.back,
+          (
+            length_high (2 ^ (j + n)) (2 ^ (j + (n - 1))) c.args.width _ c.args.rows.now s.result.1.now (power_halves j n (omega arith)) c.requires.size refl s.ensures.back,
+            from_back _ c.args.known c.args.rows.now s.result.1.now s.ensures.back c.requires.zeros,
+          ),
         ),
       ),
     )
 
 pub returns-then-level-eq0-clause-products : goal.returns-then-level-eq0-clause-products
 returns-then-level-eq0-clause-products g t c =
-    scales_none_columns c.args.width c.args.level c.args.shift c.args.g c.args.a (2 ^ (c.args.shift + c.args.level)) c.args.rows.now c.multiply.new.words (omega arith)
-    c.requires.size c.multiply.ensures.products
+    let rows = c.args.rows.now in
+    let s = c.split_at_mut-front in
+    let k = c.min-end.result in
+    let long : length s.result.0.now ≡ k = ap length s.ensures.front ∙ length-take-le k rows (omega arith) in
+    scales_none_columns c.args.width c.args.level c.args.shift c.args.g c.args.a (2 ^ (c.args.shift + c.args.level)) rows _ (omega arith) c.requires.size
+    (products_known c.args.a k rows s.result.0.now s.result.1.now c.multiply.new.words (omega arith) s.ensures.front s.ensures.back long (c.multiply.auto.words ∙ long)
+    (back_zeros c.args.known k rows s.result.1.now s.ensures.back (λ l. omega arith) c.requires.zeros) c.multiply.ensures.products)
 
-pub returns-else-level-eq0-clause-products : goal.returns-else-level-eq0-clause-products
-returns-else-level-eq0-clause-products g t c =
+pub returns-then-level-eq0-clause-zeros : goal.returns-then-level-eq0-clause-zeros
+returns-then-level-eq0-clause-zeros g t c =
+    let rows = c.args.rows.now in
+    let s = c.split_at_mut-front in
+    let k = c.min-end.result in
+    let long : length s.result.0.now ≡ k = ap length s.ensures.front ∙ length-take-le k rows (omega arith) in
+    from_append c.args.known c.multiply.new.words s.result.1.now (from_end c.args.known c.multiply.new.words (omega (arith, c.multiply.auto.words, long)))
+    (λ i l. back_zeros c.args.known k rows s.result.1.now s.ensures.back (λ l. omega arith) c.requires.zeros i)
+
+pub returns-then-known-half-clause-products : goal.returns-then-known-half-clause-products
+returns-then-known-half-clause-products g t c =
     let n = c.args.level in
     let j = c.args.shift in
     let w = c.args.width in
     let rows = c.args.rows.now in
     let s = c.split_at_mut-low in
     let e : 2 ^ (j + n) ≡ 2 ^ (j + (n - 1)) + 2 ^ (j + (n - 1)) = power_halves j n (omega arith) in
-    scales_columns w n (n - 1) j c.args.g c.args.a c.product-b.result _ (2 ^ (j + (n - 1))) (2 ^ (j + n)) rows s.result.0.now s.result.1.now c.scale.new.rows
-    c.scale-else-level-eq0.new.rows (omega arith) refl e c.requires.size refl s.ensures.front s.ensures.back
-    (c.scale.auto.rows ∙ length_low (2 ^ (j + n)) (2 ^ (j + (n - 1))) w _ rows s.result.0.now e c.requires.size refl s.ensures.front)
-    (c.product-b.ensures.product ∙ ap (gf16.times c.args.a) c.squares.ensures.value) c.scale.ensures.products c.scale-else-level-eq0.ensures.products
+    scales_low w n (n - 1) j c.args.g c.args.a _ (2 ^ (j + (n - 1))) (2 ^ (j + n)) rows s.result.0.now s.result.1.now c.scale.new.rows (omega arith) refl e
+    c.requires.size refl s.ensures.front s.ensures.back
+    (c.scale.auto.rows ∙ length_low (2 ^ (j + n)) (2 ^ (j + (n - 1))) w _ rows s.result.0.now e c.requires.size refl s.ensures.front) (omega arith) (omega arith)
+    (λ i. from_back _ c.args.known rows s.result.1.now s.ensures.back c.requires.zeros i (omega arith)) c.scale.ensures.products
+
+pub returns-then-known-half-clause-zeros : goal.returns-then-known-half-clause-zeros
+returns-then-known-half-clause-zeros g t c =
+    let s = c.split_at_mut-low in
+    from_append c.args.known c.scale.new.rows s.result.1.now c.scale.ensures.zeros
+    (λ i l. from_back _ c.args.known c.args.rows.now s.result.1.now s.ensures.back c.requires.zeros i (omega arith))
+
+pub returns-then-known-half-clause-cost : goal.returns-then-known-half-clause-cost
+returns-then-known-half-clause-cost g t c = scale_low_cost c.args.level c.args.known c.args.steps.now c.scale.new.steps (omega arith) c.scale.ensures.cost
+
+pub returns-else-known-half-clause-products : goal.returns-else-known-half-clause-products
+returns-else-known-half-clause-products g t c =
+    let n = c.args.level in
+    let j = c.args.shift in
+    let w = c.args.width in
+    let rows = c.args.rows.now in
+    let s = c.split_at_mut-low in
+    let e : 2 ^ (j + n) ≡ 2 ^ (j + (n - 1)) + 2 ^ (j + (n - 1)) = power_halves j n (omega arith) in
+    scales_columns w n (n - 1) j c.args.g c.args.a c.product-b.result _ (2 ^ (j + (n - 1))) (2 ^ (j + n)) rows s.result.0.now s.result.1.now c.scale-else-known-half.new.rows
+    c.scale-else-known-half-2.new.rows (omega arith) refl e c.requires.size refl s.ensures.front s.ensures.back
+    (c.scale-else-known-half.auto.rows ∙ length_low (2 ^ (j + n)) (2 ^ (j + (n - 1))) w _ rows s.result.0.now e c.requires.size refl s.ensures.front)
+    (c.product-b.ensures.product ∙ ap (gf16.times c.args.a) c.squares.ensures.value) c.scale-else-known-half.ensures.products c.scale-else-known-half-2.ensures.products
+
+pub returns-else-known-half-clause-zeros : goal.returns-else-known-half-clause-zeros
+returns-else-known-half-clause-zeros g t c =
+    let n = c.args.level in
+    let j = c.args.shift in
+    let w = c.args.width in
+    let rows = c.args.rows.now in
+    let s = c.split_at_mut-low in
+    let e : 2 ^ (j + n) ≡ 2 ^ (j + (n - 1)) + 2 ^ (j + (n - 1)) = power_halves j n (omega arith) in
+    let long = c.scale-else-known-half.auto.rows ∙ length_low (2 ^ (j + n)) (2 ^ (j + (n - 1))) w _ rows s.result.0.now e c.requires.size refl s.ensures.front in
+    let half = middle (2 ^ (j + n)) (2 ^ (j + (n - 1))) w rows e c.requires.size in
+    from_append c.args.known c.scale-else-known-half.new.rows c.scale-else-known-half-2.new.rows
+    (from_end c.args.known c.scale-else-known-half.new.rows (omega (arith, long, half)))
+    (λ i l. c.scale-else-known-half-2.ensures.zeros i (omega (arith, long, half)))

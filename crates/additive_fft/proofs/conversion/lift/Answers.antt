@@ -1,9 +1,10 @@
-use Rattle.std.proofs.Common.{◌^◌, ◌+◌, ◌∙◌, refl, sym}
-use Rattle.additive_fft.proofs.Columns.{lifts_columns, length_low, length_high, power_next}
+use Rattle.std.proofs.Common.{◌^◌, ◌+◌, ◌∙◌, refl, sym, arith}
+use Rattle.additive_fft.proofs.Columns.{lifts_columns, length_low, length_high, middle, power_next}
+use Rattle.additive_fft.proofs.Zeros.{from_back, third_zeros, lifted_zeros}
 use Rattle.additive_fft.proofs.conversion.lift.Goals as goal
 
-pub add_words-requires : goal.add_words-requires
-add_words-requires c =
+pub add_words-requires-clause-same : goal.add_words-requires-clause-same
+add_words-requires-clause-same c =
     let q = c.args.quarter in
     let w = c.args.width in
     let high = c.args.high.now in
@@ -11,8 +12,11 @@ add_words-requires c =
     length_low (2 ^ (q + 1)) (2 ^ q) w _ high s.result.0.now (power_next q) c.requires.second refl s.ensures.front
     ∙ sym (length_high (2 ^ (q + 1)) (2 ^ q) w _ high s.result.1.now (power_next q) c.requires.second refl s.ensures.back)
 
-pub add_words-requires-2 : goal.add_words-requires-2
-add_words-requires-2 c =
+pub add_words-requires-clause-zeros : goal.add_words-requires-clause-zeros
+add_words-requires-clause-zeros c i l = from_back _ c.args.known c.args.high.now c.split_at_mut-third.result.1.now c.split_at_mut-third.ensures.back c.requires.zeros i (omega arith)
+
+pub add_words-requires-2-clause-same : goal.add_words-requires-2-clause-same
+add_words-requires-2-clause-same c =
     let q = c.args.quarter in
     let w = c.args.width in
     let f = c.split_at_mut-first in
@@ -20,8 +24,18 @@ add_words-requires-2 c =
     length_high (2 ^ (q + 1)) (2 ^ q) w _ c.args.low.now f.result.1.now (power_next q) c.requires.first refl f.ensures.back
     ∙ sym (c.add_words.auto.into ∙ length_low (2 ^ (q + 1)) (2 ^ q) w _ c.args.high.now s.result.0.now (power_next q) c.requires.second refl s.ensures.front)
 
-pub returns : goal.returns
-returns c =
+pub add_words-requires-2-clause-zeros : goal.add_words-requires-2-clause-zeros
+add_words-requires-2-clause-zeros c =
+    third_zeros c.args.known _ c.args.high.now c.split_at_mut-third.result.0.now c.split_at_mut-third.result.1.now c.add_words.new.into c.split_at_mut-third.ensures.front
+    c.split_at_mut-third.ensures.back c.add_words.auto.into
+    (length_low (2 ^ (c.args.quarter + 1)) (2 ^ c.args.quarter) c.args.width _ c.args.high.now c.split_at_mut-third.result.0.now (power_next c.args.quarter) c.requires.second refl
+    c.split_at_mut-third.ensures.front
+    ∙ sym (length_high (2 ^ (c.args.quarter + 1)) (2 ^ c.args.quarter) c.args.width _ c.args.high.now c.split_at_mut-third.result.1.now (power_next c.args.quarter) c.requires.second refl
+    c.split_at_mut-third.ensures.back))
+    c.add_words.ensures c.requires.zeros
+
+pub returns-clause-lifted : goal.returns-clause-lifted
+returns-clause-lifted c =
     let q = c.args.quarter in
     let w = c.args.width in
     let f = c.split_at_mut-first in
@@ -30,3 +44,12 @@ returns c =
     c.add_words-2.new.into (power_next q) c.requires.first c.requires.second refl refl f.ensures.front f.ensures.back s.ensures.front s.ensures.back
     (c.add_words.auto.into ∙ length_low (2 ^ (q + 1)) (2 ^ q) w _ c.args.high.now s.result.0.now (power_next q) c.requires.second refl s.ensures.front)
     c.add_words.ensures c.add_words-2.ensures
+
+pub returns-clause-zeros : goal.returns-clause-zeros
+returns-clause-zeros c =
+    let s = c.split_at_mut-third in
+    let third = length_low (2 ^ (c.args.quarter + 1)) (2 ^ c.args.quarter) c.args.width _ c.args.high.now s.result.0.now (power_next c.args.quarter) c.requires.second refl s.ensures.front in
+    let fourth = length_high (2 ^ (c.args.quarter + 1)) (2 ^ c.args.quarter) c.args.width _ c.args.high.now s.result.1.now (power_next c.args.quarter) c.requires.second refl s.ensures.back in
+    lifted_zeros c.args.known _ c.args.high.now s.result.0.now s.result.1.now c.add_words.new.into s.ensures.front s.ensures.back c.add_words.auto.into
+    (third ∙ sym fourth) c.add_words.ensures c.requires.zeros
+    (third ∙ sym (middle (2 ^ (c.args.quarter + 1)) (2 ^ c.args.quarter) c.args.width c.args.high.now (power_next c.args.quarter) c.requires.second))

@@ -1,4 +1,4 @@
-use Rattle.std.proofs.Common.{◌^◌, ◌*◌, ◌+◌, ◌∙◌}
+use Rattle.std.proofs.Common.{◌^◌, ◌*◌, ◌+◌, ◌∙◌, arith}
 use Rattle.additive_fft.specs.laws.PaddedLaws.{padded_value}
 use Rattle.additive_fft.proofs.Columns.{in_coset}
 use Rattle.additive_fft.proofs.Counting.{whole_cost, fewer}
@@ -8,23 +8,23 @@ pub returns-clause-values : goal.returns-clause-values
 returns-clause-values g c p i lp l =
     let n = c.args.level in
     let a = c.args.block in
-    c.values_at_coset.ensures.values p i lp l ∙ c.convert.ensures.coefficients i (a * 2 ^ n + p) l (in_coset n a p c.requires.few c.requires.block lp)
+    c.values_at_coset.ensures.values p i lp l ∙ c.convert.ensures.coefficients i (a * 2 ^ n + p) l (in_coset n a p c.requires.few c.requires.block (omega (arith, c.requires.count)))
 
 pub returns-clause-padded : goal.returns-clause-padded
 returns-clause-padded g c k p i few lp l zeros =
     let n = c.args.level in
     let a = c.args.block in
-    let x = in_coset n a p c.requires.few c.requires.block lp in
+    let x = in_coset n a p c.requires.few c.requires.block (omega (arith, c.requires.count)) in
     c.values_at_coset.ensures.values p i lp l ∙ c.convert.ensures.coefficients i (a * 2 ^ n + p) l x
     ∙ padded_value c.args.width (2 ^ n) k i (a * 2 ^ n + p) c.args.rows.now l few x zeros
 
 pub returns-clause-cost : goal.returns-clause-cost
 returns-clause-cost g c =
-    whole_cost c.args.level c.args.width c.args.steps.now c.convert.new.steps c.values_at_coset.new.steps _ c.requires.size c.convert.ensures.cost
+    whole_cost c.args.level c.args.known c.args.width c.args.steps.now c.convert.new.steps c.values_at_coset.new.steps c.convert.ensures.cost
     c.values_at_coset.ensures.cost
 
 pub returns-clause-fewer : goal.returns-clause-fewer
 returns-clause-fewer g c l some =
-    fewer c.args.level c.args.width c.args.steps.now c.values_at_coset.new.steps _ l some c.requires.size
-    (whole_cost c.args.level c.args.width c.args.steps.now c.convert.new.steps c.values_at_coset.new.steps _ c.requires.size c.convert.ensures.cost
+    fewer c.args.level c.args.known c.args.width c.args.steps.now c.values_at_coset.new.steps _ l some c.requires.known c.requires.size
+    (whole_cost c.args.level c.args.known c.args.width c.args.steps.now c.convert.new.steps c.values_at_coset.new.steps c.convert.ensures.cost
     c.values_at_coset.ensures.cost)

@@ -6,5 +6,5 @@ pub returns-clause-values : goal.returns-clause-values
 returns-clause-values g c p i lp l =
     let n = c.args.level in
     let a = c.args.block in
-    flown_columns c.args.width n a _ p i c.args.rows.now c.fly.new.rows (shift_by a n c.requires.block) c.requires.few c.requires.block lp c.are_elements.ensures
-    c.requires.size l c.fly.ensures.values
+    flown_columns c.args.width n a _ c.args.count p i c.args.rows.now c.fly.new.rows (shift_by a n c.requires.block) c.requires.few c.requires.block lp c.requires.count
+    c.are_elements.ensures c.requires.size l c.fly.ensures.values
