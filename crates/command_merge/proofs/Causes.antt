@@ -8,10 +8,10 @@ use Rattle.command_files.specs.Inputs.{Licensed}
 use Rattle.command_files.specs.Uses.{writing, Failed}
 use Rattle.command_files.specs.Wrote.{Wrote}
 use Rattle.command_files.specs.laws.WroteLaws.{Wrote-nothing, Wrote-then}
-use Rattle.pet_receive.specs.KeptSet.{KeptSet, kept_in_all}
-use Rattle.pet_receive.specs.Union.{union, absorb_fault}
-use Rattle.pet_receive.specs.declared.union.Absorb.{Absorb}
-use Rattle.pet_receive.specs.declared.union.Absorb.TheVariants as absorb
+use Rattle.kept_sets.specs.KeptSet.{KeptSet, kept_in_all}
+use Rattle.kept_sets.specs.Union.{union, absorb_fault}
+use Rattle.kept_sets.specs.declared.union.Absorb.{Absorb}
+use Rattle.kept_sets.specs.declared.union.Absorb.TheVariants as absorb
 use Rattle.store_merge.specs.Files.{HasStore, HasBadStore, store_file}
 use Rattle.store_merge.specs.declared.fault.BadStore.TheVariants.{At}
 use Rattle.command_merge.specs.Ends.{absorb_end, stop_end, IsFirstEnd, IsSecondEnd}

@@ -3,7 +3,7 @@ use Rattle.std.proofs.Common.{◌≡◌, ℕ, List, [], take, ap, ◌∙◌, inr
 use Rattle.std.specs.Io.KnownBytes.{append_known}
 use Rattle.pet_base.specs.OutsideSeen.{OutsideSeen}
 use Rattle.command_files.specs.Printed.{Unprinted}
-use Rattle.pet_receive.specs.KeptSet.{kept_in_all}
+use Rattle.kept_sets.specs.KeptSet.{kept_in_all}
 use Rattle.pet_text.specs.Lines.{merged_text}
 use Rattle.command_files.specs.laws.WroteLaws.{Wrote-as_front}
 use Rattle.command_merge.specs.Line.{EndsWith}

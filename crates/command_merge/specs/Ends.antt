@@ -4,8 +4,8 @@ use Rattle.pet_base.specs.Seen.{Seen}
 use Rattle.pet_base.specs.declared.faults.Stop.{Stop}
 use Rattle.pet_base.specs.declared.faults.Stop.TheVariants as stop
 use Rattle.command_files.specs.Uses.{reading, Failed}
-use Rattle.pet_receive.specs.declared.union.Absorb.{Absorb}
-use Rattle.pet_receive.specs.declared.union.Absorb.TheVariants as absorb
+use Rattle.kept_sets.specs.declared.union.Absorb.{Absorb}
+use Rattle.kept_sets.specs.declared.union.Absorb.TheVariants as absorb
 use Rattle.store_merge.specs.Files.{HasBadStore}
 use Rattle.store_merge.specs.declared.fault.BadStore.TheVariants.{At}
 use Rattle.command_merge.specs.declared.command.MergeEnd.{MergeEnd}

@@ -5,9 +5,9 @@ use Rattle.pet_base.specs.Seen.{Seen}
 use Rattle.command_files.specs.Printed.{Printed, Unprinted, PrintedFront}
 use Rattle.command_files.specs.Uses.{reading, writing, Failed}
 use Rattle.command_files.specs.Wrote.{Wrote}
-use Rattle.pet_receive.specs.KeptSet.{KeptSet, kept_in_all}
-use Rattle.pet_receive.specs.Union.{union, absorb_fault}
-use Rattle.pet_receive.specs.declared.union.Absorb.TheVariants as absorb
+use Rattle.kept_sets.specs.KeptSet.{KeptSet, kept_in_all}
+use Rattle.kept_sets.specs.Union.{union, absorb_fault}
+use Rattle.kept_sets.specs.declared.union.Absorb.TheVariants as absorb
 use Rattle.store_merge.specs.Files.{HasStore, HasBadStore, store_file}
 use Rattle.store_merge.specs.declared.fault.BadStore.TheVariants.{At}
 use Rattle.pet_text.specs.Lines.{merged_text}

@@ -1,7 +1,7 @@
 //! Reading two stores, joining them, and writing their union.
 ghost use Rattle.std.specs.Prelude.{◌≡◌, ◌≤◌, IfOk, IfErr};
 ghost use Rattle.pet_base.specs.Seen.{Seen, KeepsOutput};
-ghost use Rattle.pet_receive.specs.KeptSet.{kept_in_all};
+ghost use Rattle.kept_sets.specs.KeptSet.{kept_in_all};
 ghost use Rattle.pet_receive.specs.Arrivals.{kept_set};
 ghost use Rattle.store_merge.specs.Files.{HasStore};
 ghost use Rattle.command_merge.specs.Ends.{IsFirstEnd, IsSecondEnd};
@@ -9,7 +9,8 @@ ghost use Rattle.command_merge.specs.Merges.{IsCause, WritesUnion, union_of};
 
 use crate::command::MergeEnd;
 use pet_base::{NoMemory, Place, Steps, Stop};
-use pet_receive::{Absorb, Receiver};
+use kept_sets::Absorb;
+use pet_receive::Receiver;
 use pet_tables::Gf16Tables;
 use std::alloc::Global;
 use std::sync::ledger::Ledger;

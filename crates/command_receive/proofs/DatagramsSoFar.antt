@@ -17,9 +17,9 @@ use Rattle.datagram_route.specs.laws.ComingLaws.{come_nothing, come_more, come_b
 use Rattle.pet_base.specs.declared.faults.Stop.{Stop}
 use Rattle.pet_base.specs.declared.faults.Stop.TheVariants as place
 use Rattle.pet_receive.specs.Arrivals.{Order, ReceiverState, kept_set}
-use Rattle.pet_receive.specs.KeptSet.{KeptSet}
-use Rattle.pet_receive.specs.laws.KeptSetLaws.{after_more}
-use Rattle.pet_receive.specs.Verdicts.{after, after_all}
+use Rattle.kept_sets.specs.KeptSet.{KeptSet}
+use Rattle.kept_sets.specs.laws.KeptSetLaws.{after_more}
+use Rattle.kept_sets.specs.Verdicts.{after, after_all}
 use Rattle.pet_field.specs.Gf16.{gf16_coding}
 use Rattle.met_packets.specs.Gf16.{HasKeptIn, IsArrivalText, IsLayersText, IsTextAt}
 use Rattle.met_packets.specs.LayersText.{order_after, order_after_all}

@@ -7,7 +7,7 @@ use Rattle.pet_base.specs.OutsideSeen.{OutsideSeen}
 use Rattle.pet_base.specs.Seen.{Seen}
 use Rattle.command_files.specs.laws.PrintedLaws.{append_known-twice, Rose-since}
 use Rattle.datagram_route.specs.Way.{Way, OnFile, OnLink}
-use Rattle.pet_receive.specs.KeptSet.{kept_in_all}
+use Rattle.kept_sets.specs.KeptSet.{kept_in_all}
 use Rattle.met_packets.specs.Kept.{kept_of}
 use Rattle.pet_text.specs.Lines.{bound_text, receive_text}
 use Rattle.command_receive.specs.declared.command.ReceiveEnd.{ReceiveEnd}

@@ -14,7 +14,7 @@ use Rattle.command_files.specs.laws.WroteLaws.{Wrote-file, Wrote-as_front, Wrote
 use Rattle.datagram_route.specs.Way.{Way, OnFile, OnLink}
 use Rattle.datagram_route.specs.Coming.{coming, HaveCome}
 use Rattle.pet_receive.specs.Arrivals.{ReceiverState, kept_set}
-use Rattle.pet_receive.specs.KeptSet.{KeptSet, kept_in_all}
+use Rattle.kept_sets.specs.KeptSet.{KeptSet, kept_in_all}
 use Rattle.pet_receive.specs.ShownBytes.{IsComplete, shown_in_all}
 use Rattle.met_packets.specs.Kept.{nothing_of}
 use Rattle.pet_text.specs.Lines.{bound_text}

@@ -2,7 +2,7 @@
 use Rattle.std.specs.Prelude.{◌≡◌, ◌⊎◌, ◌↔◌, ℕ, List, [], ◌∷◌, ◌++◌, None}
 use Rattle.pet_base.specs.OutsideSeen.{OutsideSeen}
 use Rattle.command_files.specs.Wrote.{Wrote}
-use Rattle.pet_receive.specs.KeptSet.{KeptSet, IsKeptSet}
+use Rattle.kept_sets.specs.KeptSet.{KeptSet, IsKeptSet}
 use Rattle.pet_receive.specs.ShownBytes.{IsShown}
 use Rattle.met_packets.specs.LayersText.{record_text}
 use Rattle.store_merge.specs.Files.{store_file}

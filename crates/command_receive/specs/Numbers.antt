@@ -3,7 +3,7 @@ use Rattle.std.specs.Prelude.{◌≡◌, ◌≢◌, ◌↔◌, IsTrue, ℕ, List
 use Rattle.std.specs.Io.KnownBytes.{append_known}
 use Rattle.pet_base.specs.declared.limits.TheConstants.{MAX_DATAGRAMS}
 use Rattle.pet_base.specs.Causes.{Rose}
-use Rattle.pet_receive.specs.KeptSet.{kept_in_all}
+use Rattle.kept_sets.specs.KeptSet.{kept_in_all}
 use Rattle.pet_receive.specs.ShownBytes.{IsComplete, shown_in_all}
 use Rattle.met_packets.specs.Kept.{kept_of}
 use Rattle.pet_text.specs.Lines.{receive_text}

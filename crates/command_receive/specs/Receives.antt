@@ -12,7 +12,7 @@ use Rattle.command_files.specs.Wrote.{File, Wrote}
 use Rattle.datagram_route.specs.Way.{Way, OnFile, OnLink}
 use Rattle.datagram_route.specs.Coming.{HaveCome, KeepsFeed}
 use Rattle.datagram_route.specs.RouteFaults.{BoundFailed}
-use Rattle.pet_receive.specs.KeptSet.{kept_in_all}
+use Rattle.kept_sets.specs.KeptSet.{kept_in_all}
 use Rattle.pet_receive.specs.ShownBytes.{IsComplete, shown_in_all}
 use Rattle.store_merge.specs.Files.{HasFile, store_file}
 use Rattle.met_packets.specs.Kept.{nothing_of, kept_of}

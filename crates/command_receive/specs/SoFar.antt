@@ -12,8 +12,8 @@ use Rattle.datagram_route.specs.Coming.{HaveCome}
 use Rattle.datagram_route.specs.declared.fault.RouteStop.{RouteStop}
 use Rattle.datagram_route.specs.declared.fault.RouteStop.TheVariants as stop
 use Rattle.pet_receive.specs.Arrivals.{ReceiverState, kept_set}
-use Rattle.pet_receive.specs.KeptSet.{KeptSet}
-use Rattle.pet_receive.specs.Verdicts.{after_all}
+use Rattle.kept_sets.specs.KeptSet.{KeptSet}
+use Rattle.kept_sets.specs.Verdicts.{after_all}
 use Rattle.met_packets.specs.Gf16.{HasKeptIn, IsLayersText, IsTextAt}
 use Rattle.met_packets.specs.LayersText.{order_after_all}
 use Rattle.met_packets.specs.Steps.{steps_of_all}

@@ -6,8 +6,8 @@ ghost use Rattle.pet_base.specs.declared.place.Side.TheVariants.{Written};
 ghost use Rattle.pet_base.specs.Causes.{Blames};
 ghost use Rattle.pet_base.specs.Seen.{Seen, OnlyWrites, HadFault};
 ghost use Rattle.pet_receive.specs.Arrivals.{Order, kept_set};
-ghost use Rattle.pet_receive.specs.KeptSet.{IsKeptSet};
-ghost use Rattle.pet_receive.specs.Verdicts.{after};
+ghost use Rattle.kept_sets.specs.KeptSet.{IsKeptSet};
+ghost use Rattle.kept_sets.specs.Verdicts.{after};
 ghost use Rattle.command_files.specs.Inputs.{Licensed};
 ghost use Rattle.command_files.specs.Outputs.{Puts};
 ghost use Rattle.datagram_route.specs.Way.{way_of};
@@ -27,7 +27,8 @@ use met_packets::put_shown;
 use pet_base::{
     Entry, Link, MAX_DATAGRAMS, MAX_ENTRY, MAX_SESSION, Outside, Place, Sink, Steps, Stop,
 };
-use pet_receive::{Receiver, Verdict, group_of};
+use kept_sets::{Verdict, group_of};
+use pet_receive::Receiver;
 use pet_tables::Gf16Tables;
 use std::alloc::{AllocError, Global};
 use std::sync::ledger::Ledger;

@@ -9,7 +9,7 @@ use Rattle.command_files.specs.Outputs.{Puts, PutsPart}
 use Rattle.command_files.specs.Uses.{writing, IsOneOf}
 use Rattle.command_files.specs.Wrote.{Wrote}
 use Rattle.command_files.specs.laws.WroteLaws.{Wrote-file, Wrote-nothing, Wrote-then}
-use Rattle.pet_receive.specs.KeptSet.{KeptSet, IsKeptSet}
+use Rattle.kept_sets.specs.KeptSet.{KeptSet, IsKeptSet}
 use Rattle.pet_receive.specs.ShownBytes.{groups_told}
 use Rattle.store_merge.specs.Files.{HasStore}
 use Rattle.command_video.specs.Ends.{IsPutEnd, PutsFront}

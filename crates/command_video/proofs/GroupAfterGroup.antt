@@ -6,7 +6,7 @@ use Rattle.pet_base.specs.Seen.{Seen, Files, Blame, HadFault, Grows}
 use Rattle.pet_base.specs.laws.SeenLaws.{HadFault-since}
 use Rattle.command_files.specs.Outputs.{Puts}
 use Rattle.command_files.specs.laws.PartLaws.{part_after, part_whole}
-use Rattle.pet_receive.specs.KeptSet.{KeptSet}
+use Rattle.kept_sets.specs.KeptSet.{KeptSet}
 use Rattle.pet_receive.specs.ShownBytes.{groups_told}
 use Rattle.command_video.specs.Ends.{IsGroupEnd, IsPutEnd, PutsToTable}
 use Rattle.command_video.specs.StoreVideo.{AreVideos}

@@ -17,7 +17,7 @@ use Rattle.layer_split.specs.Layers.{run_table_size}
 use Rattle.layer_split.specs.RunTable.{has_table, are_of, named_runs, named_run, run_count, fits}
 use Rattle.stripe_plan.specs.declared.layer.LayerSize.{LayerSize}
 use Rattle.pet_receive.specs.Arrivals.{layers_of}
-use Rattle.pet_receive.specs.KeptSet.{KeptSet, IsKeptSet, IsKeptGroup, open_group}
+use Rattle.kept_sets.specs.KeptSet.{KeptSet, IsKeptSet, IsKeptGroup, open_group}
 use Rattle.pet_receive.specs.ShownBytes.{groups_told}
 use Rattle.reassemble.specs.Leading.{lengths_in}
 use Rattle.reassemble.specs.Video.{run_bytes, start_of, group_video}

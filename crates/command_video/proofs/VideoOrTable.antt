@@ -11,7 +11,7 @@ use Rattle.packet_set.specs.Packets.{Packets}
 use Rattle.layer_split.specs.RunTable.{fits}
 use Rattle.pet_encode.specs.Payload.{stripes_in}
 use Rattle.pet_receive.specs.Arrivals.{layers_of}
-use Rattle.pet_receive.specs.KeptSet.{KeptSet, IsKeptSet, open_group}
+use Rattle.kept_sets.specs.KeptSet.{KeptSet, IsKeptSet, open_group}
 use Rattle.pet_receive.specs.ShownBytes.{IsShown, IsShownBytes}
 use Rattle.open_group.proofs.Agreement.{same_bytes}
 use Rattle.reassemble.specs.Leading.{IsUnfit, lengths_in}

@@ -3,7 +3,7 @@ use Rattle.std.specs.Prelude.{◌≡◌, ℕ, ◌<◌, ◌≤◌, List, [], ◌�
 use Rattle.pet_base.specs.Seen.{Seen}
 use Rattle.command_files.specs.Uses.{reading, Failed}
 use Rattle.command_files.specs.Outputs.{Puts, PutsPart}
-use Rattle.pet_receive.specs.KeptSet.{KeptSet}
+use Rattle.kept_sets.specs.KeptSet.{KeptSet}
 use Rattle.pet_receive.specs.ShownBytes.{groups_told}
 use Rattle.store_merge.specs.Files.{HasBadStore}
 use Rattle.store_merge.specs.declared.fault.BadStore.TheVariants.{At}

@@ -3,10 +3,10 @@ use Rattle.std.specs.Prelude.{◌≡◌, ◌⊎◌, ℕ, ◌<◌, List, [], leng
 use Rattle.std.specs.List.{concat}
 use Rattle.pet_field.specs.Gf16.{gf16_coding}
 use Rattle.packet_set.specs.Packets.{Packets}
-use Rattle.pet_receive.specs.KeptSet.{KeptSet, open_group}
+use Rattle.kept_sets.specs.KeptSet.{KeptSet, open_group}
 use Rattle.pet_receive.specs.Arrivals.{Order, numbers_of}
 use Rattle.pet_receive.specs.ShownBytes.{IsShown}
-use Rattle.pet_receive.specs.Union.{frames_in}
+use Rattle.kept_sets.specs.Union.{frames_in}
 use Rattle.reassemble.specs.Leading.{AreLeading, IsAssembled, IsUnfit}
 
 -- the order in which a store has its packets: by group, then number

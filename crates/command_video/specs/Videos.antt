@@ -5,7 +5,7 @@ use Rattle.pet_base.specs.Seen.{Seen}
 use Rattle.command_files.specs.Printed.{Printed, Unprinted, PrintedFront}
 use Rattle.command_files.specs.Uses.{reading, writing, Failed}
 use Rattle.command_files.specs.Wrote.{File, Wrote}
-use Rattle.pet_receive.specs.KeptSet.{KeptSet}
+use Rattle.kept_sets.specs.KeptSet.{KeptSet}
 use Rattle.pet_receive.specs.ShownBytes.{groups_told}
 use Rattle.store_merge.specs.Files.{HasStore, HasBadStore}
 use Rattle.store_merge.specs.declared.fault.BadStore.TheVariants.{At}

@@ -5,7 +5,7 @@ ghost use Rattle.pet_base.specs.Causes.{Blames};
 ghost use Rattle.pet_base.specs.Seen.{Seen, KeepsOutput, OnlyWrites, HadFault};
 ghost use Rattle.pet_field.specs.Gf16.{gf16_coding};
 ghost use Rattle.pet_receive.specs.Arrivals.{HasKept, kept_set};
-ghost use Rattle.pet_receive.specs.KeptSet.{IsKeptSet};
+ghost use Rattle.kept_sets.specs.KeptSet.{IsKeptSet};
 ghost use Rattle.pet_receive.specs.ShownBytes.{groups_told};
 ghost use Rattle.store_merge.specs.Files.{HasStore};
 ghost use Rattle.command_files.specs.Outputs.{Puts};

@@ -11,7 +11,7 @@ use Rattle.stripe_plan.specs.Layers.{words_before}
 use Rattle.stripe_plan.specs.Sizes.{bytes_of}
 use Rattle.pet_encode.specs.Session.{length_of_layer, bytes_of_layer}
 use Rattle.pet_receive.specs.Arrivals.{Order, ReceiverState, HasKept, kept_set, numbers_of, layers_of}
-use Rattle.pet_receive.specs.KeptSet.{open_group}
+use Rattle.kept_sets.specs.KeptSet.{open_group}
 use Rattle.met_packets.specs.LayersText.{IsLayer, AreRecords}
 use Rattle.met_packets.specs.Records.{records_text, AreLayersOf, AreShownText}
 use Rattle.met_packets.specs.declared.records.ShownLayer.{ShownLayer}

@@ -7,7 +7,7 @@ use Rattle.std.proofs.lemmas.List.{append-nil, take-append-drop, take_more, map_
 use Rattle.std.proofs.lemmas.Grind.{flat_map-append}
 use Rattle.pet_base.specs.Seen.{Seen}
 use Rattle.command_files.specs.laws.OutputLaws.{puts_then, part_then}
-use Rattle.pet_receive.specs.laws.LayerSetLaws.{filter_more}
+use Rattle.kept_sets.specs.laws.LayerSetLaws.{filter_more}
 use Rattle.met_packets.specs.LayersText.{record_text}
 use Rattle.met_packets.specs.Records.{records_text}
 use Rattle.command_files.specs.Outputs.{Puts, PutsPart}

@@ -5,7 +5,7 @@ use Rattle.pet_field.specs.Gf16.{gf16_coding}
 use Rattle.packet_frame.specs.Frame.{Fields}
 use Rattle.pet_encode.specs.Session.{Session}
 pub use Rattle.session_packets.specs.Packets.{IsItsPacket}
-use Rattle.pet_receive.specs.KeptSet.{KeptSet}
+use Rattle.kept_sets.specs.KeptSet.{KeptSet}
 use Rattle.pet_receive.specs.Arrivals.{Order, ReceiverState, HasKept}
 use Rattle.met_packets.specs.LayersText as L
 use Rattle.met_packets.specs.Records as R

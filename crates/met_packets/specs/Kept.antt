@@ -1,8 +1,8 @@
 -- What is kept of a session after some datagrams. This project's own.
 use Rattle.std.specs.Prelude.{ℕ, List}
 use Rattle.pet_base.specs.declared.limits.TheConstants.{MAX_SESSION}
-use Rattle.pet_receive.specs.KeptSet.{KeptSet, empty_set}
-use Rattle.pet_receive.specs.Verdicts.{after_all}
+use Rattle.kept_sets.specs.KeptSet.{KeptSet, empty_set}
+use Rattle.kept_sets.specs.Verdicts.{after_all}
 
 -- nothing is kept of a session
 abbrev pub nothing_of : List ℕ → KeptSet

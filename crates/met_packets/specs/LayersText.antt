@@ -5,8 +5,8 @@ use Rattle.pet_field.specs.Field.{Coding}
 use Rattle.packet_frame.specs.Refusals.{fields_of}
 use Rattle.packet_set.specs.Packets.{Packets}
 use Rattle.pet_encode.specs.Session.{IsMessage, bytes_of_layer}
-use Rattle.pet_receive.specs.KeptSet.{KeptSet, group_with}
-use Rattle.pet_receive.specs.Verdicts.{verdict_of, is_kept, newly_shown, after}
+use Rattle.kept_sets.specs.KeptSet.{KeptSet, group_with}
+use Rattle.kept_sets.specs.Verdicts.{verdict_of, is_kept, newly_shown, after}
 use Rattle.pet_receive.specs.Arrivals.{Order, numbers_of, layers_of}
 use Rattle.pet_receive.specs.ShownBytes.{IsShownBytes, Agrees}
 

@@ -3,8 +3,8 @@ use Rattle.std.specs.Prelude.{ℕ, List, filter, map}
 use Rattle.pet_field.specs.Field.{Coding}
 use Rattle.packet_frame.specs.Frame.{Fields, text}
 use Rattle.pet_encode.specs.Session.{Session, packets_of}
-use Rattle.pet_receive.specs.KeptSet.{KeptSet, empty_set}
-use Rattle.pet_receive.specs.Verdicts.{after_all}
+use Rattle.kept_sets.specs.KeptSet.{KeptSet, empty_set}
+use Rattle.kept_sets.specs.Verdicts.{after_all}
 use Rattle.met_packets.specs.Met.{Pair, has_pair}
 
 -- the session's packets that were met, by group, then number

@@ -6,8 +6,8 @@ use Rattle.pet_base.specs.declared.limits.TheConstants.{MAX_LAYERS}
 use Rattle.pet_field.specs.Field.{Coding}
 use Rattle.packet_set.specs.Packets.{Packets}
 use Rattle.pet_receive.specs.Arrivals.{Order, ReceiverState, HasKept, kept_set, numbers_of}
-use Rattle.pet_receive.specs.KeptSet.{open_group}
-use Rattle.pet_receive.specs.declared.verdict.LayerSet.{LayerSet}
+use Rattle.kept_sets.specs.KeptSet.{open_group}
+use Rattle.kept_sets.specs.declared.verdict.LayerSet.{LayerSet}
 use Rattle.met_packets.specs.LayersText.{IsLayer, record_text, AreRecords, IsArrivalText}
 use Rattle.met_packets.specs.declared.records.ShownLayer.{ShownLayer}
 

@@ -3,8 +3,8 @@
 use Rattle.std.specs.Prelude.{ℕ, ◌+◌, List, [], ◌∷◌, if◌then◌else◌}
 use Rattle.pet_interp.specs.Progressive.{step_bound}
 use Rattle.packet_frame.specs.Refusals.{fields_of}
-use Rattle.pet_receive.specs.KeptSet.{KeptSet, count_kept}
-use Rattle.pet_receive.specs.Verdicts.{verdict_of, is_kept, after}
+use Rattle.kept_sets.specs.KeptSet.{KeptSet, count_kept}
+use Rattle.kept_sets.specs.Verdicts.{verdict_of, is_kept, after}
 use Rattle.pet_receive.specs.Arrivals.{stripe_lengths}
 
 -- for one datagram, by the packets of its group that were kept before

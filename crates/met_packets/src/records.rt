@@ -8,7 +8,7 @@ ghost use Rattle.pet_base.specs.declared.place.Side.TheVariants.{Written};
 ghost use Rattle.pet_base.specs.Causes.{Blames};
 ghost use Rattle.pet_base.specs.Seen.{Seen, OnlyWrites, HasBlame};
 ghost use Rattle.pet_receive.specs.Arrivals.{Order, HasKept, kept_set, numbers_of, layers_of};
-ghost use Rattle.pet_receive.specs.KeptSet.{open_group};
+ghost use Rattle.kept_sets.specs.KeptSet.{open_group};
 ghost use Rattle.pet_receive.specs.ShownBytes.{IsShown};
 ghost use Rattle.met_packets.specs.LayersText.{record_text, IsLayer};
 ghost use Rattle.met_packets.specs.Records.{layers_in, records_text, AreLayersOf, AreShownText};
@@ -16,7 +16,8 @@ ghost use Rattle.command_files.specs.Outputs.{Puts, PutsPart};
 
 use arrayvec::ArrayVec;
 use pet_base::{Failed, MAX_LAYERS, Place};
-use pet_receive::{LayerSet, Receiver};
+use kept_sets::LayerSet;
+use pet_receive::Receiver;
 use pet_rows::Rows;
 
 /// A layer that is shown, with its bytes.

@@ -16,7 +16,7 @@ use Rattle.packet_set.specs.declared.set.Put.{Put}
 use Rattle.pet_encode.specs.Payload.{stripes_in}
 use Rattle.open_group.specs.OpenGroup.{GroupState, HoldsAfter, points_of, layers_of, stripe_lengths}
 use Rattle.open_group.proofs.Cuts.{sizes_are, cut_at}
-use Rattle.open_group.specs.laws.SlotCounts.{count_set, count_none, none_in}
+use Rattle.packet_set.specs.laws.SlotCounts.{count_set, count_none, none_in}
 
 -- ---- lists
 

@@ -7,21 +7,9 @@ use Rattle.pet_interp.specs.Progressive.{Held, StandsFor, stripe_of, lengths_of}
 use Rattle.stripe_plan.specs.declared.layer.LayerSize.{LayerSize}
 use Rattle.stripe_plan.specs.Layers.{plan_stripes}
 use Rattle.packet_frame.specs.declared.frame.Header.{Header}
-use Rattle.packet_set.specs.Packets.{Packets, slot_at, count_held}
+pub use Rattle.packet_set.specs.Packets.{Packets, slot_at, count_in, layers_of, no_packets}
 use Rattle.pet_encode.specs.Payload.{stripes_in}
 use Rattle.pet_encode.specs.Session.{IsMessage}
-
--- a group of which no packet is kept
-abbrev pub no_packets : Header → Packets
-no_packets header = record { header = header; slots = replicate header.table.packets None }
-
--- how many packets are kept of a group
-abbrev pub count_in : Packets → ℕ
-count_in p = count_held p.slots
-
--- the layers of a group
-abbrev pub layers_of : Packets → List LayerSize
-layers_of p = p.header.table.layers
 
 -- the lengths of the stripes of the plan
 abbrev pub stripe_lengths : List LayerSize → List ℕ

@@ -9,7 +9,8 @@ use crate::receive_fixtures::{
 use packet_frame::read_frame;
 use pet_base::{NoMemory, Steps};
 use pet_field::Gf16Plain;
-use pet_receive::{LayerSet, Receiver, Verdict, group_of};
+use kept_sets::{LayerSet, Verdict, group_of};
+use pet_receive::Receiver;
 use std::alloc::Global;
 use std::marker::Brand;
 use std::sync::ledger::{Blank, Ledger};

@@ -11,21 +11,22 @@ use Rattle.std.proofs.lemmas.List.Elements.{recursion_from_All}
 use Rattle.pet_field.specs.Field.{Coding}
 use Rattle.stripe_plan.specs.Sizes.{IsTable}
 use Rattle.packet_frame.specs.declared.frame.Header.{Header}
-use Rattle.packet_set.specs.Packets.{Packets, slot_at}
-use Rattle.pet_receive.specs.KeptSet.{KeptSet, IsKeptSet, open_group, count_in, count_kept, cost_kept, no_packets, told_by}
+use Rattle.packet_set.specs.Packets.{Packets, slot_at, count_in, no_packets}
+use Rattle.kept_sets.specs.KeptSet.{KeptSet, IsKeptSet, open_group, count_kept, cost_kept, told_by}
 use Rattle.pet_receive.specs.Arrivals.{GroupState, ReceiverState, Order, HoldsAfter, HasKept, layers_of, numbers_of, kept_set}
-use Rattle.pet_receive.specs.Union.{join_slots, join_group, join_groups, is_new, new_numbers, new_pairs, union_steps, union, absorb_fault, shown_by_union}
-use Rattle.pet_receive.specs.Verdicts.{shown_between}
-use Rattle.pet_receive.specs.laws.UnionSound.{union_count, added_to}
+use Rattle.pet_receive.specs.UnionSteps.{union_steps}
+use Rattle.kept_sets.specs.Union.{join_slots, join_group, join_groups, is_new, new_numbers, new_pairs, union, absorb_fault, shown_by_union}
+use Rattle.kept_sets.specs.Verdicts.{shown_between}
+use Rattle.kept_sets.specs.laws.UnionSound.{union_count, added_to}
 use Rattle.pet_receive.specs.Receiving.{IsReceiver}
 use Rattle.pet_receive.specs.Joining.{packets_of, OpensAll, JoinsAll, CanJoin, IsReadyAt, IsFillable}
-use Rattle.pet_receive.specs.laws.EntryLaws.{weight, lookup_values, keys_values, all_found}
-use Rattle.pet_receive.specs.laws.KeptSetLaws.{none_in, count_none}
-use Rattle.pet_receive.specs.laws.JoinedGroups.{found, Rises, join_open, found_join, rises_join}
-use Rattle.pet_receive.specs.laws.SameSets.{same_entries}
-use Rattle.pet_receive.specs.laws.FitLaws.{Agrees, some_frame}
-use Rattle.pet_receive.specs.laws.FitExactly.{fit_agrees, fit_within}
-use Rattle.pet_receive.specs.laws.UnionKept.{one_header, union_sound, union_told}
+use Rattle.kept_sets.specs.laws.EntryLaws.{weight, lookup_values, keys_values, all_found}
+use Rattle.kept_sets.specs.laws.KeptSetLaws.{none_in, count_none}
+use Rattle.kept_sets.specs.laws.JoinedGroups.{found, Rises, join_open, found_join, rises_join}
+use Rattle.kept_sets.specs.laws.SameSets.{same_entries}
+use Rattle.kept_sets.specs.laws.FitLaws.{Agrees, some_frame}
+use Rattle.kept_sets.specs.laws.FitExactly.{fit_agrees, fit_within}
+use Rattle.kept_sets.specs.laws.UnionKept.{one_header, union_sound, union_told}
 use Rattle.pet_receive.proofs.Joined.{SameNew, same_pairs, same_steps, packets_found, rises_packets, StandsOpened, SameLayers, joins_packets, joins_order, joins_steps, opened_at, opened_rises, opened_stands}
 
 -- joined with an empty group of as many numbers, slots are as they were

@@ -3,10 +3,10 @@ use Rattle.std.specs.Prelude.{IfOk, OnOk}
 use Rattle.std.proofs.Common.{◌≡◌, ℕ, List, Bool, true, false, None, Result, Ok, Err, refl, sym, ap, ◌∙◌, subst}
 use Rattle.packet_frame.specs.Frame.{Fields}
 use Rattle.packet_frame.specs.Refusals.{fields_of, first_fault}
-use Rattle.pet_receive.specs.declared.verdict.Verdict.{Verdict}
-use Rattle.pet_receive.specs.KeptSet.{KeptSet, keep}
-use Rattle.pet_receive.specs.Verdicts.{verdict_of, frame_verdict, is_kept, after}
-use Rattle.pet_receive.specs.laws.KeptSetLaws.{after_kept, after_other, verdict_read}
+use Rattle.kept_sets.specs.declared.verdict.Verdict.{Verdict}
+use Rattle.kept_sets.specs.KeptSet.{KeptSet, keep}
+use Rattle.kept_sets.specs.Verdicts.{verdict_of, frame_verdict, is_kept, after}
+use Rattle.kept_sets.specs.laws.KeptSetLaws.{after_kept, after_other, verdict_read}
 
 -- what is answered, by the kept set before and after
 pub record Answers {X : Type 0} (r : Result Verdict X) (old new : KeptSet) (f : Fields) : Type 0 where

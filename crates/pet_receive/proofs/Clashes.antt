@@ -7,9 +7,9 @@ use Rattle.std.proofs.lemmas.List.Sums.{sum_by-cons}
 use Rattle.packet_frame.specs.Frame.{Fields}
 use Rattle.packet_frame.specs.View.{fields_with}
 use Rattle.packet_set.specs.Packets.{Packets, slot_at}
-use Rattle.pet_receive.specs.KeptSet.{cost_in}
+use Rattle.kept_sets.specs.KeptSet.{cost_in}
 use Rattle.pet_receive.specs.Arrivals.{GroupState}
-use Rattle.pet_receive.specs.Union.{frames_in_group, first_past}
+use Rattle.kept_sets.specs.Union.{frames_in_group, first_past}
 use Rattle.pet_receive.specs.Joining.{packets_at, clash_or, first_clash_in, clash_from, new_of, cost_beside}
 
 module _ (test : Fields → Bool) (p : Packets) where

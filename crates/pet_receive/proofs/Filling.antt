@@ -15,15 +15,15 @@ use Rattle.pet_field.specs.Field.{Coding}
 use Rattle.stripe_plan.specs.Sizes.{IsTable}
 use Rattle.packet_frame.specs.Frame.{payload_length_of}
 use Rattle.packet_frame.specs.declared.frame.Header.{Header}
-use Rattle.packet_set.specs.Packets.{Packets, IsPackets, slot_at}
+use Rattle.packet_set.specs.Packets.{Packets, IsPackets, slot_at, count_in}
 use Rattle.pet_interp.specs.Progressive.{step_bound}
-use Rattle.pet_receive.specs.KeptSet.{count_in}
 use Rattle.pet_receive.specs.Arrivals.{GroupState, HoldsAfter, layers_of, stripe_lengths}
-use Rattle.pet_receive.specs.Union.{join_slots, is_new, new_numbers, steps_after}
+use Rattle.pet_receive.specs.UnionSteps.{steps_after}
+use Rattle.kept_sets.specs.Union.{join_slots, is_new, new_numbers}
 use Rattle.pet_receive.specs.Joining.{with_slot, with_theirs, IsFillable, IsFilledTo, HasFilled, IsReadyAt, CanJoin, JoinsOne, JoinsAll}
-use Rattle.pet_receive.specs.laws.EntryLaws.{lookup_here, lookup_other, set_is_insert}
-use Rattle.pet_receive.specs.laws.LayerSetLaws.{filter_more}
-use Rattle.pet_receive.specs.laws.JoinedGroups.{slot_join}
+use Rattle.kept_sets.specs.laws.EntryLaws.{lookup_here, lookup_other, set_is_insert}
+use Rattle.kept_sets.specs.laws.LayerSetLaws.{filter_more}
+use Rattle.kept_sets.specs.laws.JoinedGroups.{slot_join}
 
 -- a payload that is kept has the length of the group's payloads
 pub payload_long : (p : Packets) → IsPackets p → (number : ℕ) (payload : List ℕ) → Some payload ≡ slot_at p number → length payload ≡ payload_length_of p.header.table.layers

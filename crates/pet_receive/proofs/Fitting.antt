@@ -13,15 +13,15 @@ use Rattle.packet_frame.specs.Frame.{Fields}
 use Rattle.packet_frame.specs.View.{fields_with}
 use Rattle.packet_frame.specs.declared.frame.Header.{Header}
 use Rattle.packet_set.specs.Packets.{Packets, slot_at}
-use Rattle.pet_receive.specs.declared.union.Absorb.{Absorb}
-use Rattle.pet_receive.specs.declared.union.Absorb.TheVariants.{OtherSession, Clash, Full}
-use Rattle.pet_receive.specs.KeptSet.{KeptSet, IsKeptSet, told_by}
-use Rattle.pet_receive.specs.Verdicts.{clashes, tells_other_count}
+use Rattle.kept_sets.specs.declared.union.Absorb.{Absorb}
+use Rattle.kept_sets.specs.declared.union.Absorb.TheVariants.{OtherSession, Clash, Full}
+use Rattle.kept_sets.specs.KeptSet.{KeptSet, IsKeptSet, told_by}
+use Rattle.kept_sets.specs.Verdicts.{clashes, tells_other_count}
 use Rattle.pet_receive.specs.Arrivals.{GroupState, ReceiverState, kept_set}
-use Rattle.pet_receive.specs.Union.{frames_in_group, first_clash, first_full, then_clash, then_full, absorb_fault}
+use Rattle.kept_sets.specs.Union.{frames_in_group, first_clash, first_full, then_clash, then_full, absorb_fault}
 use Rattle.pet_receive.specs.Joining.{packets_of, packets_at, is_other_payload, clashes_by, clash_or, clash_from}
-use Rattle.pet_receive.specs.laws.EntryLaws.{lookup_values, keys_values, all_found}
-use Rattle.pet_receive.specs.laws.JoinedGroups.{Rises}
+use Rattle.kept_sets.specs.laws.EntryLaws.{lookup_values, keys_values, all_found}
+use Rattle.kept_sets.specs.laws.JoinedGroups.{Rises}
 use Rattle.pet_receive.proofs.Received.{count_told}
 use Rattle.pet_receive.proofs.Clashes.{clash_next, clash_end}
 

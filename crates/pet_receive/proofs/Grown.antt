@@ -8,12 +8,12 @@ use Rattle.std.proofs.lemmas.List.{length-replicate}
 use Rattle.std.proofs.lemmas.Option.{same_Some}
 use Rattle.pet_field.specs.Field.{Coding}
 use Rattle.packet_frame.specs.Frame.{Fields}
-use Rattle.packet_set.specs.Packets.{Packets, slot_at, with_packet}
-use Rattle.pet_receive.specs.KeptSet.{header_of, no_packets}
+use Rattle.packet_set.specs.Packets.{Packets, slot_at, with_packet, no_packets}
+use Rattle.kept_sets.specs.KeptSet.{header_of}
 use Rattle.pet_receive.specs.Arrivals.{GroupState, HoldsAfter}
 use Rattle.pet_receive.specs.Receiving.{IsReadyFor, HasGrown}
-use Rattle.pet_receive.specs.laws.EntryLaws.{lookup_here, set_is_insert, insert_twice}
-use Rattle.pet_receive.specs.laws.KeptSetLaws.{none_in}
+use Rattle.kept_sets.specs.laws.EntryLaws.{lookup_here, set_is_insert, insert_twice}
+use Rattle.kept_sets.specs.laws.KeptSetLaws.{none_in}
 
 module _ {E : Type 0} (P : E → Type 0) (c : Coding E) (es : List (ℕ × GroupState E)) (f : Fields) where
   -- what is written of the open group

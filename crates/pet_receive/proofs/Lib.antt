@@ -2,7 +2,6 @@ pub mod Received
 pub mod Sums
 pub mod Grown
 pub mod Accepted
-pub mod Named
 pub mod Opened
 pub mod Filling
 pub mod Joined

@@ -15,16 +15,16 @@ use Rattle.pet_field.specs.Field.{Coding}
 use Rattle.stripe_plan.specs.Same.{same_table}
 use Rattle.packet_frame.specs.Frame.{Fields, IsFrame}
 use Rattle.packet_frame.specs.declared.frame.Header.{Header}
-use Rattle.packet_set.specs.Packets.{Packets, slot_at, with_packet}
+use Rattle.packet_set.specs.Packets.{Packets, slot_at, with_packet, count_in, no_packets}
 use Rattle.pet_encode.specs.Session.{cost_of}
-use Rattle.pet_receive.specs.declared.verdict.Verdict.{Verdict}
-use Rattle.pet_receive.specs.declared.verdict.Verdict.TheVariants.{Foreign, Clash, Repeated, Full, Kept}
-use Rattle.pet_receive.specs.KeptSet.{KeptSet, IsKeptSet, open_group, payload_of, count_in, count_kept, cost_kept, header_of, no_packets, group_with, keep, told_by}
-use Rattle.pet_receive.specs.Verdicts.{tells_other_count, clashes, is_too_much, newly_shown, frame_verdict, layer_set, shown_between, is_kept}
+use Rattle.kept_sets.specs.declared.verdict.Verdict.{Verdict}
+use Rattle.kept_sets.specs.declared.verdict.Verdict.TheVariants.{Foreign, Clash, Repeated, Full, Kept}
+use Rattle.kept_sets.specs.KeptSet.{KeptSet, IsKeptSet, open_group, payload_of, count_kept, cost_kept, header_of, group_with, keep, told_by}
+use Rattle.kept_sets.specs.Verdicts.{tells_other_count, clashes, is_too_much, newly_shown, frame_verdict, layer_set, shown_between, is_kept}
 use Rattle.pet_receive.specs.Arrivals.{GroupState, ReceiverState, Order, HoldsAfter, HasKept, kept_set, state_of, numbers_of}
 use Rattle.pet_receive.specs.Receiving.{IsReceiver, IsReadyFor, HasGrown, verdict_at, verdict_in, verdict_new}
-use Rattle.pet_receive.specs.laws.EntryLaws.{lookup_here, lookup_other, lookup_values, insert_values, all_found}
-use Rattle.pet_receive.specs.laws.KeptSetLaws.{IsKeepable, keepable, keep_sound, open_here, header_with, cost_opened, cost_same}
+use Rattle.kept_sets.specs.laws.EntryLaws.{lookup_here, lookup_other, lookup_values, insert_values, all_found}
+use Rattle.kept_sets.specs.laws.KeptSetLaws.{IsKeepable, keepable, keep_sound, open_here, header_with, cost_opened, cost_same}
 
 -- ---- the number of groups that the first open group tells
 

@@ -20,13 +20,13 @@ use Rattle.std.specs.Option.{unwrap_or}
 use Rattle.std.proofs.lemmas.Map.Steps.{le-length_from_below}
 use Rattle.pet_base.specs.declared.limits.TheConstants.{MAX_GROUPS, MAX_PACKETS, MAX_LAYERS}
 use Rattle.stripe_plan.specs.Layers.{count_of}
-use Rattle.packet_set.specs.Packets.{Packets}
-use Rattle.pet_receive.specs.KeptSet.{KeptSet, IsKeptSet, open_group, count_in, told_by}
+use Rattle.packet_set.specs.Packets.{Packets, count_in}
+use Rattle.kept_sets.specs.KeptSet.{KeptSet, IsKeptSet, open_group, told_by}
 use Rattle.pet_receive.specs.Arrivals.{GroupState, layers_of}
 use Rattle.pet_receive.specs.ShownBytes.{IsShownIn, IsComplete, shown_in, groups_told}
 use Rattle.pet_receive.specs.Receiving.{is_whole, whole_in}
-use Rattle.pet_receive.specs.laws.EntryLaws.{all_found, rises_insert, sum_insert}
-use Rattle.pet_receive.specs.laws.LayerSetLaws.{range_more}
+use Rattle.kept_sets.specs.laws.EntryLaws.{all_found, rises_insert, sum_insert}
+use Rattle.kept_sets.specs.laws.LayerSetLaws.{range_more}
 use Rattle.pet_receive.proofs.Received.{tells}
 
 -- ---- counting

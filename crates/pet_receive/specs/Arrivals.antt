@@ -4,7 +4,7 @@ use Rattle.std.specs.Ordering.{nat_cmp}
 use Rattle.std.specs.BTreeMap.{is_at}
 use Rattle.std.specs.Map.{lookup}
 use Rattle.pet_field.specs.Field.{Coding}
-use Rattle.pet_receive.specs.KeptSet.{KeptSet}
+use Rattle.kept_sets.specs.KeptSet.{KeptSet}
 -- what is held of one open group
 pub use Rattle.open_group.specs.OpenGroup.{GroupState, layers_of, stripe_lengths, points_of, HoldsAfter}
 

@@ -10,13 +10,13 @@ use Rattle.pet_field.specs.Field.{Coding}
 use Rattle.stripe_plan.specs.Same.{same_table}
 use Rattle.stripe_plan.specs.Sizes.{IsTable}
 use Rattle.packet_frame.specs.declared.frame.Header.{Header}
-use Rattle.packet_set.specs.Packets.{Packets, slot_at, with_packet}
-use Rattle.pet_receive.specs.KeptSet.{count_in, no_packets}
-use Rattle.pet_receive.specs.Verdicts.{shown_between}
+use Rattle.packet_set.specs.Packets.{Packets, slot_at, with_packet, count_in, no_packets}
+use Rattle.kept_sets.specs.Verdicts.{shown_between}
 use Rattle.pet_receive.specs.Arrivals.{GroupState, HoldsAfter, layers_of, stripe_lengths}
-use Rattle.pet_receive.specs.Union.{frames_in_group, join_group, is_new, new_numbers, steps_after}
-use Rattle.pet_receive.specs.declared.union.Absorb.{Absorb}
-use Rattle.pet_receive.specs.declared.union.Absorb.TheVariants.{Clash}
+use Rattle.pet_receive.specs.UnionSteps.{steps_after}
+use Rattle.kept_sets.specs.Union.{frames_in_group, join_group, is_new, new_numbers}
+use Rattle.kept_sets.specs.declared.union.Absorb.{Absorb}
+use Rattle.kept_sets.specs.declared.union.Absorb.TheVariants.{Clash}
 
 -- the packets of open groups
 abbrev pub packets_of : {E : Type 0} → List (ℕ × GroupState E) → List (ℕ × Packets)

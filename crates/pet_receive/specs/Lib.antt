@@ -1,9 +1,6 @@
-pub mod KeptSet
-pub mod Verdicts
 pub mod Arrivals
 pub mod ShownBytes
 pub mod Receiving
-pub mod Group
-pub mod Union
+pub mod UnionSteps
 pub mod Joining
 pub mod laws

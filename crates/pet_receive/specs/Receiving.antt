@@ -8,12 +8,12 @@ use Rattle.pet_base.specs.declared.limits.TheConstants.{MAX_PACKETS}
 use Rattle.pet_field.specs.Field.{Coding}
 use Rattle.stripe_plan.specs.Same.{same_table}
 use Rattle.packet_frame.specs.Frame.{Fields}
-use Rattle.packet_set.specs.Packets.{Packets, slot_at, with_packet}
+use Rattle.packet_set.specs.Packets.{Packets, slot_at, with_packet, count_in, no_packets}
 use Rattle.pet_encode.specs.Session.{cost_of}
-use Rattle.pet_receive.specs.declared.verdict.Verdict.{Verdict}
-use Rattle.pet_receive.specs.declared.verdict.Verdict.TheVariants.{Clash, Repeated, Full, Kept}
-use Rattle.pet_receive.specs.KeptSet.{IsKeptSet, count_in, cost_kept, told_by, header_of, no_packets}
-use Rattle.pet_receive.specs.Verdicts.{layer_set, shown_between}
+use Rattle.kept_sets.specs.declared.verdict.Verdict.{Verdict}
+use Rattle.kept_sets.specs.declared.verdict.Verdict.TheVariants.{Clash, Repeated, Full, Kept}
+use Rattle.kept_sets.specs.KeptSet.{IsKeptSet, cost_kept, told_by, header_of}
+use Rattle.kept_sets.specs.Verdicts.{layer_set, shown_between}
 use Rattle.pet_receive.specs.ShownBytes.{shown_in}
 use Rattle.pet_receive.specs.Arrivals.{layers_of, GroupState, ReceiverState, Order, HoldsAfter, kept_set, HasKept}
 

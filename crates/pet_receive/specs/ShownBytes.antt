@@ -2,8 +2,8 @@
 use Rattle.std.specs.Prelude.{ℕ, ◌<◌, nat_le, length, sum_by, count_by, unwrap_or, MatchOption}
 use Rattle.std.specs.List.{range_with_len}
 use Rattle.stripe_plan.specs.Layers.{count_of}
-use Rattle.packet_set.specs.Packets.{Packets}
-use Rattle.pet_receive.specs.KeptSet.{KeptSet, open_group, count_in, told_by}
+use Rattle.packet_set.specs.Packets.{Packets, count_in}
+use Rattle.kept_sets.specs.KeptSet.{KeptSet, open_group, told_by}
 use Rattle.pet_receive.specs.Arrivals.{layers_of}
 -- the bytes of one layer are defined with the group
 pub use Rattle.open_group.specs.ShownBytes.{IsShownIn, IsShownBytes, Agrees}

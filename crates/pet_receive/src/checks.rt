@@ -2,12 +2,12 @@
 ghost use Rattle.std.specs.Prelude.{◌≡◌, ◌+◌, ◌≤◌, not, false, is_none, None, Some, option_copied, IfOk, OnOk, IfErr, sum_by};
 ghost use Rattle.std.specs.Option.{option_map_or};
 ghost use Rattle.stripe_plan.specs.Same.{same_table};
-ghost use Rattle.pet_receive.specs.KeptSet.{cost_in};
-ghost use Rattle.pet_receive.specs.Union.{first_past};
+ghost use Rattle.kept_sets.specs.KeptSet.{cost_in};
+ghost use Rattle.kept_sets.specs.Union.{first_past};
 ghost use Rattle.pet_receive.specs.Joining.{packets_at, is_other_group, is_other_payload, clash_at, first_clash_in, clash_from, new_of, cost_beside};
 
 use crate::judge::is_other;
-use crate::union::Absorb;
+use kept_sets::Absorb;
 use open_group::OpenGroup;
 use packet_frame::Header;
 use packet_set::PacketSet;

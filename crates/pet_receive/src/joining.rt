@@ -1,11 +1,10 @@
 //! Room for the groups that another receiver has kept, and their packets.
 ghost use Rattle.std.specs.Prelude.{◌≡◌, ℕ, ◌+◌, ◌<◌, ◌≤◌, cond, true, nat_lt, filter, All, List, [], ◌∷◌, ◌++◌, length, Some, OnOk, OnErr};
 ghost use Rattle.pet_base.specs.declared.limits.TheConstants.{MAX_PACKETS};
-ghost use Rattle.packet_set.specs.Packets.{with_packet, slot_at};
+ghost use Rattle.packet_set.specs.Packets.{with_packet, slot_at, count_in};
 ghost use Rattle.pet_interp.specs.Progressive.{step_bound};
-ghost use Rattle.pet_receive.specs.KeptSet.{count_in};
 ghost use Rattle.pet_receive.specs.Arrivals.{HoldsAfter, layers_of, stripe_lengths};
-ghost use Rattle.pet_receive.specs.Union.{is_new};
+ghost use Rattle.kept_sets.specs.Union.{is_new};
 ghost use Rattle.pet_receive.specs.Joining.{OpensOne, OpensAll, IsReadyAt, IsFillable, HasFilled, CanJoin, JoinsOne, JoinsAll, with_theirs};
 
 use open_group::OpenGroup;

@@ -3,10 +3,10 @@ ghost use Rattle.std.specs.Prelude.{◌≡◌, ℕ, ◌+◌, ◌^◌, ◌<◌, �
 ghost use Rattle.std.specs.Option.{option_map_or};
 ghost use Rattle.stripe_plan.specs.Layers.{count_of};
 ghost use Rattle.packet_frame.specs.View.{view};
-ghost use Rattle.pet_receive.specs.Verdicts.{layer_set, shown_between};
+ghost use Rattle.kept_sets.specs.Verdicts.{layer_set, shown_between};
 ghost use Rattle.pet_receive.specs.Receiving.{verdict_in, verdict_new};
 
-use crate::verdict::{LayerSet, Verdict};
+use kept_sets::{LayerSet, Verdict};
 use packet_frame::Frame;
 use packet_set::PacketSet;
 use pet_encode::group_cost;

@@ -6,10 +6,9 @@ ghost use Rattle.std.specs.Map.{lookup, set_value};
 ghost use Rattle.pet_base.specs.declared.limits.TheConstants.{MAX_PACKETS};
 ghost use Rattle.packet_frame.specs.Frame.{IsFrame};
 ghost use Rattle.packet_frame.specs.View.{view};
-ghost use Rattle.packet_set.specs.Packets.{with_packet};
+ghost use Rattle.packet_set.specs.Packets.{with_packet, no_packets, count_in};
 ghost use Rattle.pet_interp.specs.Progressive.{step_bound};
 ghost use Rattle.pet_encode.specs.Session.{cost_of};
-ghost use Rattle.pet_receive.specs.KeptSet.{no_packets, count_in};
 ghost use Rattle.pet_receive.specs.Arrivals.{GroupState, HoldsAfter, stripe_lengths};
 ghost use Rattle.pet_receive.specs.Receiving.{IsReadyFor, HasGrown};
 

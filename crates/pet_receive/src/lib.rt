@@ -9,17 +9,11 @@
 #![tactic(auto)]
 
 mod checks;
-mod datagram;
 mod joining;
 mod judge;
 mod keeping;
 mod receiver;
 mod shown;
 mod totals;
-mod union;
-mod verdict;
 
-pub use datagram::{group_of, number_of};
 pub use receiver::Receiver;
-pub use union::Absorb;
-pub use verdict::{LayerSet, Verdict};

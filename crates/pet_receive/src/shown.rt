@@ -1,11 +1,10 @@
 //! The layers that are shown by what another receiver has kept.
 ghost use Rattle.std.specs.Prelude.{◌≡◌, ◌<◌, ◌&&◌, nat_lt, nat_le, cond, List, [], ◌∷◌, ◌++◌, length, map, unwrap_or, option_map, option_copied, IfOk, OnOk, is_some, false};
 ghost use Rattle.std.specs.Option.{option_map_or};
-ghost use Rattle.packet_set.specs.Packets.{slot_at};
+ghost use Rattle.packet_set.specs.Packets.{slot_at, count_in};
 ghost use Rattle.stripe_plan.specs.Layers.{count_of};
-ghost use Rattle.pet_receive.specs.KeptSet.{count_in};
-ghost use Rattle.pet_receive.specs.Verdicts.{shown_between};
-ghost use Rattle.pet_receive.specs.Union.{new_numbers, is_new};
+ghost use Rattle.kept_sets.specs.Verdicts.{shown_between};
+ghost use Rattle.kept_sets.specs.Union.{new_numbers, is_new};
 ghost use Rattle.pet_receive.specs.Joining.{shown_by};
 
 use crate::checks::packets_in;

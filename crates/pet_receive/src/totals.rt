@@ -2,7 +2,7 @@
 ghost use Rattle.std.specs.Prelude.{◌≡◌, ◌^◌, ◌<◌, ◌≤◌, cond, nat_le, count_by, sum_by, length};
 ghost use Rattle.std.specs.Map.{values_of};
 ghost use Rattle.stripe_plan.specs.Layers.{count_of};
-ghost use Rattle.pet_receive.specs.KeptSet.{count_in};
+ghost use Rattle.packet_set.specs.Packets.{count_in};
 ghost use Rattle.pet_receive.specs.ShownBytes.{shown_in};
 ghost use Rattle.pet_receive.specs.Receiving.{whole_in};
 

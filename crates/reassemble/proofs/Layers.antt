@@ -13,7 +13,7 @@ use Rattle.packet_frame.specs.declared.frame.Header.{Header}
 use Rattle.packet_set.specs.Packets.{Packets}
 use Rattle.pet_encode.specs.Session.{length_of_layer}
 use Rattle.pet_receive.specs.Arrivals.{layers_of}
-use Rattle.pet_receive.specs.KeptSet.{KeptSet, open_group}
+use Rattle.kept_sets.specs.KeptSet.{KeptSet, open_group}
 use Rattle.pet_receive.specs.ShownBytes.{IsShown, IsShownIn, IsShownBytes}
 use Rattle.open_group.specs.laws.Needs.{layer_inside, length_is}
 use Rattle.reassemble.specs.declared.leading.ShownLayer.{ShownLayer}

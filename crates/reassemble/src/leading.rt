@@ -5,7 +5,7 @@ ghost use Rattle.pet_base.specs.declared.limits.TheConstants.{MAX_LAYERS};
 ghost use Rattle.packet_set.specs.Packets.{Packets};
 ghost use Rattle.pet_encode.specs.Session.{IsMessage, bytes_of_layer};
 ghost use Rattle.pet_receive.specs.Arrivals.{Order, HasKept, kept_set, numbers_of, layers_of};
-ghost use Rattle.pet_receive.specs.KeptSet.{open_group};
+ghost use Rattle.kept_sets.specs.KeptSet.{open_group};
 ghost use Rattle.pet_receive.specs.ShownBytes.{Agrees};
 ghost use Rattle.reassemble.specs.Leading.{AreLeading, AreShownBytes};
 

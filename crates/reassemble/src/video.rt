@@ -6,7 +6,7 @@ ghost use Rattle.packet_set.specs.Packets.{Packets};
 ghost use Rattle.layer_split.specs.RunTable.{fits, named_runs};
 ghost use Rattle.pet_encode.specs.Session.{IsMessage, bytes_of_layer};
 ghost use Rattle.pet_receive.specs.Arrivals.{Order, HasKept, kept_set, numbers_of, layers_of};
-ghost use Rattle.pet_receive.specs.KeptSet.{open_group};
+ghost use Rattle.kept_sets.specs.KeptSet.{open_group};
 ghost use Rattle.pet_receive.specs.ShownBytes.{IsShown, IsShownBytes, Agrees};
 ghost use Rattle.reassemble.specs.declared.fault.Assemble.{Assemble};
 ghost use Rattle.reassemble.specs.Video.{group_video};

@@ -10,9 +10,9 @@ use Rattle.packet_frame.specs.Frame.{Fields, IsFrame, text, tag_of}
 use Rattle.packet_frame.specs.laws.Laws.{texts_have_length}
 use Rattle.packet_frame.specs.declared.format.TheConstants.{FORMAT}
 use Rattle.session_packets.specs.Packets.{entry_text, entries_text}
-use Rattle.pet_receive.specs.KeptSet.{KeptSet, IsKeptSet, told_by}
-use Rattle.pet_receive.specs.Union.{frames_in}
-use Rattle.pet_receive.specs.laws.FramesLaws.{frames_of, frames_told, no_frames}
+use Rattle.kept_sets.specs.KeptSet.{KeptSet, IsKeptSet, told_by}
+use Rattle.kept_sets.specs.Union.{frames_in}
+use Rattle.kept_sets.specs.laws.FramesLaws.{frames_of, frames_told, no_frames}
 use Rattle.store_merge.specs.Store.{text_before_tag, store_of}
 use Rattle.store_merge.specs.declared.format.TheConstants.{MARK}
 

@@ -10,16 +10,16 @@ use Rattle.packet_set.specs.Packets.{Packets, slot_at}
 use Rattle.packet_frame.specs.laws.Laws.{reads_frames}
 use Rattle.pet_field.specs.Field.{Coding}
 use Rattle.pet_interp.specs.Progressive.{step_bound}
-use Rattle.pet_receive.specs.declared.verdict.Verdict.{Verdict}
-use Rattle.pet_receive.specs.declared.verdict.Verdict.TheVariants.{Damaged, Foreign, Clash, Repeated, Full, Kept}
-use Rattle.pet_receive.specs.declared.verdict.LayerSet.{LayerSet}
-use Rattle.pet_receive.specs.KeptSet.{KeptSet, IsKeptSet, open_group, payload_of, count_kept, keep}
-use Rattle.pet_receive.specs.Verdicts.{verdict_of, frame_verdict, is_kept, after, clashes, is_too_much, layer_set, newly_shown}
+use Rattle.kept_sets.specs.declared.verdict.Verdict.{Verdict}
+use Rattle.kept_sets.specs.declared.verdict.Verdict.TheVariants.{Damaged, Foreign, Clash, Repeated, Full, Kept}
+use Rattle.kept_sets.specs.declared.verdict.LayerSet.{LayerSet}
+use Rattle.kept_sets.specs.KeptSet.{KeptSet, IsKeptSet, open_group, payload_of, count_kept, keep}
+use Rattle.kept_sets.specs.Verdicts.{verdict_of, frame_verdict, is_kept, after, clashes, is_too_much, layer_set, newly_shown}
 use Rattle.pet_receive.specs.Arrivals.{Order, ReceiverState, HasKept, kept_set, stripe_lengths}
-use Rattle.pet_receive.specs.Union.{frames_in}
-use Rattle.pet_receive.specs.Group.{group_in, number_in}
-use Rattle.pet_receive.specs.laws.KeptSetLaws.{verdict_read, verdict_damaged, after_kept, keepable}
-use Rattle.pet_receive.specs.laws.FramesInOrder.{IsAbove, frames_more, above_keep}
+use Rattle.kept_sets.specs.Union.{frames_in}
+use Rattle.kept_sets.specs.Group.{group_in, number_in}
+use Rattle.kept_sets.specs.laws.KeptSetLaws.{verdict_read, verdict_damaged, after_kept, keepable}
+use Rattle.kept_sets.specs.laws.FramesInOrder.{IsAbove, frames_more, above_keep}
 use Rattle.pet_receive.specs.laws.StepLaws.{steps_keep}
 use Rattle.store_merge.specs.declared.fault.StoreKind.{StoreKind}
 use Rattle.store_merge.specs.declared.fault.StoreKind.TheVariants as kind

@@ -10,7 +10,7 @@ use Rattle.pet_base.specs.Seen.{Seen, Files, HadFault, Names, Grows, with_file}
 use Rattle.command_files.specs.Inputs.{IsFrontOf, IsRead, Licensed}
 use Rattle.command_files.specs.Wrote.{File, Wrote}
 use Rattle.command_files.specs.laws.WroteLaws.{Wrote-file, Wrote-front}
-use Rattle.pet_receive.specs.KeptSet.{KeptSet}
+use Rattle.kept_sets.specs.KeptSet.{KeptSet}
 use Rattle.store_merge.specs.Refusals.{read_text}
 use Rattle.store_merge.specs.declared.fault.StoreKind.TheVariants.{Cut}
 use Rattle.store_merge.specs.declared.fault.BadStore.{BadStore}

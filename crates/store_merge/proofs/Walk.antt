@@ -6,10 +6,10 @@ use Rattle.std.proofs.lemmas.List.{length-drop}
 use Rattle.packet_frame.specs.Frame.{Fields}
 use Rattle.packet_set.specs.Packets.{Packets}
 use Rattle.pet_field.specs.Field.{Coding}
-use Rattle.pet_receive.specs.KeptSet.{KeptSet, IsKeptSet, keep}
+use Rattle.kept_sets.specs.KeptSet.{KeptSet, IsKeptSet, keep}
 use Rattle.pet_receive.specs.Arrivals.{Order, ReceiverState, HasKept, kept_set}
-use Rattle.pet_receive.specs.Union.{frames_in_group}
-use Rattle.pet_receive.specs.laws.FramesInOrder.{above_none}
+use Rattle.kept_sets.specs.Union.{frames_in_group}
+use Rattle.kept_sets.specs.laws.FramesInOrder.{above_none}
 use Rattle.store_merge.specs.declared.fault.StoreKind.{StoreKind}
 use Rattle.store_merge.specs.declared.fault.StoreKind.TheVariants.{Cut, Rest}
 use Rattle.store_merge.specs.declared.fault.BadStore.{BadStore}

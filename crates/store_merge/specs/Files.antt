@@ -6,7 +6,7 @@ use Rattle.pet_base.specs.declared.faults.Stop.TheVariants as place
 use Rattle.pet_base.specs.Seen.{Seen, Files}
 use Rattle.command_files.specs.Uses.{reading, Failed}
 use Rattle.command_files.specs.Wrote.{File}
-use Rattle.pet_receive.specs.KeptSet.{KeptSet}
+use Rattle.kept_sets.specs.KeptSet.{KeptSet}
 use Rattle.store_merge.specs.Store.{store_text}
 use Rattle.store_merge.specs.Refusals.{read_text}
 use Rattle.store_merge.specs.declared.fault.StoreKind.TheVariants.{Cut}

@@ -1,9 +1,9 @@
 -- Two stores merged: the union of what they hold, or why there is none. This project's own.
 use Rattle.std.specs.Prelude.{ℕ, List, Option, None, Some, Result, Ok, Err}
-use Rattle.pet_receive.specs.KeptSet.{KeptSet}
-use Rattle.pet_receive.specs.Union.{union, absorb_fault}
-use Rattle.pet_receive.specs.declared.union.Absorb.{Absorb}
-use Rattle.pet_receive.specs.declared.union.Absorb.TheVariants as absorb
+use Rattle.kept_sets.specs.KeptSet.{KeptSet}
+use Rattle.kept_sets.specs.Union.{union, absorb_fault}
+use Rattle.kept_sets.specs.declared.union.Absorb.{Absorb}
+use Rattle.kept_sets.specs.declared.union.Absorb.TheVariants as absorb
 use Rattle.store_merge.specs.Refusals.{read_text}
 use Rattle.store_merge.specs.declared.fault.BadStore.{BadStore}
 use Rattle.store_merge.specs.declared.fault.BadStore.TheVariants as store

@@ -4,11 +4,11 @@ use Rattle.std.specs.Prelude.{ℕ, Bool, true, ◌&&◌, ◌||◌, ◌==◌, nat
 use Rattle.packet_frame.specs.Frame.{Fields}
 use Rattle.packet_frame.specs.Refusals.{fields_of}
 use Rattle.pet_field.specs.Field.{Coding}
-use Rattle.pet_receive.specs.declared.verdict.Verdict.{Verdict}
-use Rattle.pet_receive.specs.declared.verdict.Verdict.TheVariants as verdict
-use Rattle.pet_receive.specs.KeptSet.{KeptSet, IsKeptSet}
+use Rattle.kept_sets.specs.declared.verdict.Verdict.{Verdict}
+use Rattle.kept_sets.specs.declared.verdict.Verdict.TheVariants as verdict
+use Rattle.kept_sets.specs.KeptSet.{KeptSet, IsKeptSet}
 use Rattle.pet_receive.specs.Arrivals.{Order, ReceiverState, HasKept, kept_set}
-use Rattle.pet_receive.specs.Union.{frames_in}
+use Rattle.kept_sets.specs.Union.{frames_in}
 use Rattle.store_merge.specs.declared.fault.StoreKind.{StoreKind}
 use Rattle.store_merge.specs.declared.fault.StoreKind.TheVariants as kind
 use Rattle.store_merge.specs.Refusals.{Last, entry_fault}

@@ -5,9 +5,11 @@ use Rattle.std.specs.Int.{w32, to_be_bytes}
 use Rattle.packet_frame.specs.Frame.{Fields, tag_of}
 use Rattle.packet_frame.specs.declared.format.TheConstants.{FORMAT}
 use Rattle.session_packets.specs.Packets.{entries_text}
-use Rattle.pet_receive.specs.KeptSet.{KeptSet, count_in}
+use Rattle.packet_set.specs.Packets.{count_in}
+use Rattle.kept_sets.specs.KeptSet.{KeptSet}
 use Rattle.pet_receive.specs.Arrivals.{layers_of, stripe_lengths}
-use Rattle.pet_receive.specs.Union.{frames_in, steps_after}
+use Rattle.pet_receive.specs.UnionSteps.{steps_after}
+use Rattle.kept_sets.specs.Union.{frames_in}
 use Rattle.store_merge.specs.declared.format.TheConstants.{MARK}
 
 -- all that is before the tag: the mark, the session number, how many frames there are, and an entry for each

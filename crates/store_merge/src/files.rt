@@ -5,9 +5,9 @@ ghost use Rattle.pet_base.specs.Seen.{Seen, KeepsOutput, KeepsInput, HasBlame};
 ghost use Rattle.command_files.specs.Inputs.{Licensed};
 ghost use Rattle.command_files.specs.Uses.{writing, IsOneOf, Failed as HasFailed};
 ghost use Rattle.command_files.specs.Wrote.{Wrote};
-ghost use Rattle.pet_receive.specs.KeptSet.{IsKeptSet};
+ghost use Rattle.kept_sets.specs.KeptSet.{IsKeptSet};
 ghost use Rattle.pet_receive.specs.Arrivals.{kept_set, HasKept};
-ghost use Rattle.pet_receive.specs.Union.{frames_in};
+ghost use Rattle.kept_sets.specs.Union.{frames_in};
 ghost use Rattle.store_merge.specs.Store.{store_steps};
 ghost use Rattle.store_merge.specs.Files.{HasStore, IsStop, store_in, store_file};
 

@@ -1,8 +1,8 @@
 //! Merging two stores.
 ghost use Rattle.std.specs.Prelude.{◌≡◌, ◌≢◌, ◌++◌, ◌+◌, ◌≤◌, IfErr, OnOk, OnErr, Ok, Err};
 ghost use Rattle.pet_base.specs.declared.limits.TheConstants.{MAX_PACKETS};
-ghost use Rattle.pet_receive.specs.KeptSet.{KeptSet};
-ghost use Rattle.pet_receive.specs.Union.{union_steps};
+ghost use Rattle.kept_sets.specs.KeptSet.{KeptSet};
+ghost use Rattle.pet_receive.specs.UnionSteps.{union_steps};
 ghost use Rattle.store_merge.specs.Store.{store_text, store_steps};
 ghost use Rattle.store_merge.specs.Refusals.{read_text};
 ghost use Rattle.store_merge.specs.Merged.{merged, of_first, of_second};
@@ -11,7 +11,7 @@ use crate::fault::{BadStore, MergeFault};
 use crate::read::read_store;
 use crate::write::write_store;
 use pet_base::{NoMemory, Steps};
-use pet_receive::Absorb;
+use kept_sets::Absorb;
 use pet_rows::Rows;
 use std::alloc::Global;
 use std::sync::ledger::Ledger;

@@ -6,10 +6,10 @@ ghost use Rattle.packet_frame.specs.Frame.{IsFrame, tag_of, text};
 ghost use Rattle.packet_frame.specs.View.{fields_with};
 ghost use Rattle.packet_set.specs.Packets.{Packets};
 ghost use Rattle.session_packets.specs.Packets.{entry_text, entries_text};
-ghost use Rattle.pet_receive.specs.KeptSet.{IsKeptSet, open_group};
+ghost use Rattle.kept_sets.specs.KeptSet.{IsKeptSet, open_group};
 ghost use Rattle.pet_receive.specs.Arrivals.{kept_set};
-ghost use Rattle.pet_receive.specs.Union.{frames_in, frames_in_group};
-ghost use Rattle.pet_receive.specs.laws.FramesLaws.{frames_of, frame_at};
+ghost use Rattle.kept_sets.specs.Union.{frames_in, frames_in_group};
+ghost use Rattle.kept_sets.specs.laws.FramesLaws.{frames_of, frame_at};
 ghost use Rattle.store_merge.specs.Store.{store_text};
 
 use crate::format::MARK;

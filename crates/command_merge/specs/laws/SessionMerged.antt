@@ -11,11 +11,11 @@ use Rattle.command_files.specs.Wrote.{with_files}
 use Rattle.pet_encode.specs.Session.{Session}
 use Rattle.pet_field.specs.Gf16.{gf16_coding}
 use Rattle.packet_frame.specs.Frame.{Fields}
-use Rattle.pet_receive.specs.KeptSet.{KeptSet, kept_in_all}
-use Rattle.pet_receive.specs.laws.FramesLaws.{frames_many}
-use Rattle.pet_receive.specs.Union.{union, absorb_fault}
-use Rattle.pet_receive.specs.declared.union.Absorb.{Absorb}
-use Rattle.pet_receive.specs.declared.union.Absorb.TheVariants as absorb
+use Rattle.kept_sets.specs.KeptSet.{KeptSet, kept_in_all}
+use Rattle.kept_sets.specs.laws.FramesLaws.{frames_many}
+use Rattle.kept_sets.specs.Union.{union, absorb_fault}
+use Rattle.kept_sets.specs.declared.union.Absorb.{Absorb}
+use Rattle.kept_sets.specs.declared.union.Absorb.TheVariants as absorb
 use Rattle.store_merge.specs.Files.{store_file}
 use Rattle.store_merge.specs.Store.{store_text}
 use Rattle.store_merge.specs.declared.fault.BadStore.TheVariants.{At}

@@ -10,14 +10,14 @@ use Rattle.packet_frame.specs.Frame.{Fields}
 use Rattle.packet_frame.specs.Refusals.{fields_of, first_fault}
 use Rattle.packet_frame.specs.declared.frame.Header.{Header}
 use Rattle.packet_frame.specs.laws.Laws.{reads_frames}
-use Rattle.packet_set.specs.Packets.{Packets}
+use Rattle.packet_set.specs.Packets.{Packets, count_in}
 use Rattle.pet_field.specs.Field.{Coding}
 use Rattle.pet_receive.specs.Arrivals.{Order, layers_of}
-use Rattle.pet_receive.specs.KeptSet.{KeptSet, IsKeptSet, keep, open_group, group_with, count_in, count_kept}
+use Rattle.kept_sets.specs.KeptSet.{KeptSet, IsKeptSet, keep, open_group, group_with, count_kept}
 use Rattle.pet_receive.specs.ShownBytes.{IsShown, IsShownIn}
-use Rattle.pet_receive.specs.Verdicts.{verdict_of, is_kept, newly_shown, after, after_all}
-use Rattle.pet_receive.specs.laws.KeptSetLaws.{IsKeepable, keepable, open_here, open_other, header_with, count_with, verdict_read, after_kept, after_other, after_sound, empty_sound}
-use Rattle.pet_receive.specs.laws.LayerSetLaws.{filter_more, newly_shown-is}
+use Rattle.kept_sets.specs.Verdicts.{verdict_of, is_kept, newly_shown, after, after_all}
+use Rattle.kept_sets.specs.laws.KeptSetLaws.{IsKeepable, keepable, open_here, open_other, header_with, count_with, verdict_read, after_kept, after_other, after_sound, empty_sound}
+use Rattle.kept_sets.specs.laws.LayerSetLaws.{filter_more, newly_shown-is}
 use Rattle.met_packets.specs.Kept.{nothing_of, kept_of}
 use Rattle.met_packets.specs.LayersText.{AreRecords, IsArrivalText, IsLayersText, order_after, record_text, shown_by}
 use Rattle.met_packets.specs.Gf16 as G

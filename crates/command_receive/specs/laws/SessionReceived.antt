@@ -17,7 +17,7 @@ use Rattle.command_files.specs.Uses.{IsOneOf, Failed}
 use Rattle.command_files.specs.Wrote.{with_files}
 use Rattle.pet_encode.specs.Session.{Session}
 use Rattle.pet_receive.specs.ShownBytes.{IsComplete, shown_in_all}
-use Rattle.pet_receive.specs.Union.{frames_in}
+use Rattle.kept_sets.specs.Union.{frames_in}
 use Rattle.pet_text.specs.Lines.{receive_text}
 use Rattle.pet_field.specs.Gf16.{gf16_coding}
 use Rattle.met_packets.specs.Kept.{kept_of}

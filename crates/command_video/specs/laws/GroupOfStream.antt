@@ -24,7 +24,7 @@ use Rattle.group_cutter.specs.laws.StandingLaws.{groups_stand}
 use Rattle.pet_field.specs.Gf16.{gf16_coding}
 use Rattle.packet_set.specs.Packets.{Packets}
 use Rattle.pet_encode.specs.Session.{Session, SessionGroup, IsSession, bytes_of_layer}
-use Rattle.pet_receive.specs.KeptSet.{KeptSet, open_group}
+use Rattle.kept_sets.specs.KeptSet.{KeptSet, open_group}
 use Rattle.met_packets.specs.Met.{Pair}
 use Rattle.met_packets.specs.laws.SetOfPairs.{IsMetSet}
 use Rattle.reassemble.specs.Leading.{AreShownBytes}

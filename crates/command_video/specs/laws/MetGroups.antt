@@ -17,13 +17,13 @@ use Rattle.pet_field.specs.Gf16.{gf16_coding}
 use Rattle.pet_field.specs.laws.Gf16Laws.{gf16_lawful}
 use Rattle.packet_frame.specs.Frame.{Fields}
 use Rattle.packet_frame.specs.declared.frame.Header.{Header}
-use Rattle.packet_set.specs.Packets.{Packets, slot_at}
+use Rattle.packet_set.specs.Packets.{Packets, slot_at, count_in}
 use Rattle.pet_encode.specs.Session.{Session, SessionGroup, IsSession, IsSessionGroup, IsMessage, IsPacketOf, bytes_of_layer, packet_of, packets_of}
 use Rattle.pet_encode.specs.laws.SessionLaws.{packets_are}
 use Rattle.pet_receive.specs.Arrivals.{layers_of}
-use Rattle.pet_receive.specs.KeptSet.{KeptSet, open_group, count_in}
+use Rattle.kept_sets.specs.KeptSet.{KeptSet, open_group}
 use Rattle.pet_receive.specs.ShownBytes.{IsShown, IsShownIn, IsShownBytes}
-use Rattle.pet_receive.specs.Union.{frames_in}
+use Rattle.kept_sets.specs.Union.{frames_in}
 use Rattle.open_group.proofs.Agreement.{agreed_bytes}
 use Rattle.met_packets.specs.Met.{Pair, has_pair, distinct_met, shows}
 use Rattle.met_packets.specs.laws.SumLaws.{count_nothing}

@@ -9,7 +9,7 @@ use Rattle.command_files.specs.Printed.{Printed}
 use Rattle.command_files.specs.Uses.{reading, writing, Failed, IsOneOf}
 use Rattle.command_files.specs.Wrote.{with_files}
 use Rattle.pet_encode.specs.Session.{Session, IsSession}
-use Rattle.pet_receive.specs.KeptSet.{KeptSet}
+use Rattle.kept_sets.specs.KeptSet.{KeptSet}
 use Rattle.pet_receive.specs.ShownBytes.{groups_told}
 use Rattle.store_merge.specs.Files.{HasStore}
 use Rattle.store_merge.specs.declared.fault.BadStore.TheVariants.{At}

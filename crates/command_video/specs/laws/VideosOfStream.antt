@@ -15,7 +15,7 @@ use Rattle.layer_split.specs.Layers.{Cut}
 use Rattle.pet_field.specs.Gf16.{gf16_coding}
 use Rattle.packet_set.specs.Packets.{Packets}
 use Rattle.pet_encode.specs.Session.{Session, IsSession}
-use Rattle.pet_receive.specs.KeptSet.{KeptSet}
+use Rattle.kept_sets.specs.KeptSet.{KeptSet}
 use Rattle.pet_receive.specs.ShownBytes.{IsShown, IsShownIn, groups_told}
 use Rattle.met_packets.specs.Met.{Pair}
 use Rattle.met_packets.specs.laws.CountsAreMet.{told_is}

@@ -6,8 +6,8 @@ use Rattle.std.proofs.lemmas.List.Elements.{All-head, All-tail}
 use Rattle.pet_field.specs.Field.{Coding}
 use Rattle.pet_encode.specs.Session.{Session, IsSession, Fits}
 use Rattle.pet_receive.specs.Arrivals.{Order}
-use Rattle.pet_receive.specs.KeptSet.{KeptSet, empty_set}
-use Rattle.pet_receive.specs.Verdicts.{after, after_all}
+use Rattle.kept_sets.specs.KeptSet.{KeptSet, empty_set}
+use Rattle.kept_sets.specs.Verdicts.{after, after_all}
 use Rattle.met_packets.specs.LayersText.{IsLayersText, order_after}
 use Rattle.met_packets.specs.Met.{Pair, pair_in, met_in, met_after, datagram_text, text_from}
 use Rattle.met_packets.specs.laws.PairLaws.{met_cons}

@@ -12,12 +12,12 @@ use Rattle.stripe_plan.specs.declared.layer.LayerSize.{LayerSize}
 use Rattle.stripe_plan.specs.Layers.{count_of, plan_stripes}
 use Rattle.stripe_plan.specs.Counts.{longest_meeting}
 use Rattle.packet_frame.specs.declared.frame.Header.{Header}
-use Rattle.packet_set.specs.Packets.{Packets}
+use Rattle.packet_set.specs.Packets.{Packets, count_in}
 use Rattle.pet_encode.specs.Session.{Session, SessionGroup, IsSession, IsSessionGroup}
 use Rattle.pet_receive.specs.Arrivals.{layers_of}
-use Rattle.pet_receive.specs.KeptSet.{KeptSet, open_group, count_in, kept_in_all}
+use Rattle.kept_sets.specs.KeptSet.{KeptSet, open_group, kept_in_all}
 use Rattle.pet_receive.specs.ShownBytes.{IsShownIn, shown_in, shown_in_all, IsComplete, groups_told}
-use Rattle.pet_receive.specs.laws.EntryLaws.{weight, values_sum}
+use Rattle.kept_sets.specs.laws.EntryLaws.{weight, values_sum}
 use Rattle.met_packets.specs.Met.{Pair, distinct_met, shows, count_met, count_shown, all_shown}
 use Rattle.met_packets.specs.laws.SumLaws.{sum_same, count_nothing}
 use Rattle.met_packets.specs.laws.KeptIsMet.{Follows}

@@ -3,8 +3,8 @@ use Rattle.std.proofs.Common.{◌≡◌, ℕ, ◌+◌, List, [], ◌∷◌, ◌+
 use Rattle.std.proofs.lemmas.List.{append-nil}
 use Rattle.pet_field.specs.Field.{Coding}
 use Rattle.pet_receive.specs.Arrivals.{Order}
-use Rattle.pet_receive.specs.KeptSet.{KeptSet}
-use Rattle.pet_receive.specs.Verdicts.{after, after_all}
+use Rattle.kept_sets.specs.KeptSet.{KeptSet}
+use Rattle.kept_sets.specs.Verdicts.{after, after_all}
 use Rattle.met_packets.specs.LayersText.{IsArrivalText, IsLayersText, order_after, order_after_all}
 use Rattle.met_packets.specs.Steps.{steps_of, steps_of_all}
 

@@ -17,10 +17,10 @@ use Rattle.pet_encode.specs.Payload.{payload_at}
 use Rattle.pet_encode.specs.Session.{Session, SessionGroup, IsSession, IsSessionGroup, IsMessage, IsPacketOf, Fits}
 use Rattle.stripe_plan.specs.declared.layer.LayerSize.{LayerSize}
 use Rattle.pet_receive.specs.Arrivals.{Order, numbers_of, layers_of}
-use Rattle.pet_receive.specs.declared.verdict.Verdict.TheVariants.{Damaged, Foreign, Clash, Repeated, Full, Kept}
-use Rattle.pet_receive.specs.KeptSet.{KeptSet, header_of, group_with, keep}
-use Rattle.pet_receive.specs.Verdicts.{verdict_of, frame_verdict, is_kept, newly_shown, layer_set, after, clashes, is_too_much}
-use Rattle.pet_receive.specs.KeptSet.{payload_of}
+use Rattle.kept_sets.specs.declared.verdict.Verdict.TheVariants.{Damaged, Foreign, Clash, Repeated, Full, Kept}
+use Rattle.kept_sets.specs.KeptSet.{KeptSet, header_of, group_with, keep}
+use Rattle.kept_sets.specs.Verdicts.{verdict_of, frame_verdict, is_kept, newly_shown, layer_set, after, clashes, is_too_much}
+use Rattle.kept_sets.specs.KeptSet.{payload_of}
 use Rattle.pet_receive.specs.ShownBytes.{Agrees}
 use Rattle.met_packets.specs.LayersText.{AreRecords, IsArrivalText, order_after}
 use Rattle.met_packets.specs.Met.{Pair, pair_in, has_pair, met_after, newly_shown_by, group_text, datagram_text}

@@ -8,9 +8,9 @@ use Rattle.std.proofs.lemmas.List.Elements.{All-nil, All-cons, All-head, All-tai
 use Rattle.packet_frame.specs.declared.frame.Header.{Header}
 use Rattle.packet_set.specs.Packets.{Packets}
 use Rattle.pet_encode.specs.Session.{Session, SessionGroup}
-use Rattle.pet_receive.specs.KeptSet.{KeptSet, open_group}
-use Rattle.pet_receive.specs.laws.EntryLaws.{weight, all_found}
-use Rattle.pet_receive.specs.laws.FoundEntries.{sum_found}
+use Rattle.kept_sets.specs.KeptSet.{KeptSet, open_group}
+use Rattle.kept_sets.specs.laws.EntryLaws.{weight, all_found}
+use Rattle.kept_sets.specs.laws.FoundEntries.{sum_found}
 use Rattle.met_packets.specs.Met.{Pair, has_pair}
 use Rattle.met_packets.specs.laws.SumLaws.{sum_numbers}
 use Rattle.met_packets.specs.laws.KeptIsMet.{HasMet, Follows}

@@ -12,9 +12,9 @@ use Rattle.packet_frame.specs.View.{fields_with}
 use Rattle.packet_frame.specs.declared.frame.Header.{Header}
 use Rattle.packet_set.specs.Packets.{Packets, slot_at}
 use Rattle.pet_encode.specs.Session.{Session, SessionGroup, IsSession, Fits, packet_of, packets_of_group, packets_from, packets_of}
-use Rattle.pet_receive.specs.KeptSet.{KeptSet, open_group}
-use Rattle.pet_receive.specs.Union.{frames_in_group, frames_in}
-use Rattle.pet_receive.specs.laws.FoundEntries.{frames_found}
+use Rattle.kept_sets.specs.KeptSet.{KeptSet, open_group}
+use Rattle.kept_sets.specs.Union.{frames_in_group, frames_in}
+use Rattle.kept_sets.specs.laws.FoundEntries.{frames_found}
 use Rattle.met_packets.specs.Kept.{kept_of}
 use Rattle.met_packets.specs.Met.{Pair, has_pair, met_in}
 use Rattle.met_packets.specs.MetFrames.{met_frames}

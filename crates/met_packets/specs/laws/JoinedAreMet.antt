@@ -14,13 +14,13 @@ use Rattle.packet_frame.specs.Frame.{Fields}
 use Rattle.packet_set.specs.Packets.{Packets}
 use Rattle.pet_encode.specs.Session.{Session, SessionGroup, Fits, packets_of}
 use Rattle.pet_encode.specs.laws.SessionLaws.{packets_are}
-use Rattle.pet_receive.specs.declared.union.Absorb.TheVariants.{OtherSession}
-use Rattle.pet_receive.specs.KeptSet.{KeptSet, open_group, cost_in, cost_kept}
-use Rattle.pet_receive.specs.Verdicts.{clashes}
-use Rattle.pet_receive.specs.Union.{join_slots, join_group, union, frames_in, first_clash, new_groups, first_past, first_full, then_full, then_clash, absorb_fault}
-use Rattle.pet_receive.specs.laws.EntryLaws.{values_sum}
-use Rattle.pet_receive.specs.laws.JoinedGroups.{slot_join, join_open, rises_join}
-use Rattle.pet_receive.specs.laws.UnionSound.{union_open, union_cost}
+use Rattle.kept_sets.specs.declared.union.Absorb.TheVariants.{OtherSession}
+use Rattle.kept_sets.specs.KeptSet.{KeptSet, open_group, cost_in, cost_kept}
+use Rattle.kept_sets.specs.Verdicts.{clashes}
+use Rattle.kept_sets.specs.Union.{join_slots, join_group, union, frames_in, first_clash, new_groups, first_past, first_full, then_full, then_clash, absorb_fault}
+use Rattle.kept_sets.specs.laws.EntryLaws.{values_sum}
+use Rattle.kept_sets.specs.laws.JoinedGroups.{slot_join, join_open, rises_join}
+use Rattle.kept_sets.specs.laws.UnionSound.{union_open, union_cost}
 use Rattle.met_packets.specs.Met.{Pair, has_pair}
 use Rattle.met_packets.specs.MetFrames.{met_frames}
 use Rattle.met_packets.specs.laws.PairLaws.{has_either, or_false}

@@ -13,19 +13,19 @@ use Rattle.packet_frame.specs.Refusals.{fields_of, first_fault}
 use Rattle.packet_frame.specs.declared.fault.FrameFault.{FrameFault}
 use Rattle.packet_frame.specs.declared.frame.Header.{Header}
 use Rattle.packet_frame.specs.laws.Laws.{reads_frames}
-use Rattle.packet_set.specs.Packets.{Packets}
-use Rattle.pet_receive.specs.declared.verdict.Verdict.TheVariants.{Kept}
-use Rattle.pet_receive.specs.declared.verdict.LayerSet.{LayerSet}
+use Rattle.packet_set.specs.Packets.{Packets, count_in}
+use Rattle.kept_sets.specs.declared.verdict.Verdict.TheVariants.{Kept}
+use Rattle.kept_sets.specs.declared.verdict.LayerSet.{LayerSet}
 use Rattle.pet_receive.specs.Arrivals.{Order, ReceiverState, HasKept, kept_set, numbers_of, layers_of}
 use Rattle.pet_field.specs.Field.{Coding}
 use Rattle.met_packets.specs.LayersText.{AreRecords, IsArrivalText}
 use Rattle.met_packets.specs.Records.{IsTextAt}
-use Rattle.pet_receive.specs.KeptSet.{KeptSet, IsKeptSet, open_group, group_with, count_kept, count_in}
-use Rattle.pet_receive.specs.laws.KeptSetLaws.{keepable, open_here, header_with, count_with, verdict_read, verdict_damaged, after_kept}
-use Rattle.pet_receive.specs.Group.{group_in}
-use Rattle.pet_receive.specs.laws.LayerSetLaws.{filter_more, newly_shown-is, layer_set-has, bit_inside, bit_outside}
+use Rattle.kept_sets.specs.KeptSet.{KeptSet, IsKeptSet, open_group, group_with, count_kept}
+use Rattle.kept_sets.specs.laws.KeptSetLaws.{keepable, open_here, header_with, count_with, verdict_read, verdict_damaged, after_kept}
+use Rattle.kept_sets.specs.Group.{group_in}
+use Rattle.kept_sets.specs.laws.LayerSetLaws.{filter_more, newly_shown-is, layer_set-has, bit_inside, bit_outside}
 use Rattle.pet_receive.specs.ShownBytes.{IsShown, IsShownIn}
-use Rattle.pet_receive.specs.Verdicts.{verdict_of, frame_verdict, is_kept, newly_shown, layer_set, after}
+use Rattle.kept_sets.specs.Verdicts.{verdict_of, frame_verdict, is_kept, newly_shown, layer_set, after}
 use Rattle.met_packets.specs.Records.{layers_in, AreShownText}
 
 same_set : (a b : LayerSet) → Kept a ≡ Kept b → a ≡ b
@@ -60,11 +60,11 @@ one_is false = refl
 
 -- the layers of the set of newly shown layers are these
 set_layers : (layers : List LayerSize) (before now : ℕ) → length layers ≤ MAX_LAYERS
-    → layers_in (layer_set (Rattle.pet_receive.specs.Verdicts.shown_between layers before now)) ≡ Rattle.pet_receive.specs.Verdicts.shown_between layers before now
+    → layers_in (layer_set (Rattle.kept_sets.specs.Verdicts.shown_between layers before now)) ≡ Rattle.kept_sets.specs.Verdicts.shown_between layers before now
 set_layers layers before now few =
     let q : ℕ → Bool = λ j. ltb before (count_of layers j) && leb (count_of layers j) now in
     let n = length layers in
-    let p : ℕ → Bool = λ j. eqb (bit_at (layer_set (Rattle.pet_receive.specs.Verdicts.shown_between layers before now)).bits j) 1 in
+    let p : ℕ → Bool = λ j. eqb (bit_at (layer_set (Rattle.kept_sets.specs.Verdicts.shown_between layers before now)).bits j) 1 in
     let whole : n + (MAX_LAYERS - n) ≡ MAX_LAYERS = omega arith in
     ap (λ (k : ℕ). filter p (range_with_len 0 k)) (sym whole)
     ∙ filter_cut p q n (MAX_LAYERS - n) (λ j lt. ap (λ (b : ℕ). eqb b 1) (bit_inside q n j lt) ∙ one_is (q j)) (λ j past. ap (λ (b : ℕ). eqb b 1) (bit_outside q n j past))

@@ -10,11 +10,11 @@ use Rattle.std.proofs.lemmas.List.Elements.{All-nil}
 use Rattle.std.proofs.lemmas.Option.{none-some, same_Some}
 use Rattle.packet_frame.specs.Frame.{Fields}
 use Rattle.packet_frame.specs.declared.frame.Header.{Header}
-use Rattle.packet_set.specs.Packets.{Packets, slot_at}
+use Rattle.packet_set.specs.Packets.{Packets, slot_at, no_packets, count_in}
 use Rattle.pet_encode.specs.Session.{Session, SessionGroup}
-use Rattle.pet_receive.specs.KeptSet.{KeptSet, open_group, empty_set, header_of, no_packets, count_in}
-use Rattle.pet_receive.specs.laws.EntryLaws.{weight}
-use Rattle.pet_receive.specs.laws.KeptSetLaws.{empty_sound}
+use Rattle.kept_sets.specs.KeptSet.{KeptSet, open_group, empty_set, header_of}
+use Rattle.kept_sets.specs.laws.EntryLaws.{weight}
+use Rattle.kept_sets.specs.laws.KeptSetLaws.{empty_sound}
 use Rattle.met_packets.specs.Met.{Pair, has_pair, distinct_met}
 use Rattle.met_packets.specs.laws.SumLaws.{count_slots}
 

@@ -12,9 +12,9 @@ use Rattle.packet_frame.specs.Frame.{Fields}
 use Rattle.packet_frame.specs.declared.frame.Header.{Header}
 use Rattle.packet_set.specs.Packets.{Packets, with_packet}
 use Rattle.pet_encode.specs.Session.{Session, SessionGroup}
-use Rattle.pet_receive.specs.KeptSet.{KeptSet, open_group, header_of, group_with, keep}
-use Rattle.pet_receive.specs.laws.EntryLaws.{weight, rises_insert}
-use Rattle.pet_receive.specs.laws.KeptSetLaws.{open_here, open_other}
+use Rattle.kept_sets.specs.KeptSet.{KeptSet, open_group, header_of, group_with, keep}
+use Rattle.kept_sets.specs.laws.EntryLaws.{weight, rises_insert}
+use Rattle.kept_sets.specs.laws.KeptSetLaws.{open_here, open_other}
 use Rattle.met_packets.specs.Met.{Pair, has_pair}
 use Rattle.met_packets.specs.laws.SumLaws.{sum_changed}
 use Rattle.met_packets.specs.laws.PairLaws.{met_here, met_other_group, met_other_number}

@@ -9,13 +9,13 @@ use Rattle.stripe_plan.specs.declared.layer.LayerSize.{LayerSize}
 use Rattle.pet_field.specs.Field.{Coding}
 use Rattle.packet_frame.specs.Frame.{Fields}
 use Rattle.packet_frame.specs.declared.frame.Header.{Header}
-use Rattle.packet_set.specs.Packets.{Packets, slot_at}
+use Rattle.packet_set.specs.Packets.{Packets, slot_at, count_in}
 use Rattle.pet_encode.specs.Session.{Session, SessionGroup, IsMessage, bytes_of_layer}
 use Rattle.pet_receive.specs.Arrivals.{layers_of}
-use Rattle.pet_receive.specs.KeptSet.{KeptSet, open_group, group_with, count_in, count_kept}
-use Rattle.pet_receive.specs.Verdicts.{newly_shown, shown_between}
-use Rattle.pet_receive.specs.laws.EntryLaws.{weight}
-use Rattle.pet_receive.specs.laws.KeptSetLaws.{count_set}
+use Rattle.kept_sets.specs.KeptSet.{KeptSet, open_group, group_with, count_kept}
+use Rattle.kept_sets.specs.Verdicts.{newly_shown, shown_between}
+use Rattle.kept_sets.specs.laws.EntryLaws.{weight}
+use Rattle.kept_sets.specs.laws.KeptSetLaws.{count_set}
 use Rattle.pet_receive.specs.ShownBytes.{Agrees}
 use Rattle.met_packets.specs.LayersText.{record_text, AreRecords}
 use Rattle.met_packets.specs.Met.{Pair, has_pair, distinct_met, shows, newly_shown_by, group_text}

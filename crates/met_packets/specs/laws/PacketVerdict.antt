@@ -13,15 +13,15 @@ use Rattle.std.proofs.lemmas.Slice.Eq.{bytes_eq-Decides}
 use Rattle.std.proofs.lemmas.Option.{same_Some}
 use Rattle.packet_frame.specs.Frame.{Fields}
 use Rattle.packet_frame.specs.declared.frame.Header.{Header}
-use Rattle.packet_set.specs.Packets.{Packets, slot_at}
+use Rattle.packet_set.specs.Packets.{Packets, slot_at, no_packets}
 use Rattle.stripe_plan.specs.Sizes.{Sizes}
 use Rattle.stripe_plan.specs.Same.{same_table}
 use Rattle.stripe_plan.specs.laws.SameLaws.{same_table_laws}
 use Rattle.pet_encode.specs.Session.{Session, SessionGroup, Fits, cost_of}
-use Rattle.pet_receive.specs.declared.verdict.Verdict.TheVariants.{Foreign, Clash, Repeated, Full, Kept}
-use Rattle.pet_receive.specs.KeptSet.{KeptSet, open_group, payload_of, header_of, no_packets, group_with, keep, cost_in, cost_kept}
-use Rattle.pet_receive.specs.Verdicts.{tells_other_count, tells_other_table, tells_other_payload, clashes, is_too_much, newly_shown, layer_set, frame_verdict}
-use Rattle.pet_receive.specs.laws.EntryLaws.{weight, values_sum}
+use Rattle.kept_sets.specs.declared.verdict.Verdict.TheVariants.{Foreign, Clash, Repeated, Full, Kept}
+use Rattle.kept_sets.specs.KeptSet.{KeptSet, open_group, payload_of, header_of, group_with, keep, cost_in, cost_kept}
+use Rattle.kept_sets.specs.Verdicts.{tells_other_count, tells_other_table, tells_other_payload, clashes, is_too_much, newly_shown, layer_set, frame_verdict}
+use Rattle.kept_sets.specs.laws.EntryLaws.{weight, values_sum}
 use Rattle.met_packets.specs.Met.{Pair, has_pair}
 use Rattle.met_packets.specs.laws.SumLaws.{sum_below, sum_plain}
 use Rattle.met_packets.specs.laws.KeptIsMet.{HasMet, Follows}

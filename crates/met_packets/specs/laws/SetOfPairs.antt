@@ -15,12 +15,12 @@ use Rattle.packet_frame.specs.laws.Laws.{reads_frames, texts_are_read}
 use Rattle.pet_encode.specs.Session.{Session, IsSession, IsPacketOf, Fits, packets_of}
 use Rattle.pet_encode.specs.laws.SessionLaws.{packets_are}
 use Rattle.session_packets.specs.laws.SentLaws.{are_frames}
-use Rattle.pet_receive.specs.KeptSet.{KeptSet, IsKeptSet, empty_set}
-use Rattle.pet_receive.specs.Verdicts.{after, after_all}
-use Rattle.pet_receive.specs.Union.{frames_in, union, absorb_fault}
-use Rattle.pet_receive.specs.laws.KeptSetLaws.{empty_sound, after_sound}
-use Rattle.pet_receive.specs.laws.UnionKept.{union_sound}
-use Rattle.pet_receive.specs.laws.FitExactly.{fit_agrees, fit_within}
+use Rattle.kept_sets.specs.KeptSet.{KeptSet, IsKeptSet, empty_set}
+use Rattle.kept_sets.specs.Verdicts.{after, after_all}
+use Rattle.kept_sets.specs.Union.{frames_in, union, absorb_fault}
+use Rattle.kept_sets.specs.laws.KeptSetLaws.{empty_sound, after_sound}
+use Rattle.kept_sets.specs.laws.UnionKept.{union_sound}
+use Rattle.kept_sets.specs.laws.FitExactly.{fit_agrees, fit_within}
 use Rattle.met_packets.specs.Met.{Pair, pair_in, met_in, has_pair}
 use Rattle.met_packets.specs.MetFrames.{met_frames, met_set}
 use Rattle.met_packets.specs.laws.SumLaws.{filter_same_in}

@@ -6,8 +6,8 @@ use Rattle.pet_base.specs.declared.limits.TheConstants.{MAX_SESSION, MAX_STORE}
 use Rattle.pet_base.specs.Seen.{Files}
 use Rattle.pet_field.specs.Gf16.{gf16_coding}
 use Rattle.pet_encode.specs.Session.{Session, IsSession, Fits}
-use Rattle.pet_receive.specs.KeptSet.{KeptSet, cost_kept}
-use Rattle.pet_receive.specs.Union.{frames_in}
+use Rattle.kept_sets.specs.KeptSet.{KeptSet, cost_kept}
+use Rattle.kept_sets.specs.Union.{frames_in}
 use Rattle.store_merge.specs.Files.{HasStore, HasBadStore, store_in}
 use Rattle.store_merge.specs.Refusals.{read_text}
 use Rattle.store_merge.specs.Store.{store_of, store_text}

@@ -5,14 +5,14 @@ use Rattle.std.specs.List.{range_with_len}
 use Rattle.std.proofs.lemmas.List.Sums.{sum_by-cons, sum_by-append}
 use Rattle.packet_frame.specs.Frame.{Fields, IsFrame}
 use Rattle.packet_frame.specs.declared.frame.Header.{Header}
-use Rattle.packet_set.specs.Packets.{Packets}
+use Rattle.packet_set.specs.Packets.{Packets, count_in}
 use Rattle.pet_interp.specs.Progressive.{step_bound}
-use Rattle.pet_receive.specs.KeptSet.{KeptSet, IsKeptSet, open_group, count_in, count_kept, group_with, keep}
+use Rattle.kept_sets.specs.KeptSet.{KeptSet, IsKeptSet, open_group, count_kept, group_with, keep}
 use Rattle.pet_receive.specs.Arrivals.{layers_of, stripe_lengths}
-use Rattle.pet_receive.specs.Union.{steps_after}
-use Rattle.pet_receive.specs.laws.EntryLaws.{weight, sum_insert}
-use Rattle.pet_receive.specs.laws.LayerSetLaws.{range_more}
-use Rattle.pet_receive.specs.laws.KeptSetLaws.{IsKeepable, same_header, header_with, count_with}
+use Rattle.pet_receive.specs.UnionSteps.{steps_after}
+use Rattle.kept_sets.specs.laws.EntryLaws.{weight, sum_insert}
+use Rattle.kept_sets.specs.laws.LayerSetLaws.{range_more}
+use Rattle.kept_sets.specs.laws.KeptSetLaws.{IsKeepable, same_header, header_with, count_with}
 
 -- one packet more of a group
 pub steps_more : (lengths : List ℕ) (n : ℕ) → steps_after 0 lengths (n + 1) ≡ steps_after 0 lengths n + step_bound n lengths

@@ -7,13 +7,13 @@ use Rattle.std.proofs.lemmas.Bool.{cases_lt, le-ltb}
 use Rattle.std.proofs.lemmas.Map.Views.{exact_unsigned_eq}
 use Rattle.packet_frame.specs.Frame.{Fields}
 use Rattle.packet_set.specs.Packets.{Packets, slot_at}
-use Rattle.pet_receive.specs.KeptSet.{KeptSet, IsKeptSet, empty_set, open_group, payload_of, keep}
-use Rattle.pet_receive.specs.Verdicts.{clashes, is_too_much, newly_shown, layer_set, frame_verdict, is_kept}
-use Rattle.pet_receive.specs.Union.{frames_in}
-use Rattle.pet_receive.specs.declared.verdict.Verdict.TheVariants as verdict
-use Rattle.pet_receive.specs.declared.verdict.LayerSet.{LayerSet}
-use Rattle.pet_receive.specs.laws.KeptSetLaws.{IsKeepable, keepable, keep_sound, keep_session, keep_limit, empty_sound}
-use Rattle.pet_receive.specs.laws.FramesInOrder.{IsAbove, ComesBefore, frames_more, above_keep, above_none}
+use Rattle.kept_sets.specs.KeptSet.{KeptSet, IsKeptSet, empty_set, open_group, payload_of, keep}
+use Rattle.kept_sets.specs.Verdicts.{clashes, is_too_much, newly_shown, layer_set, frame_verdict, is_kept}
+use Rattle.kept_sets.specs.Union.{frames_in}
+use Rattle.kept_sets.specs.declared.verdict.Verdict.TheVariants as verdict
+use Rattle.kept_sets.specs.declared.verdict.LayerSet.{LayerSet}
+use Rattle.kept_sets.specs.laws.KeptSetLaws.{IsKeepable, keepable, keep_sound, keep_session, keep_limit, empty_sound}
+use Rattle.kept_sets.specs.laws.FramesInOrder.{IsAbove, ComesBefore, frames_more, above_keep, above_none}
 use Rattle.store_merge.specs.declared.fault.StoreKind.{StoreKind}
 use Rattle.store_merge.specs.declared.fault.StoreKind.TheVariants.{Session, Order}
 use Rattle.store_merge.specs.Refusals.{Last, is_above, kind_of, frame_fault}

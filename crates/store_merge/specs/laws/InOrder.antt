@@ -14,11 +14,11 @@ use Rattle.packet_frame.specs.Frame.{Fields, IsFrame}
 use Rattle.packet_frame.specs.View.{fields_with}
 use Rattle.packet_frame.specs.declared.frame.Header.{Header}
 use Rattle.packet_set.specs.Packets.{Packets, count_held}
-use Rattle.pet_receive.specs.KeptSet.{KeptSet, IsKeptSet, IsKeptGroup, empty_set, open_group, cost_in, cost_kept}
-use Rattle.pet_receive.specs.Union.{frames_in_group, frames_in}
-use Rattle.pet_receive.specs.laws.EntryLaws.{all_found, cmp_says_less}
-use Rattle.pet_receive.specs.laws.FramesInOrder.{frames_from, group_from}
-use Rattle.pet_receive.specs.laws.LastEntry.{below_end}
+use Rattle.kept_sets.specs.KeptSet.{KeptSet, IsKeptSet, IsKeptGroup, empty_set, open_group, cost_in, cost_kept}
+use Rattle.kept_sets.specs.Union.{frames_in_group, frames_in}
+use Rattle.kept_sets.specs.laws.EntryLaws.{all_found, cmp_says_less}
+use Rattle.kept_sets.specs.laws.FramesInOrder.{frames_from, group_from}
+use Rattle.kept_sets.specs.laws.LastEntry.{below_end}
 use Rattle.store_merge.specs.Refusals.{Last, is_above}
 use Rattle.store_merge.specs.laws.Leading.{Leads}
 use Rattle.store_merge.specs.laws.NextFault.{both_false, same_itself, IsNextGroup, before, opened, above_in, none_opens, keep_opens, none_goes_on, keep_goes_on}

@@ -10,7 +10,7 @@ use Rattle.packet_frame.specs.Refusals.{number, fields_of, first_fault}
 use Rattle.packet_frame.specs.declared.fault.FrameFault.{FrameFault}
 use Rattle.packet_frame.specs.laws.Laws.{texts_are_read, texts_have_length, reads_frames, reads_texts}
 use Rattle.session_packets.specs.Packets.{entry_text, entries_text}
-use Rattle.pet_receive.specs.KeptSet.{KeptSet, keep}
+use Rattle.kept_sets.specs.KeptSet.{KeptSet, keep}
 use Rattle.store_merge.specs.declared.fault.StoreKind.{StoreKind}
 use Rattle.store_merge.specs.declared.fault.StoreKind.TheVariants.{Frame, Cut}
 use Rattle.store_merge.specs.declared.fault.BadStore.{BadStore}

@@ -15,11 +15,11 @@ use Rattle.packet_frame.specs.declared.format.TheConstants.{FORMAT}
 use Rattle.packet_frame.specs.laws.Formats.{format_is}
 use Rattle.packet_frame.specs.laws.Laws.{texts_have_length}
 use Rattle.packet_frame.specs.laws.Again.{length-tag}
-use Rattle.packet_set.specs.Packets.{Packets, count_held}
+use Rattle.packet_set.specs.Packets.{Packets, count_held, count_in}
 use Rattle.session_packets.specs.Packets.{entry_text, entries_text}
-use Rattle.pet_receive.specs.KeptSet.{KeptSet, IsKeptSet, IsKeptGroup, count_in, cost_in, cost_kept}
-use Rattle.pet_receive.specs.Union.{frames_in_group, frames_in}
-use Rattle.pet_receive.specs.laws.FramesInOrder.{frames_from, group_from}
+use Rattle.kept_sets.specs.KeptSet.{KeptSet, IsKeptSet, IsKeptGroup, cost_in, cost_kept}
+use Rattle.kept_sets.specs.Union.{frames_in_group, frames_in}
+use Rattle.kept_sets.specs.laws.FramesInOrder.{frames_from, group_from}
 use Rattle.store_merge.specs.declared.format.TheConstants.{MARK}
 use Rattle.store_merge.specs.Store.{store_text, store_of, text_before_tag}
 use Rattle.store_merge.specs.laws.ManyFrames.{each_kept, group_frame}

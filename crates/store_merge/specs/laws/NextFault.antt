@@ -16,14 +16,14 @@ use Rattle.stripe_plan.specs.laws.SameLaws.{same_table-exact}
 use Rattle.packet_frame.specs.Frame.{Fields}
 use Rattle.packet_frame.specs.View.{fields_with}
 use Rattle.packet_frame.specs.declared.frame.Header.{Header}
-use Rattle.packet_set.specs.Packets.{Packets, slot_at, with_packet}
+use Rattle.packet_set.specs.Packets.{Packets, slot_at, with_packet, no_packets}
 use Rattle.pet_encode.specs.Session.{cost_of}
-use Rattle.pet_receive.specs.KeptSet.{KeptSet, open_group, payload_of, cost_in, cost_kept, no_packets, keep}
-use Rattle.pet_receive.specs.Verdicts.{tells_other_count, tells_other_table, tells_other_payload, is_too_much, newly_shown, layer_set, frame_verdict}
-use Rattle.pet_receive.specs.declared.verdict.Verdict.TheVariants as verdict
-use Rattle.pet_receive.specs.declared.verdict.LayerSet.{LayerSet}
-use Rattle.pet_receive.specs.laws.FramesInOrder.{lookup_past}
-use Rattle.pet_receive.specs.laws.LastEntry.{insert_end, insert_at_end, lookup_end}
+use Rattle.kept_sets.specs.KeptSet.{KeptSet, open_group, payload_of, cost_in, cost_kept, keep}
+use Rattle.kept_sets.specs.Verdicts.{tells_other_count, tells_other_table, tells_other_payload, is_too_much, newly_shown, layer_set, frame_verdict}
+use Rattle.kept_sets.specs.declared.verdict.Verdict.TheVariants as verdict
+use Rattle.kept_sets.specs.declared.verdict.LayerSet.{LayerSet}
+use Rattle.kept_sets.specs.laws.FramesInOrder.{lookup_past}
+use Rattle.kept_sets.specs.laws.LastEntry.{insert_end, insert_at_end, lookup_end}
 use Rattle.store_merge.specs.declared.fault.StoreKind.TheVariants.{Session, Order}
 use Rattle.store_merge.specs.Refusals.{Last, is_above, kind_of, frame_fault}
 

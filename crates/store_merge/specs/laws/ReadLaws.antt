@@ -14,8 +14,8 @@ use Rattle.packet_frame.specs.Frame.{Fields, tag_of}
 use Rattle.packet_frame.specs.Refusals.{number, ends_in_tag}
 use Rattle.packet_frame.specs.declared.format.TheConstants.{FORMAT}
 use Rattle.session_packets.specs.Packets.{entries_text}
-use Rattle.pet_receive.specs.KeptSet.{KeptSet, IsKeptSet, empty_set}
-use Rattle.pet_receive.specs.Union.{frames_in}
+use Rattle.kept_sets.specs.KeptSet.{KeptSet, IsKeptSet, empty_set}
+use Rattle.kept_sets.specs.Union.{frames_in}
 use Rattle.store_merge.specs.declared.format.TheConstants.{MARK, HEAD_LENGTH}
 use Rattle.store_merge.specs.declared.fault.StoreKind.TheVariants.{Cut, Magic, Tag}
 use Rattle.store_merge.specs.declared.fault.BadStore.{BadStore}

@@ -14,8 +14,8 @@ use Rattle.packet_frame.specs.declared.format.TheConstants.{FORMAT}
 use Rattle.packet_frame.specs.laws.Formats.{format_is}
 use Rattle.packet_frame.specs.laws.Again.{length-tag}
 use Rattle.session_packets.specs.Packets.{entries_text}
-use Rattle.pet_receive.specs.KeptSet.{KeptSet, IsKeptSet, empty_set, cost_kept}
-use Rattle.pet_receive.specs.Union.{frames_in}
+use Rattle.kept_sets.specs.KeptSet.{KeptSet, IsKeptSet, empty_set, cost_kept}
+use Rattle.kept_sets.specs.Union.{frames_in}
 use Rattle.store_merge.specs.declared.format.TheConstants.{MARK, HEAD_LENGTH}
 use Rattle.store_merge.specs.declared.fault.StoreKind.TheVariants.{Cut, Magic}
 use Rattle.store_merge.specs.declared.fault.BadStore.{BadStore}

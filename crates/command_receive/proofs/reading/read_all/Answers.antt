@@ -3,7 +3,7 @@ use Rattle.pet_base.specs.Lent.{seen}
 use Rattle.pet_base.specs.OutsideSeen.{outside_seen}
 use Rattle.datagram_route.specs.Way.{way_of}
 use Rattle.datagram_route.specs.Coming.{coming}
-use Rattle.pet_receive.specs.KeptSet.{KeptSet}
+use Rattle.kept_sets.specs.KeptSet.{KeptSet}
 use Rattle.command_receive.specs.SoFar.{HasReceived, StoppedSoFar}
 use Rattle.command_receive.proofs.FilesRead.{reads_with_totals, port_printed, still_bound, begun_bound}
 use Rattle.command_receive.proofs.Stops.{all_bound_where_stopped, stopped_reading, stopped_storing}

@@ -2,14 +2,14 @@ use Rattle.std.proofs.Common.{◌≡◌, ◌<◌, ℕ, Bool, false, cond, List, 
 use Rattle.pet_base.specs.laws.Through.{on_any_err}
 use Rattle.packet_frame.specs.Refusals.{fields_of}
 use Rattle.pet_receive.specs.Arrivals.{ReceiverState, kept_set}
-use Rattle.pet_receive.specs.declared.verdict.Verdict.{Verdict}
-use Rattle.pet_receive.specs.declared.verdict.Verdict.TheVariants.{Damaged, Foreign, Clash, Repeated, Full, Kept}
-use Rattle.pet_receive.specs.declared.verdict.LayerSet.{LayerSet}
+use Rattle.kept_sets.specs.declared.verdict.Verdict.{Verdict}
+use Rattle.kept_sets.specs.declared.verdict.Verdict.TheVariants.{Damaged, Foreign, Clash, Repeated, Full, Kept}
+use Rattle.kept_sets.specs.declared.verdict.LayerSet.{LayerSet}
 use Rattle.pet_field.specs.Gf16.{gf16_coding}
 use Rattle.met_packets.specs.Gf16.{HasKeptIn}
-use Rattle.pet_receive.specs.KeptSet.{KeptSet, open_group, group_with}
+use Rattle.kept_sets.specs.KeptSet.{KeptSet, open_group, group_with}
 use Rattle.pet_receive.specs.ShownBytes.{IsShown}
-use Rattle.pet_receive.specs.Verdicts.{verdict_of, is_kept, after}
+use Rattle.kept_sets.specs.Verdicts.{verdict_of, is_kept, after}
 use Rattle.command_files.specs.laws.OutputLaws.{puts_nothing}
 use Rattle.met_packets.specs.laws.KeptDatagram.{kept_shows, text_at, nothing_at}
 use Rattle.command_receive.proofs.reading.receive_one.Goals as goal

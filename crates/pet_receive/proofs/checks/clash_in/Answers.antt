@@ -4,7 +4,7 @@ use Rattle.std.specs.List.{find}
 use Rattle.packet_frame.specs.Frame.{Fields}
 use Rattle.packet_frame.specs.declared.frame.Header.{Header}
 use Rattle.packet_set.specs.Packets.{Packets}
-use Rattle.pet_receive.specs.Union.{frames_in_group}
+use Rattle.kept_sets.specs.Union.{frames_in_group}
 use Rattle.pet_receive.specs.Joining.{is_other_group, is_other_payload, first_clash_in}
 use Rattle.pet_receive.proofs.Clashes.{searched_start, searched_next, searched_hit, searched_end}
 use Rattle.pet_receive.proofs.checks.clash_in.Goals as goal

@@ -1,8 +1,8 @@
 use Rattle.std.specs.Prelude.{option_copied, is_none, sum_by}
 use Rattle.std.proofs.Common.{◌≡◌, ℕ, ◌+◌, Option, List, sym, ap, ◌∙◌}
 use Rattle.packet_set.specs.Packets.{Packets}
-use Rattle.pet_receive.specs.KeptSet.{cost_in}
-use Rattle.pet_receive.specs.Union.{first_past}
+use Rattle.kept_sets.specs.KeptSet.{cost_in}
+use Rattle.kept_sets.specs.Union.{first_past}
 use Rattle.pet_receive.specs.Joining.{packets_at, cost_beside, new_of}
 use Rattle.pet_receive.specs.Arrivals.{GroupState}
 use Rattle.pet_receive.proofs.Clashes.{beside_next, beside_stop, past_end}

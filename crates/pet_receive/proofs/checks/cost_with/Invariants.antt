@@ -1,6 +1,6 @@
 use Rattle.std.proofs.Common.{◌≡◌, ◌+◌, ◌≤◌, sum_by}
-use Rattle.pet_receive.specs.KeptSet.{cost_in}
-use Rattle.pet_receive.specs.Union.{first_past}
+use Rattle.kept_sets.specs.KeptSet.{cost_in}
+use Rattle.kept_sets.specs.Union.{first_past}
 use Rattle.pet_receive.specs.Joining.{new_of}
 use Rattle.pet_receive.proofs.checks.cost_with.Given as goal
 

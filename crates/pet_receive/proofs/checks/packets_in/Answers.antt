@@ -3,7 +3,7 @@ use Rattle.std.proofs.Common.{Some, nat_cmp, sym, ap, ◌∙◌}
 use Rattle.std.specs.BTreeMap.{is_at}
 use Rattle.packet_set.specs.Packets.{Packets}
 use Rattle.pet_receive.specs.Arrivals.{GroupState}
-use Rattle.pet_receive.specs.laws.EntryLaws.{lookup_values}
+use Rattle.kept_sets.specs.laws.EntryLaws.{lookup_values}
 use Rattle.pet_receive.proofs.checks.packets_in.Goals as goal
 
 pub returns-in-Some : goal.returns-in-Some

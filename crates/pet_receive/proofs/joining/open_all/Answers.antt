@@ -1,6 +1,6 @@
 use Rattle.std.specs.Prelude.{nat_lt, OnErr}
 use Rattle.std.proofs.Common.{◌≡◌, ◌∙◌, Result, Ok, Err}
-use Rattle.pet_receive.specs.KeptSet.{count_in}
+use Rattle.packet_set.specs.Packets.{count_in}
 use Rattle.pet_receive.proofs.Opened.{filter_all}
 use Rattle.pet_receive.proofs.joining.open_all.Goals as goal
 

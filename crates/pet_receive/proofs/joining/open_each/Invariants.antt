@@ -1,6 +1,6 @@
 use Rattle.std.specs.Prelude.{nat_lt}
 use Rattle.std.proofs.Common.{◌≡◌, ℕ, List, filter}
-use Rattle.pet_receive.specs.KeptSet.{count_in}
+use Rattle.packet_set.specs.Packets.{count_in}
 use Rattle.pet_receive.specs.Arrivals.{GroupState}
 use Rattle.pet_receive.specs.Joining.{OpensAll}
 use Rattle.pet_receive.proofs.joining.open_each.Given as goal

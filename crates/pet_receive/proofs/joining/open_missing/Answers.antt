@@ -2,9 +2,9 @@ use Rattle.std.specs.Prelude.{nat_lt, filter, Bool}
 use Rattle.std.proofs.Common.{◌≡◌, ℕ, List, false, nat_cmp, sym, ap, ◌∙◌}
 use Rattle.std.specs.Map.{lookup}
 use Rattle.std.specs.BTreeMap.{is_at}
-use Rattle.pet_receive.specs.KeptSet.{count_in}
+use Rattle.packet_set.specs.Packets.{count_in}
 use Rattle.pet_receive.specs.Arrivals.{GroupState}
-use Rattle.pet_receive.specs.laws.KeptSetLaws.{count_none, none_from}
+use Rattle.kept_sets.specs.laws.KeptSetLaws.{count_none, none_from}
 use Rattle.pet_receive.proofs.Opened.{filter_insert}
 use Rattle.pet_receive.proofs.joining.open_missing.Goals as goal
 

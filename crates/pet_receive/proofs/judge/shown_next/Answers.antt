@@ -1,7 +1,7 @@
 use Rattle.std.specs.Prelude.{nat_lt, nat_le}
 use Rattle.std.proofs.Common.{ℕ, Bool, ◌+◌, ◌&&◌, ◌^◌, cond, sym, ap₂, ◌∙◌}
 use Rattle.stripe_plan.specs.Layers.{count_of}
-use Rattle.pet_receive.specs.laws.LayerSetLaws.{bits_more}
+use Rattle.kept_sets.specs.laws.LayerSetLaws.{bits_more}
 use Rattle.pet_receive.proofs.judge.shown_next.Goals as goal
 
 pub loop-layer-preserved : goal.loop-layer-preserved

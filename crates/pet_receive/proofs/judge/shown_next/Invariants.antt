@@ -1,7 +1,7 @@
 use Rattle.std.specs.Prelude.{nat_lt, nat_le}
 use Rattle.std.proofs.Common.{◌≡◌, ◌<◌, ◌+◌, ◌^◌, ◌&&◌}
 use Rattle.stripe_plan.specs.Layers.{count_of}
-use Rattle.pet_receive.specs.laws.LayerSetLaws.{bits_below}
+use Rattle.kept_sets.specs.laws.LayerSetLaws.{bits_below}
 use Rattle.pet_receive.proofs.judge.shown_next.Given as goal
 
 abbrev pub invariant-loop-layer : goal.invariant-loop-layer

@@ -4,12 +4,12 @@ use Rattle.std.specs.Map.{lookup}
 use Rattle.std.specs.BTreeMap.{is_at}
 use Rattle.packet_frame.specs.View.{view}
 use Rattle.pet_interp.specs.Progressive.{step_bound}
-use Rattle.pet_receive.specs.KeptSet.{count_in}
+use Rattle.packet_set.specs.Packets.{count_in}
 use Rattle.pet_receive.specs.Arrivals.{GroupState, stripe_lengths}
-use Rattle.pet_receive.specs.laws.EntryLaws.{lookup_here}
-use Rattle.pet_receive.specs.laws.KeptSetLaws.{count_none}
+use Rattle.kept_sets.specs.laws.EntryLaws.{lookup_here}
+use Rattle.kept_sets.specs.laws.KeptSetLaws.{count_none}
 use Rattle.pet_receive.proofs.Grown.{grown_open, grown_new, ready_new}
-use Rattle.pet_receive.specs.laws.KeptSetLaws.{none_from}
+use Rattle.kept_sets.specs.laws.KeptSetLaws.{none_from}
 use Rattle.pet_receive.proofs.Received.{is_some_of}
 use Rattle.pet_receive.proofs.keeping.keep_frame.Goals as goal
 

@@ -3,8 +3,8 @@ use Rattle.std.specs.List.{range_with_len}
 use Rattle.std.proofs.Common.{◌≡◌, ◌+◌, ℕ, Bool, cond, true, false, [], ◌∷◌, ◌++◌, length, ap, ◌∙◌, arith}
 use Rattle.std.proofs.lemmas.List.{length-append}
 use Rattle.packet_frame.specs.declared.frame.Header.{Header}
-use Rattle.pet_receive.specs.Union.{is_new}
-use Rattle.pet_receive.specs.laws.LayerSetLaws.{filter_more}
+use Rattle.kept_sets.specs.Union.{is_new}
+use Rattle.kept_sets.specs.laws.LayerSetLaws.{filter_more}
 use Rattle.pet_receive.proofs.Sums.{one-le}
 use Rattle.pet_receive.proofs.shown.count_new.Goals as goal
 

@@ -1,7 +1,7 @@
 use Rattle.std.specs.Prelude.{option_copied, filter}
 use Rattle.std.specs.List.{range_with_len}
 use Rattle.std.proofs.Common.{◌≡◌, ◌≤◌, length}
-use Rattle.pet_receive.specs.Union.{is_new}
+use Rattle.kept_sets.specs.Union.{is_new}
 use Rattle.pet_receive.proofs.shown.count_new.Given as goal
 
 abbrev pub invariant-loop-number : goal.invariant-loop-number

@@ -3,12 +3,11 @@ use Rattle.std.specs.List.{flat_map}
 use Rattle.std.proofs.Common.{◌≡◌, ◌+◌, ℕ, List, Option, ◌∷◌, ◌++◌, length, sym, ap, ap₂, ◌∙◌}
 use Rattle.std.proofs.lemmas.List.{append_assoc}
 use Rattle.packet_frame.specs.declared.frame.Header.{Header}
-use Rattle.packet_set.specs.Packets.{Packets}
+use Rattle.packet_set.specs.Packets.{Packets, count_in}
 use Rattle.stripe_plan.specs.declared.layer.LayerSize.{LayerSize}
-use Rattle.pet_receive.specs.KeptSet.{count_in}
 use Rattle.pet_receive.specs.Arrivals.{GroupState, layers_of}
-use Rattle.pet_receive.specs.Verdicts.{shown_between}
-use Rattle.pet_receive.specs.Union.{new_numbers}
+use Rattle.kept_sets.specs.Verdicts.{shown_between}
+use Rattle.kept_sets.specs.Union.{new_numbers}
 use Rattle.pet_receive.specs.Joining.{packets_of, packets_at, count_at, shown_at}
 use Rattle.pet_receive.proofs.shown.newly_shown.Goals as goal
 

@@ -3,7 +3,7 @@ use Rattle.std.specs.List.{range_with_len}
 use Rattle.std.proofs.Common.{◌≡◌, ◌+◌, ◌&&◌, ℕ, Bool, cond, true, false, List, [], ◌∷◌, ◌++◌, refl, sym, ap, ◌∙◌}
 use Rattle.std.proofs.lemmas.List.{map-append, append_assoc}
 use Rattle.stripe_plan.specs.Layers.{count_of}
-use Rattle.pet_receive.specs.laws.LayerSetLaws.{filter_more}
+use Rattle.kept_sets.specs.laws.LayerSetLaws.{filter_more}
 use Rattle.pet_receive.proofs.shown.push_shown.Goals as goal
 
 pairs_more : (p : ℕ → Bool) (group n : ℕ) (b : Bool) (new old first : List (ℕ × ℕ)) → b ≡ p n → new ≡ old ++ cond {A = List (ℕ × ℕ)} b ((group, n) ∷ []) [] → old ≡ first ++ map (λ layer. (group, layer)) (filter p (range_with_len 0 n))

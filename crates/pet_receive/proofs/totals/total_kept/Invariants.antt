@@ -1,6 +1,6 @@
 use Rattle.std.proofs.Common.{◌≡◌, ◌+◌, sum_by}
 use Rattle.std.specs.Map.{values_of}
-use Rattle.pet_receive.specs.KeptSet.{count_in}
+use Rattle.packet_set.specs.Packets.{count_in}
 use Rattle.pet_receive.proofs.totals.total_kept.Given as goal
 
 abbrev pub invariant-loop-open : goal.invariant-loop-open

@@ -3,7 +3,7 @@ use Rattle.std.specs.List.{range_with_len}
 use Rattle.packet_set.specs.Packets.{Packets}
 use Rattle.pet_encode.specs.Session.{IsMessage, bytes_of_layer}
 use Rattle.pet_receive.specs.Arrivals.{Order, HasKept, kept_set, numbers_of, layers_of}
-use Rattle.pet_receive.specs.KeptSet.{open_group}
+use Rattle.kept_sets.specs.KeptSet.{open_group}
 use Rattle.pet_receive.specs.ShownBytes.{IsShown, Agrees}
 use Rattle.reassemble.specs.Leading.{AreShownBytes}
 use Rattle.reassemble.proofs.leading.leading_layers.Given as goal

@@ -8,7 +8,7 @@ use Rattle.packet_set.specs.Packets.{Packets}
 use Rattle.layer_split.specs.RunTable.{fits}
 use Rattle.pet_encode.specs.Session.{bytes_of_layer}
 use Rattle.pet_receive.specs.Arrivals.{kept_set, numbers_of, layers_of}
-use Rattle.pet_receive.specs.KeptSet.{open_group}
+use Rattle.kept_sets.specs.KeptSet.{open_group}
 use Rattle.reassemble.specs.declared.leading.ShownLayer.{ShownLayer}
 use Rattle.reassemble.specs.Leading.{lengths_in}
 use Rattle.reassemble.specs.Taking.{bytes_each, first_of}

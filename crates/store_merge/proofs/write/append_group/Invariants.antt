@@ -1,9 +1,9 @@
 use Rattle.std.proofs.Common.{◌≡◌, ◌++◌, length, take, Some}
 use Rattle.packet_set.specs.Packets.{Packets}
 use Rattle.session_packets.specs.Packets.{entries_text}
-use Rattle.pet_receive.specs.KeptSet.{open_group}
+use Rattle.kept_sets.specs.KeptSet.{open_group}
 use Rattle.pet_receive.specs.Arrivals.{kept_set}
-use Rattle.pet_receive.specs.laws.FramesLaws.{first_frames}
+use Rattle.kept_sets.specs.laws.FramesLaws.{first_frames}
 use Rattle.store_merge.proofs.write.append_group.Given as goal
 
 abbrev pub invariant-loop-number : goal.invariant-loop-number

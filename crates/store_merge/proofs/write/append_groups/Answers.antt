@@ -2,7 +2,7 @@ use Rattle.std.proofs.Common.{◌≡◌, ◌++◌, ◌∙◌, ap, arith}
 use Rattle.std.specs.List.{flat_map, range_with_len}
 use Rattle.session_packets.specs.Packets.{entries_text}
 use Rattle.pet_receive.specs.Arrivals.{kept_set}
-use Rattle.pet_receive.specs.laws.FramesLaws.{frames_of, frames_one_group}
+use Rattle.kept_sets.specs.laws.FramesLaws.{frames_of, frames_one_group}
 use Rattle.store_merge.proofs.Appended.{entries_then, front_then, all_groups}
 use Rattle.store_merge.proofs.write.append_groups.Goals as goal
 

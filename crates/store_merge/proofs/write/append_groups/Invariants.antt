@@ -2,7 +2,7 @@ use Rattle.std.proofs.Common.{◌≡◌, ◌++◌, length, take}
 use Rattle.std.specs.List.{flat_map, range_with_len}
 use Rattle.session_packets.specs.Packets.{entries_text}
 use Rattle.pet_receive.specs.Arrivals.{kept_set}
-use Rattle.pet_receive.specs.laws.FramesLaws.{frames_of}
+use Rattle.kept_sets.specs.laws.FramesLaws.{frames_of}
 use Rattle.store_merge.proofs.write.append_groups.Given as goal
 
 abbrev pub invariant-loop-group : goal.invariant-loop-group

@@ -1,8 +1,8 @@
 use Rattle.std.proofs.Common.{rules, ◌≡◌, ◌∙◌, ◌++◌, ap, sym, List, ℕ}
 use Rattle.std.specs.Int.{w32, to_be_bytes}
 use Rattle.pet_receive.specs.Arrivals.{kept_set}
-use Rattle.pet_receive.specs.Union.{frames_in}
-use Rattle.pet_receive.specs.laws.FramesLaws.{frames_many}
+use Rattle.kept_sets.specs.Union.{frames_in}
+use Rattle.kept_sets.specs.laws.FramesLaws.{frames_many}
 use Rattle.store_merge.proofs.Appended.{stored}
 use Rattle.store_merge.specs.declared.format.TheConstants.{MARK}
 use Rattle.store_merge.proofs.write.append_store.Goals as goal

@@ -2,7 +2,7 @@
 use Rattle.std.proofs.Common.{◌++◌, ◌∷◌, [], sym, subst, inl, inr}
 use Rattle.std.proofs.lemmas.Bool.{cases_Bool}
 use Rattle.packet_frame.specs.Refusals.{fields_of}
-use Rattle.pet_receive.specs.Verdicts.{is_kept}
+use Rattle.kept_sets.specs.Verdicts.{is_kept}
 use Rattle.pet_receive.specs.Arrivals.{Order, ReceiverState, HasKept}
 use Rattle.store_tests.proofs.assemble_tests.accept_all.Goals as goal
 

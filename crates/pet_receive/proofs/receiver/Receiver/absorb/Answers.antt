@@ -1,6 +1,7 @@
 use Rattle.std.proofs.Common.{◌≡◌, ◌+◌, ◌≤◌, ℕ, Option, None, sym, ap₂, ◌∙◌, subst, map-id, ◌++◌}
-use Rattle.pet_receive.specs.KeptSet.{cost_kept}
-use Rattle.pet_receive.specs.Union.{absorb_fault, union, union_steps, new_pairs, shown_by_union}
+use Rattle.kept_sets.specs.KeptSet.{cost_kept}
+use Rattle.pet_receive.specs.UnionSteps.{union_steps}
+use Rattle.kept_sets.specs.Union.{absorb_fault, union, new_pairs, shown_by_union}
 use Rattle.pet_receive.specs.Arrivals.{ReceiverState, Order, HasKept, kept_set}
 use Rattle.pet_receive.specs.Receiving.{IsReceiver}
 use Rattle.pet_receive.proofs.Absorbed.{some_kept, shown_is, can_take, taken_set, taken_order, taken_steps, taken_again}

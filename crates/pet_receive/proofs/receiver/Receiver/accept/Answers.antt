@@ -4,11 +4,11 @@ use Rattle.packet_frame.specs.Frame.{Fields}
 use Rattle.packet_frame.specs.Refusals.{fields_of}
 use Rattle.packet_frame.specs.View.{view}
 use Rattle.pet_interp.specs.Progressive.{step_bound}
-use Rattle.pet_receive.specs.declared.verdict.Verdict.{Verdict}
-use Rattle.pet_receive.specs.KeptSet.{IsKeptSet, count_kept}
-use Rattle.pet_receive.specs.Verdicts.{verdict_of, frame_verdict, is_kept, opens}
+use Rattle.kept_sets.specs.declared.verdict.Verdict.{Verdict}
+use Rattle.kept_sets.specs.KeptSet.{IsKeptSet, count_kept}
+use Rattle.kept_sets.specs.Verdicts.{verdict_of, frame_verdict, is_kept, opens}
 use Rattle.pet_receive.specs.Arrivals.{ReceiverState, Order, HasKept, kept_set, stripe_lengths}
-use Rattle.pet_receive.specs.laws.KeptSetLaws.{verdict_read, verdict_damaged, after_other}
+use Rattle.kept_sets.specs.laws.KeptSetLaws.{verdict_read, verdict_damaged, after_other}
 use Rattle.pet_receive.proofs.Accepted.{Answers, verdict_answered, after_answered}
 use Rattle.pet_receive.proofs.receiver.Receiver.accept.Given.{Over}
 use Rattle.pet_receive.proofs.receiver.Receiver.accept.Goals as goal

@@ -2,7 +2,7 @@ use Rattle.std.specs.Prelude.{IsTrue, nat_eq}
 use Rattle.std.proofs.Common.{◌≡◌, ◌↔◌, None, Some, false, sym, ◌∙◌, arith, subst}
 use Rattle.pet_receive.specs.ShownBytes.{IsComplete}
 use Rattle.pet_receive.specs.Arrivals.{ReceiverState, kept_set}
-use Rattle.pet_receive.specs.KeptSet.{told_by}
+use Rattle.kept_sets.specs.KeptSet.{told_by}
 use Rattle.pet_receive.specs.Receiving.{whole_in}
 use Rattle.pet_receive.proofs.Sums.{sum_is, whole_fits, complete_is, not_complete}
 use Rattle.pet_receive.proofs.receiver.Receiver.complete.Goals as goal

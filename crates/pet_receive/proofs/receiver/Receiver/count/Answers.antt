@@ -1,6 +1,7 @@
 use Rattle.std.specs.Prelude.{option_map}
 use Rattle.std.proofs.Common.{◌≡◌, ℕ, Option, None, Some, unwrap_or, ap, ◌∙◌}
-use Rattle.pet_receive.specs.KeptSet.{count_in, count_kept}
+use Rattle.packet_set.specs.Packets.{count_in}
+use Rattle.kept_sets.specs.KeptSet.{count_kept}
 use Rattle.pet_receive.specs.Arrivals.{GroupState, ReceiverState, kept_set, state_of}
 use Rattle.pet_receive.proofs.Received.{count_is}
 use Rattle.pet_receive.proofs.receiver.Receiver.count.Goals as goal

@@ -1,12 +1,12 @@
 use Rattle.std.specs.Prelude.{not, sum_by}
 use Rattle.std.proofs.Common.{◌≡◌, ◌+◌, Bool, true, false, Option, refl, sym, ap, ap₂, ◌∙◌}
 use Rattle.std.specs.Str.{bytes_eq}
-use Rattle.pet_receive.specs.declared.union.Absorb.{Absorb}
-use Rattle.pet_receive.specs.KeptSet.{cost_kept, cost_in}
-use Rattle.pet_receive.specs.Union.{absorb_fault, union, first_past}
+use Rattle.kept_sets.specs.declared.union.Absorb.{Absorb}
+use Rattle.kept_sets.specs.KeptSet.{cost_kept, cost_in}
+use Rattle.kept_sets.specs.Union.{absorb_fault, union, first_past}
 use Rattle.pet_receive.specs.Joining.{new_of}
 use Rattle.pet_receive.specs.Arrivals.{ReceiverState, kept_set}
-use Rattle.pet_receive.specs.laws.UnionSound.{union_cost}
+use Rattle.kept_sets.specs.laws.UnionSound.{union_cost}
 use Rattle.pet_receive.proofs.Fitting.{clash_is, fault_session, fault_clash, fault_full, fault_none}
 use Rattle.pet_receive.proofs.receiver.Receiver.fit.Goals as goal
 

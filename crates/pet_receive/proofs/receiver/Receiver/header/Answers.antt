@@ -2,7 +2,7 @@ use Rattle.std.specs.Prelude.{option_map}
 use Rattle.std.proofs.Common.{◌≡◌, Option, None, Some, sym, ap, ◌∙◌}
 use Rattle.packet_frame.specs.declared.frame.Header.{Header}
 use Rattle.packet_set.specs.Packets.{Packets}
-use Rattle.pet_receive.specs.KeptSet.{open_group}
+use Rattle.kept_sets.specs.KeptSet.{open_group}
 use Rattle.pet_receive.specs.Arrivals.{GroupState, ReceiverState, kept_set, state_of}
 use Rattle.pet_receive.proofs.Received.{found_in}
 use Rattle.pet_receive.proofs.receiver.Receiver.header.Goals as goal

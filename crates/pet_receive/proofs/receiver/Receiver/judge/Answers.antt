@@ -3,8 +3,8 @@ use Rattle.std.specs.Option.{option_map_or}
 use Rattle.std.specs.Str.{bytes_eq}
 use Rattle.std.proofs.Common.{◌≡◌, ◌==◌, ℕ, Bool, None, Some, false, true, Option, refl, sym, ap, ◌∙◌}
 use Rattle.packet_frame.specs.View.{view}
-use Rattle.pet_receive.specs.KeptSet.{open_group}
-use Rattle.pet_receive.specs.Verdicts.{tells_other_count, frame_verdict}
+use Rattle.kept_sets.specs.KeptSet.{open_group}
+use Rattle.kept_sets.specs.Verdicts.{tells_other_count, frame_verdict}
 use Rattle.pet_receive.specs.Arrivals.{GroupState, ReceiverState, kept_set, state_of}
 use Rattle.pet_receive.specs.Receiving.{verdict_in, verdict_new}
 use Rattle.pet_receive.proofs.Received.{found_in, count_told, is_foreign, is_clash, is_in, is_new}

@@ -1,5 +1,6 @@
 use Rattle.std.proofs.Common.{ap, ◌∙◌, arith}
-use Rattle.pet_receive.specs.KeptSet.{count_in, kept_in_all}
+use Rattle.packet_set.specs.Packets.{count_in}
+use Rattle.kept_sets.specs.KeptSet.{kept_in_all}
 use Rattle.pet_receive.specs.Arrivals.{ReceiverState, kept_set}
 use Rattle.pet_receive.proofs.Sums.{sum_is, kept_fits}
 use Rattle.pet_receive.proofs.receiver.Receiver.kept.Goals as goal

@@ -3,7 +3,7 @@ use Rattle.std.proofs.Common.{◌≡◌, ◌↔◌, [], None, Some, sym, ap, ◌
 use Rattle.std.proofs.lemmas.Option.{same_Some}
 use Rattle.packet_set.specs.Packets.{Packets}
 use Rattle.pet_encode.specs.Session.{IsMessage, bytes_of_layer}
-use Rattle.pet_receive.specs.KeptSet.{open_group}
+use Rattle.kept_sets.specs.KeptSet.{open_group}
 use Rattle.pet_receive.specs.Arrivals.{GroupState, ReceiverState, HasKept, HoldsAfter, kept_set, state_of, numbers_of, layers_of}
 use Rattle.pet_receive.specs.ShownBytes.{IsShown, IsShownIn, IsShownBytes, Agrees}
 use Rattle.pet_receive.proofs.Received.{found_in}

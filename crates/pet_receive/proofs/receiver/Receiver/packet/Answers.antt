@@ -1,7 +1,7 @@
 use Rattle.std.specs.Prelude.{option_map, option_and_then}
 use Rattle.std.proofs.Common.{◌≡◌, ℕ, List, Option, None, Some, sym, ap, ◌∙◌}
 use Rattle.packet_set.specs.Packets.{Packets, slot_at}
-use Rattle.pet_receive.specs.KeptSet.{payload_of}
+use Rattle.kept_sets.specs.KeptSet.{payload_of}
 use Rattle.pet_receive.specs.Arrivals.{GroupState, ReceiverState, kept_set, state_of}
 use Rattle.pet_receive.proofs.Received.{found_in}
 use Rattle.pet_receive.proofs.receiver.Receiver.packet.Goals as goal

@@ -1,7 +1,7 @@
 //! What a datagram names.
 ghost use Rattle.std.specs.Prelude.{◌≡◌, None};
 ghost use Rattle.packet_frame.specs.Refusals.{first_fault};
-ghost use Rattle.pet_receive.specs.Group.{group_in, number_in};
+ghost use Rattle.kept_sets.specs.Group.{group_in, number_in};
 
 /// Where the number of the group stands in a frame.
 const GROUP: usize = 16;

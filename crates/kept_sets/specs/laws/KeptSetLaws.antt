@@ -20,15 +20,15 @@ use Rattle.packet_frame.specs.Refusals.{fields_of, first_fault}
 use Rattle.packet_frame.specs.declared.fault.FrameFault.{FrameFault}
 use Rattle.packet_frame.specs.View.{fields_with}
 use Rattle.packet_frame.specs.declared.frame.Header.{Header}
-use Rattle.packet_set.specs.Packets.{Packets, slot_at, with_packet}
+use Rattle.packet_set.specs.Packets.{Packets, slot_at, with_packet, count_in, no_packets}
 use Rattle.pet_encode.specs.Session.{cost_of}
-use Rattle.pet_receive.specs.declared.verdict.Verdict.{Verdict}
-use Rattle.pet_receive.specs.declared.verdict.Verdict.TheVariants.{Damaged, Foreign, Clash, Repeated, Full, Kept}
-use Rattle.pet_receive.specs.declared.verdict.LayerSet.{LayerSet}
-use Rattle.pet_receive.specs.KeptSet.{KeptSet, IsKeptSet, empty_set, IsKeptGroup, open_group, payload_of, count_in, count_kept, kept_in_all, cost_in, cost_kept, header_of, no_packets, group_with, keep}
-use Rattle.pet_receive.specs.Verdicts.{verdict_of, after, after_all, tells_other_count, tells_other_table, tells_other_payload, clashes, opens, is_too_much, newly_shown, layer_set, frame_verdict, is_kept}
-pub use Rattle.open_group.specs.laws.SlotCounts.{count_set, count_none, none_in}
-use Rattle.pet_receive.specs.laws.EntryLaws.{lookup_here, lookup_other, rises_insert, sum_insert}
+use Rattle.kept_sets.specs.declared.verdict.Verdict.{Verdict}
+use Rattle.kept_sets.specs.declared.verdict.Verdict.TheVariants.{Damaged, Foreign, Clash, Repeated, Full, Kept}
+use Rattle.kept_sets.specs.declared.verdict.LayerSet.{LayerSet}
+use Rattle.kept_sets.specs.KeptSet.{KeptSet, IsKeptSet, empty_set, IsKeptGroup, open_group, payload_of, count_kept, kept_in_all, cost_in, cost_kept, header_of, group_with, keep}
+use Rattle.kept_sets.specs.Verdicts.{verdict_of, after, after_all, tells_other_count, tells_other_table, tells_other_payload, clashes, opens, is_too_much, newly_shown, layer_set, frame_verdict, is_kept}
+pub use Rattle.packet_set.specs.laws.SlotCounts.{count_set, count_none, none_in}
+use Rattle.kept_sets.specs.laws.EntryLaws.{lookup_here, lookup_other, rises_insert, sum_insert}
 
 -- ---- what the verdict Kept tells of a frame
 

@@ -4,15 +4,15 @@ use Rattle.std.specs.Option.{option_or}
 use Rattle.std.proofs.lemmas.Option.{same_Some}
 use Rattle.packet_frame.specs.declared.frame.Header.{Header}
 use Rattle.packet_set.specs.Packets.{Packets, slot_at}
-use Rattle.pet_receive.specs.KeptSet.{KeptSet, IsKeptSet, empty_set, open_group, cost_kept}
-use Rattle.pet_receive.specs.Union.{join_slots, join_group, join_groups, union, absorb_fault}
-use Rattle.pet_receive.specs.laws.KeptSetLaws.{empty_sound}
-use Rattle.pet_receive.specs.laws.JoinedGroups.{Rises, join_open, rises_join}
-use Rattle.pet_receive.specs.laws.FitLaws.{Agrees, agrees_back}
-use Rattle.pet_receive.specs.laws.UnionSound.{union_open}
-use Rattle.pet_receive.specs.laws.UnionKept.{one_header, union_sound}
-use Rattle.pet_receive.specs.laws.FitExactly.{fit_agrees, fit_within, fits}
-use Rattle.pet_receive.specs.laws.SameSets.{same_groups, same_parts}
+use Rattle.kept_sets.specs.KeptSet.{KeptSet, IsKeptSet, empty_set, open_group, cost_kept}
+use Rattle.kept_sets.specs.Union.{join_slots, join_group, join_groups, union, absorb_fault}
+use Rattle.kept_sets.specs.laws.KeptSetLaws.{empty_sound}
+use Rattle.kept_sets.specs.laws.JoinedGroups.{Rises, join_open, rises_join}
+use Rattle.kept_sets.specs.laws.FitLaws.{Agrees, agrees_back}
+use Rattle.kept_sets.specs.laws.UnionSound.{union_open}
+use Rattle.kept_sets.specs.laws.UnionKept.{one_header, union_sound}
+use Rattle.kept_sets.specs.laws.FitExactly.{fit_agrees, fit_within, fits}
+use Rattle.kept_sets.specs.laws.SameSets.{same_groups, same_parts}
 
 -- what two sets, which need not be kept sets, must share for their union to commute
 pub record AreAlike (a b : KeptSet) : Type 0 where

@@ -6,15 +6,15 @@ use Rattle.std.specs.Map.{lookup}
 use Rattle.std.specs.BTreeMap.{is_at}
 use Rattle.packet_frame.specs.declared.frame.Header.{Header}
 use Rattle.packet_set.specs.Packets.{Packets, slot_at}
-use Rattle.pet_receive.specs.KeptSet.{KeptSet, IsKeptSet, open_group, payload_of, cost_kept}
-use Rattle.pet_receive.specs.Union.{join_slots, join_group, union, absorb_fault}
-use Rattle.pet_receive.specs.laws.JoinedGroups.{Rises, join_open, rises_join}
-use Rattle.pet_receive.specs.laws.FitLaws.{Agrees}
-use Rattle.pet_receive.specs.laws.UnionSound.{union_open, union_payload, union_cost}
-use Rattle.pet_receive.specs.laws.UnionKept.{IsFrom, one_header, open_from, union_sound}
-use Rattle.pet_receive.specs.laws.FitExactly.{fit_agrees, fit_within, fits}
-use Rattle.pet_receive.specs.laws.SameSets.{same_groups, same_parts}
-use Rattle.pet_receive.specs.laws.UnionLaws.{AreAlike, groups_commute, cost_of_groups, union_back, fit_sound}
+use Rattle.kept_sets.specs.KeptSet.{KeptSet, IsKeptSet, open_group, payload_of, cost_kept}
+use Rattle.kept_sets.specs.Union.{join_slots, join_group, union, absorb_fault}
+use Rattle.kept_sets.specs.laws.JoinedGroups.{Rises, join_open, rises_join}
+use Rattle.kept_sets.specs.laws.FitLaws.{Agrees}
+use Rattle.kept_sets.specs.laws.UnionSound.{union_open, union_payload, union_cost}
+use Rattle.kept_sets.specs.laws.UnionKept.{IsFrom, one_header, open_from, union_sound}
+use Rattle.kept_sets.specs.laws.FitExactly.{fit_agrees, fit_within, fits}
+use Rattle.kept_sets.specs.laws.SameSets.{same_groups, same_parts}
+use Rattle.kept_sets.specs.laws.UnionLaws.{AreAlike, groups_commute, cost_of_groups, union_back, fit_sound}
 
 or_associates : {A : Type 0} (o u v : Option A) → option_or (option_or o u) v ≡ option_or o (option_or u v)
 or_associates None u v = refl

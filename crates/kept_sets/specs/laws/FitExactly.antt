@@ -7,12 +7,12 @@ use Rattle.std.proofs.lemmas.List.Sums.{sum_by-cons}
 use Rattle.packet_frame.specs.Frame.{Fields}
 use Rattle.packet_frame.specs.View.{fields_with}
 use Rattle.packet_set.specs.Packets.{Packets, slot_at}
-use Rattle.pet_receive.specs.declared.union.Absorb.TheVariants.{OtherSession}
-use Rattle.pet_receive.specs.KeptSet.{KeptSet, IsKeptSet, open_group, cost_in, cost_kept}
-use Rattle.pet_receive.specs.Verdicts.{clashes}
-use Rattle.pet_receive.specs.Union.{union, first_clash, first_past, first_full, new_groups, then_full, then_clash, absorb_fault}
-use Rattle.pet_receive.specs.laws.FitLaws.{Agrees, no_clash, clash_none, frames_pass, pass_frames, some_frame}
-use Rattle.pet_receive.specs.laws.UnionSound.{union_cost}
+use Rattle.kept_sets.specs.declared.union.Absorb.TheVariants.{OtherSession}
+use Rattle.kept_sets.specs.KeptSet.{KeptSet, IsKeptSet, open_group, cost_in, cost_kept}
+use Rattle.kept_sets.specs.Verdicts.{clashes}
+use Rattle.kept_sets.specs.Union.{union, first_clash, first_past, first_full, new_groups, then_full, then_clash, absorb_fault}
+use Rattle.kept_sets.specs.laws.FitLaws.{Agrees, no_clash, clash_none, frames_pass, pass_frames, some_frame}
+use Rattle.kept_sets.specs.laws.UnionSound.{union_cost}
 
 -- ---- the first group past the limit
 

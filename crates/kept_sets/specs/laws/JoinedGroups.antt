@@ -12,8 +12,8 @@ use Rattle.std.proofs.lemmas.Map.{lookup-none}
 use Rattle.std.proofs.lemmas.Map.Entries.{none_below_head, none_past_head}
 use Rattle.std.proofs.lemmas.Map.Keys.{sorted_head, sorted_tail, IsDistinct-from_sorted}
 use Rattle.packet_set.specs.Packets.{Packets}
-use Rattle.pet_receive.specs.Union.{join_slots, join_group, join_groups}
-use Rattle.pet_receive.specs.laws.EntryLaws.{cmp_same, cmp_apart, cmp_less, cmp_says_less, weight, lookup_here, lookup_other, rises_insert, sum_insert}
+use Rattle.kept_sets.specs.Union.{join_slots, join_group, join_groups}
+use Rattle.kept_sets.specs.laws.EntryLaws.{cmp_same, cmp_apart, cmp_less, cmp_says_less, weight, lookup_here, lookup_other, rises_insert, sum_insert}
 
 -- ---- what is found in entries in rising order
 

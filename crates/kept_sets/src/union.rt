@@ -19,7 +19,7 @@ pub enum Absorb {
 }
 
 impl From<NoMemory> for Absorb {
-    ghost use Rattle.pet_receive.specs.declared.union.Absorb.TheVariants.{NoMemory};
+    ghost use Rattle.kept_sets.specs.declared.union.Absorb.TheVariants.{NoMemory};
 
     ghost from_gives = { λ _ fault. fault ≡ NoMemory };
 

@@ -16,12 +16,12 @@ use Rattle.std.proofs.lemmas.Option.{same_Some}
 use Rattle.packet_frame.specs.Frame.{Fields, IsFrame}
 use Rattle.packet_frame.specs.View.{fields_with}
 use Rattle.packet_frame.specs.declared.frame.Header.{Header}
-use Rattle.packet_set.specs.Packets.{Packets, slot_at}
-use Rattle.pet_receive.specs.KeptSet.{KeptSet, IsKeptSet, IsKeptGroup, open_group, payload_of, told_by, count_in, kept_in_all}
-use Rattle.pet_receive.specs.Union.{frames_in, frames_in_group}
-use Rattle.pet_receive.specs.laws.EntryLaws.{all_found}
-use Rattle.pet_receive.specs.laws.FoundEntries.{frames_found}
-use Rattle.pet_receive.specs.laws.LayerSetLaws.{range_more}
+use Rattle.packet_set.specs.Packets.{Packets, slot_at, count_in}
+use Rattle.kept_sets.specs.KeptSet.{KeptSet, IsKeptSet, IsKeptGroup, open_group, payload_of, told_by, kept_in_all}
+use Rattle.kept_sets.specs.Union.{frames_in, frames_in_group}
+use Rattle.kept_sets.specs.laws.EntryLaws.{all_found}
+use Rattle.kept_sets.specs.laws.FoundEntries.{frames_found}
+use Rattle.kept_sets.specs.laws.LayerSetLaws.{range_more}
 
 -- ---- by group
 

@@ -4,11 +4,11 @@ use Rattle.std.proofs.Common.{◌≡◌, ℕ, ◌+◌, cond, Bool, true, false, 
 use Rattle.std.specs.List.{range_with_len}
 use Rattle.std.specs.Option.{option_or}
 use Rattle.std.proofs.lemmas.List.Sums.{sum_by-cons, length-filter}
-use Rattle.packet_set.specs.Packets.{Packets, slot_at, count_held}
-use Rattle.pet_receive.specs.KeptSet.{KeptSet, open_group, payload_of, count_in, count_kept, kept_in_all, cost_in, cost_kept}
-use Rattle.pet_receive.specs.Union.{join_slots, join_group, union, new_groups, is_new, new_numbers}
-use Rattle.pet_receive.specs.laws.EntryLaws.{weight}
-use Rattle.pet_receive.specs.laws.JoinedGroups.{Rises, slot_join, join_open, found_join, sum_join}
+use Rattle.packet_set.specs.Packets.{Packets, slot_at, count_held, count_in}
+use Rattle.kept_sets.specs.KeptSet.{KeptSet, open_group, payload_of, count_kept, kept_in_all, cost_in, cost_kept}
+use Rattle.kept_sets.specs.Union.{join_slots, join_group, union, new_groups, is_new, new_numbers}
+use Rattle.kept_sets.specs.laws.EntryLaws.{weight}
+use Rattle.kept_sets.specs.laws.JoinedGroups.{Rises, slot_join, join_open, found_join, sum_join}
 
 -- ---- what the union keeps
 

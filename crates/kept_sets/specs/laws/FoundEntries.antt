@@ -14,9 +14,9 @@ use Rattle.std.proofs.lemmas.Map.{lookup-none}
 use Rattle.std.proofs.lemmas.Map.Entries.{lookup_head, lookup_tail, none_below_head}
 use Rattle.std.proofs.lemmas.Map.Keys.{sorted_head, sorted_tail}
 use Rattle.packet_set.specs.Packets.{Packets}
-use Rattle.pet_receive.specs.KeptSet.{KeptSet, open_group}
-use Rattle.pet_receive.specs.Union.{frames_in_group, frames_in}
-use Rattle.pet_receive.specs.laws.EntryLaws.{weight, cmp_same, cmp_apart, cmp_less, cmp_says_less}
+use Rattle.kept_sets.specs.KeptSet.{KeptSet, open_group}
+use Rattle.kept_sets.specs.Union.{frames_in_group, frames_in}
+use Rattle.kept_sets.specs.laws.EntryLaws.{weight, cmp_same, cmp_apart, cmp_less, cmp_says_less}
 
 module _ {X : Type 0} where
   -- the entry of a number, where there is one

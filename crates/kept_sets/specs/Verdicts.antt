@@ -9,10 +9,10 @@ use Rattle.stripe_plan.specs.Same.{same_table}
 use Rattle.packet_frame.specs.Frame.{Fields}
 use Rattle.packet_frame.specs.Refusals.{fields_of, first_fault}
 use Rattle.pet_encode.specs.Session.{cost_of}
-use Rattle.pet_receive.specs.declared.verdict.Verdict.{Verdict}
-use Rattle.pet_receive.specs.declared.verdict.Verdict.TheVariants.{Damaged, Foreign, Clash, Repeated, Full, Kept}
-use Rattle.pet_receive.specs.declared.verdict.LayerSet.{LayerSet}
-use Rattle.pet_receive.specs.KeptSet.{KeptSet, open_group, payload_of, count_kept, cost_kept, header_of, keep}
+use Rattle.kept_sets.specs.declared.verdict.Verdict.{Verdict}
+use Rattle.kept_sets.specs.declared.verdict.Verdict.TheVariants.{Damaged, Foreign, Clash, Repeated, Full, Kept}
+use Rattle.kept_sets.specs.declared.verdict.LayerSet.{LayerSet}
+use Rattle.kept_sets.specs.KeptSet.{KeptSet, open_group, payload_of, count_kept, cost_kept, header_of, keep}
 
 -- a kept frame tells another number of groups
 abbrev pub tells_other_count : KeptSet → Fields → Bool

@@ -8,10 +8,8 @@ use Rattle.std.specs.List.Sorted.{IsStrictlySortedBy}
 use Rattle.packet_frame.specs.Frame.{Fields, IsFrame}
 use Rattle.packet_frame.specs.View.{fields_with}
 use Rattle.packet_frame.specs.declared.frame.Header.{Header}
-use Rattle.packet_set.specs.Packets.{Packets, slot_at, with_packet}
+use Rattle.packet_set.specs.Packets.{Packets, slot_at, with_packet, no_packets, count_in}
 use Rattle.pet_encode.specs.Session.{cost_of}
--- a group of which no packet is kept, and how many packets are kept of a group
-pub use Rattle.open_group.specs.OpenGroup.{no_packets, count_in}
 
 pub record KeptSet : Type 0 where
   -- the session number whose frames are kept

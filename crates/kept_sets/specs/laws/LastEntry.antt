@@ -5,7 +5,7 @@ use Rattle.std.specs.Cmp.{nat_cmp_is}
 use Rattle.std.specs.BTreeMap.{is_at, insert_entry}
 use Rattle.std.specs.Map.{lookup, keys_of}
 use Rattle.std.proofs.lemmas.List.Elements.{All-cons, All-nil}
-use Rattle.pet_receive.specs.laws.EntryLaws.{cmp_same}
+use Rattle.kept_sets.specs.laws.EntryLaws.{cmp_same}
 
 module _ {X : Type 0} where
   pub insert_end : (es : List (ℕ × X)) (k : ℕ) (v : X) → All (λ x. x < k) (keys_of es) → insert_entry nat_cmp es k v ≡ es ++ ((k, v) ∷ [])

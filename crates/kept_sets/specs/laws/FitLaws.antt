@@ -17,12 +17,12 @@ use Rattle.stripe_plan.specs.Same.{same_table}
 use Rattle.stripe_plan.specs.laws.SameLaws.{same_table-exact}
 use Rattle.packet_frame.specs.Frame.{Fields}
 use Rattle.packet_frame.specs.View.{fields_with}
-use Rattle.packet_set.specs.Packets.{Packets, slot_at}
-use Rattle.pet_receive.specs.KeptSet.{KeptSet, IsKeptSet, open_group, payload_of, count_in, header_of}
-use Rattle.pet_receive.specs.Verdicts.{clashes, tells_other_count, tells_other_table, tells_other_payload}
-use Rattle.pet_receive.specs.Union.{frames_in_group, frames_in}
-use Rattle.pet_receive.specs.laws.EntryLaws.{all_found}
-use Rattle.pet_receive.specs.laws.KeptSetLaws.{none_told, neither, not_false, same_number}
+use Rattle.packet_set.specs.Packets.{Packets, slot_at, count_in}
+use Rattle.kept_sets.specs.KeptSet.{KeptSet, IsKeptSet, open_group, payload_of, header_of}
+use Rattle.kept_sets.specs.Verdicts.{clashes, tells_other_count, tells_other_table, tells_other_payload}
+use Rattle.kept_sets.specs.Union.{frames_in_group, frames_in}
+use Rattle.kept_sets.specs.laws.EntryLaws.{all_found}
+use Rattle.kept_sets.specs.laws.KeptSetLaws.{none_told, neither, not_false, same_number}
 
 -- ---- where a search finds nothing
 

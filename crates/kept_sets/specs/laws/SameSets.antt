@@ -5,9 +5,9 @@ use Rattle.std.proofs.lemmas.Bool.{cases_eq, cases_lt}
 use Rattle.std.proofs.lemmas.Option.{same_Some}
 use Rattle.packet_frame.specs.declared.frame.Header.{Header}
 use Rattle.packet_set.specs.Packets.{Packets, slot_at}
-use Rattle.pet_receive.specs.KeptSet.{KeptSet, IsKeptSet, open_group, payload_of}
-use Rattle.pet_receive.specs.laws.JoinedGroups.{found, Rises, found_first, found_later, found_below, once_found, rises_later}
-use Rattle.pet_receive.specs.laws.FitLaws.{some_frame}
+use Rattle.kept_sets.specs.KeptSet.{KeptSet, IsKeptSet, open_group, payload_of}
+use Rattle.kept_sets.specs.laws.JoinedGroups.{found, Rises, found_first, found_later, found_below, once_found, rises_later}
+use Rattle.kept_sets.specs.laws.FitLaws.{some_frame}
 
 module _ {X : Type 0} where
   found_behind : (e f : ℕ × X) (es fs : List (ℕ × X)) → Rises (e ∷ es) → Rises (f ∷ fs) → e.0 ≡ f.0 → ((k : ℕ) → found (e ∷ es) k ≡ found (f ∷ fs) k) → (k : ℕ) → found es k ≡ found fs k

@@ -9,11 +9,11 @@ use Rattle.packet_frame.specs.Frame.{IsFrame}
 use Rattle.packet_frame.specs.View.{fields_with}
 use Rattle.packet_frame.specs.declared.frame.Header.{Header}
 use Rattle.packet_set.specs.Packets.{Packets, slot_at}
-use Rattle.pet_receive.specs.KeptSet.{KeptSet, IsKeptSet, IsKeptGroup, open_group, cost_kept, told_by}
-use Rattle.pet_receive.specs.Union.{join_slots, join_group, join_groups, union}
-use Rattle.pet_receive.specs.laws.JoinedGroups.{slot_join, join_open, rises_join, found_first}
-use Rattle.pet_receive.specs.laws.FitLaws.{Agrees}
-use Rattle.pet_receive.specs.laws.UnionSound.{union_open, count_join}
+use Rattle.kept_sets.specs.KeptSet.{KeptSet, IsKeptSet, IsKeptGroup, open_group, cost_kept, told_by}
+use Rattle.kept_sets.specs.Union.{join_slots, join_group, join_groups, union}
+use Rattle.kept_sets.specs.laws.JoinedGroups.{slot_join, join_open, rises_join, found_first}
+use Rattle.kept_sets.specs.laws.FitLaws.{Agrees}
+use Rattle.kept_sets.specs.laws.UnionSound.{union_open, count_join}
 
 same_parts : (h k : Header) → h.session ≡ k.session → h.groups ≡ k.groups → h.group ≡ k.group → h.table ≡ k.table → h ≡ k
 same_parts h k s n g t =

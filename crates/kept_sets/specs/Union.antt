@@ -8,13 +8,11 @@ use Rattle.std.specs.Str.{bytes_eq}
 use Rattle.std.specs.List.{find, flat_map, filter_map, range_with_len}
 use Rattle.packet_frame.specs.Frame.{Fields}
 use Rattle.packet_frame.specs.View.{fields_with}
-use Rattle.packet_set.specs.Packets.{Packets, slot_at}
-use Rattle.pet_interp.specs.Progressive.{step_bound}
-use Rattle.pet_receive.specs.KeptSet.{KeptSet, open_group, count_kept, cost_in, cost_kept}
-use Rattle.pet_receive.specs.Verdicts.{clashes, shown_between}
-use Rattle.pet_receive.specs.Arrivals.{Order, layers_of, stripe_lengths}
-use Rattle.pet_receive.specs.declared.union.Absorb.{Absorb}
-use Rattle.pet_receive.specs.declared.union.Absorb.TheVariants.{OtherSession, Clash, Full}
+use Rattle.packet_set.specs.Packets.{Packets, slot_at, layers_of}
+use Rattle.kept_sets.specs.KeptSet.{KeptSet, open_group, count_kept, cost_in, cost_kept}
+use Rattle.kept_sets.specs.Verdicts.{clashes, shown_between}
+use Rattle.kept_sets.specs.declared.union.Absorb.{Absorb}
+use Rattle.kept_sets.specs.declared.union.Absorb.TheVariants.{OtherSession, Clash, Full}
 
 -- the frames that are kept of a group, by number
 abbrev pub frames_in_group : Packets → List Fields
@@ -83,19 +81,10 @@ abbrev pub new_numbers : Option Packets → Packets → List ℕ
 new_numbers mine theirs = filter (is_new mine theirs) (range_with_len 0 (length theirs.slots))
 
 -- the pairs that are kept there and not here, by group, then number
-abbrev pub new_pairs : KeptSet → KeptSet → Order
+abbrev pub new_pairs : KeptSet → KeptSet → List (ℕ × ℕ)
 new_pairs mine theirs = flat_map (λ e. map (λ number. (e.0, number)) (new_numbers (open_group mine e.0) e.1)) theirs.groups
 
 -- the layers that the union shows, and that what is kept here does not show, by group, then layer
 abbrev pub shown_by_union : KeptSet → KeptSet → List (ℕ × ℕ)
 shown_by_union mine theirs =
     flat_map (λ e. map (λ layer. (e.0, layer)) (shown_between (layers_of e.1) (count_kept mine e.0) (count_kept (union mine theirs) e.0))) theirs.groups
-
--- how many steps so many packets of a group may take, that come after `before`
-abbrev pub steps_after : ℕ → List ℕ → ℕ → ℕ
-steps_after before lengths many = sum_by (λ r. step_bound r lengths) (range_with_len before many)
-
--- and all that the union adds
-abbrev pub union_steps : KeptSet → KeptSet → ℕ
-union_steps mine theirs =
-    sum_by (λ e. steps_after (count_kept mine e.0) (stripe_lengths (layers_of e.1)) (length (new_numbers (open_group mine e.0) e.1))) theirs.groups

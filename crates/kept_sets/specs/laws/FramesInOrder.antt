@@ -17,11 +17,11 @@ use Rattle.std.specs.List.{cons_option}
 use Rattle.packet_frame.specs.Frame.{Fields, IsFrame}
 use Rattle.packet_frame.specs.View.{fields_with}
 use Rattle.packet_frame.specs.declared.frame.Header.{Header}
-use Rattle.packet_set.specs.Packets.{Packets, slot_at, with_packet}
-use Rattle.pet_receive.specs.KeptSet.{KeptSet, IsKeptSet, open_group, group_with, header_of, no_packets, keep}
-use Rattle.pet_receive.specs.Union.{frames_in_group, frames_in}
-use Rattle.pet_receive.specs.laws.EntryLaws.{cmp_says_less}
-use Rattle.pet_receive.specs.laws.KeptSetLaws.{IsKeepable, open_here, slot_inside, header_with, none_in}
+use Rattle.packet_set.specs.Packets.{Packets, slot_at, with_packet, no_packets}
+use Rattle.kept_sets.specs.KeptSet.{KeptSet, IsKeptSet, open_group, group_with, header_of, keep}
+use Rattle.kept_sets.specs.Union.{frames_in_group, frames_in}
+use Rattle.kept_sets.specs.laws.EntryLaws.{cmp_says_less}
+use Rattle.kept_sets.specs.laws.KeptSetLaws.{IsKeepable, open_here, slot_inside, header_with, none_in}
 
 -- ---- the frames of a group, slot by slot
 

@@ -1,0 +1,5 @@
+pub mod KeptSet
+pub mod Verdicts
+pub mod Group
+pub mod Union
+pub mod laws

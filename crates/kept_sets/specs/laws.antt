@@ -1,0 +1,15 @@
+pub mod EntryLaws
+pub mod FoundEntries
+pub mod FramesLaws
+pub mod FramesInOrder
+pub mod KeptSetLaws
+pub mod LastEntry
+pub mod LayerSetLaws
+pub mod JoinedGroups
+pub mod FitLaws
+pub mod UnionSound
+pub mod UnionKept
+pub mod FitExactly
+pub mod SameSets
+pub mod UnionLaws
+pub mod UnionAssociates
