@@ -2,7 +2,7 @@
 use Rattle.std.proofs.lemmas.Bool.{cases_lt}
 use Rattle.std.proofs.lemmas.List.{get_or-set_same, get_or-set_other}
 use Rattle.std.proofs.Common.{List, length, get_or, set, ◌≡◌, ℕ, zero, suc, ◌+◌, ◌*◌, ◌/◌, ◌%◌, ◌<◌, ◌≤◌, ◌^◌, bit_xor, inl, inr, refl, sym, ap, ap₂, ◌∙◌, arith}
-use Rattle.std.proofs.lemmas.Nat.{xor_lt, xor_comm}
+use Rattle.std.proofs.lemmas.Nat.{xor_lt, xor_comm, xor_block}
 use lib.Bits.{xor_shifted}
 use native.Mathlib.Nat.{zero-mul, one-mul, mul_comm}
 use Rattle.pet_field.specs.Carryless.{carryless, product_of_bits, remainder_of_bits}
@@ -28,13 +28,22 @@ twice_of a = carryless_double_r a 1 ∙ ap (λ t. 2 * t) (carryless-one_r a) ∙
 pub double_plain : (a : ℕ) → a < 65536 → a * 2 < 65536 → a * 2 ≡ T a 2
 double_plain a h g = product a 2 (a * 2) h (omega arith) (record { below = g; congruent = rw (twice_of a) (Same-refl 0x1100B (a * 2)) })
 
-pub double_over_below : (a : ℕ) → a < 65536 → 65536 ≤ a * 2 → bit_xor (a * 2) 0x1100B < 65536
+double_over_below : (a : ℕ) → a < 65536 → 65536 ≤ a * 2 → bit_xor (a * 2) 0x1100B < 65536
 double_over_below a h g = same_degree_below 16 (a * 2) 0x1100B (g, omega arith) gf16_modulus.degree
 
-pub double_over : (a : ℕ) → a < 65536 → 65536 ≤ a * 2 → bit_xor (a * 2) 0x1100B ≡ T a 2
-double_over a h g =
+double_long : (a : ℕ) → a < 65536 → 65536 ≤ a * 2 → bit_xor (a * 2) 0x1100B ≡ T a 2
+double_long a h g =
     product a 2 (bit_xor (a * 2) 0x1100B) h (omega arith)
     (record { below = double_over_below a h g; congruent = (1, rw (twice_of a) (xor_cancel (a * 2) 0x1100B) ∙ sym (carryless-one_l 0x1100B)) })
+
+-- the bit that is shifted out goes with that of the modulus
+pub double_over : (a : ℕ) → a < 65536 → 65536 ≤ a * 2 → bit_xor ((a * 2) % 65536) 0x100B ≡ T a 2
+double_over a h g =
+    let r : ℕ = (a * 2) % 65536 in
+    let top : a * 2 ≡ 1 * 2 ^ 16 + r = omega arith in
+    let same : bit_xor (1 * 2 ^ 16 + r) (1 * 2 ^ 16 + 0x100B) ≡ bit_xor 1 1 * 2 ^ 16 + bit_xor r 0x100B = xor_block 16 1 1 r 0x100B (omega arith) (omega arith) in
+    let none : 0 + bit_xor r 0x100B ≡ bit_xor r 0x100B = omega arith in
+    sym none ∙ sym same ∙ ap (λ t. bit_xor t 0x1100B) (sym top) ∙ double_long a h g
 
 -- ---- a double more
 

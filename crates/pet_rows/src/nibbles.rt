@@ -2,19 +2,19 @@
 ghost use Rattle.std.specs.Prelude.{◌≡◌, ℕ, ◌*◌, ◌/◌, ◌%◌, ◌<◌, ◌^◌, length, slice_index};
 ghost use Rattle.pet_field.specs.Gf16.{gf16};
 
-/// The modulus x^16 + x^12 + x^3 + x + 1.
-const MODULUS: u32 = 0x1100B;
+/// What x^16 is modulo x^16 + x^12 + x^3 + x + 1.
+const REDUCED: u16 = 0x100B;
 
 /// x times a polynomial.
 #[inline(always)]
 fn double(a: u16) -> u16
     ensures { result ≡ gf16.times a 2 }
 {
-    let twice = u32::from(a) * 2;
-    if twice < 65_536 {
-        twice as u16
+    let shifted = a << 1;
+    if a < 32_768 {
+        shifted
     } else {
-        (twice ^ MODULUS) as u16
+        shifted ^ REDUCED
     }
 }
 
