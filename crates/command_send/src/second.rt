@@ -19,7 +19,7 @@ use crate::first::FirstPass;
 use crate::sent_group::{Change, first_mark, send_group};
 use command_files::{portion_room, take_portion};
 use datagram_route::RouteStop;
-use group_cutter::{Group, GroupCutter};
+use group_cutter::{CutFault, Group, GroupCutter};
 use pet_base::{Link, MAX_STREAM, Place, Steps};
 use std::alloc::Global;
 use std::sync::ledger::Ledger;
@@ -272,9 +272,12 @@ fn send_last<P: Place, K: Link, L: Ledger>(
         (SendingFailed (way_of found.now.to) (K.seen link.old) (K.seen link.new)) ⊥) }
     ensures cost { steps.new ≤ steps.old + cost_left found.now.source.tables.items groups.old.sent }
 {
-    match groups.cutter.finish()? {
-        Some(left) => send_left(alloc, place, link, found, groups.sent, &left, steps),
-        None => Ok(first_lost(found, groups.sent)),
+    match groups.cutter.finish() {
+        Ok(left) => send_left(alloc, place, link, found, groups.sent, &left, steps),
+        Err(fault) => match fault {
+            CutFault::NoMemory => Err(RouteStop::NoMemory),
+            _ => Ok(first_lost(found, groups.sent)),
+        },
     }
 }
 

@@ -1,23 +1,24 @@
 -- No group ended behind those that a cutter has given, where it has looked at all pieces or the groups are refused.
-use Rattle.std.proofs.Common.{◌≡◌, ℕ, ◌+◌, ◌<◌, ◌≤◌, Bool, true, false, List, [], ◌∷◌, ◌++◌, length, get_or, take, drop, refl, sym, ◌∙◌, ap, subst, arith, inl, inr, append_assoc}
-use Rattle.std.specs.Prelude.{IsTrue}
-use Rattle.std.specs.Bool.{MatchBool}
+use Rattle.std.proofs.Common.{◌≡◌, ℕ, ◌+◌, ◌<◌, ◌≤◌, false, List, [], ◌∷◌, ◌++◌, length, get_or, take, drop, Option, None, Some, refl, sym, ◌∙◌, ap, subst, arith, inl, inr, append_assoc}
+use Rattle.std.specs.Prelude.{IsTrue, MatchOption, Result, Ok, Err, OnErr}
 use Rattle.std.proofs.Math.Seq.{take-append_seam}
 use Rattle.std.proofs.lemmas.Bool.{both_ways}
 use Rattle.std.proofs.lemmas.List.{append-nil, length-append, length-map, length_push, take-append-le, take-append-drop, get_or_append_left, get_or_at}
 use Rattle.mpeg_scan.specs.declared.piece.Piece.{Piece}
+use Rattle.mpeg_scan.specs.declared.refusal.Scan.{Scan}
 use Rattle.mpeg_scan.specs.Refusals.{decided_at, holds}
 use Rattle.mpeg_scan.specs.Pieces.{pieces_of, ended_pieces}
 use Rattle.mpeg_scan.specs.Scanning.{IsFrontOf}
 use Rattle.mpeg_scan.specs.laws.EndedLaws.{read_ended, ended_grow}
 use Rattle.priority_file.specs.Priority.{Priorities, layer_of}
+use Rattle.layer_split.specs.declared.fault.SplitFault.{SplitFault}
 use Rattle.layer_split.specs.Groups.{groups_of, ended_groups, last_group}
 use Rattle.layer_split.specs.Splitting.{IsOneTooMany}
 use Rattle.layer_split.specs.Faults.{is_too_long}
 use Rattle.layer_split.specs.laws.EndedLaws.{gone_ended, groups_grow, last_ends, ended_count}
 use Rattle.group_cutter.specs.CutGroups.{CutGroup}
 use Rattle.group_cutter.specs.declared.groups.GroupCutter.{GroupCutter}
-use Rattle.group_cutter.specs.Cutting.{HasCut, HasLooked, HasMetLimit, HaveEnded, IsLive, IsRefused, IsSeen, NoneFurther, cut_group, pieces_left}
+use Rattle.group_cutter.specs.Cutting.{HasCut, HasLooked, HasMetLimit, HaveEnded, IsLive, IsStopped, IsSeen, NoneFurther, cut_group, pieces_left}
 use Rattle.group_cutter.specs.laws.EndedLaws.{groups_parted}
 use Rattle.group_cutter.proofs.Looking.{all_looked, pieces_at}
 
@@ -62,31 +63,33 @@ further_live cutter priority stream given live left next u =
     (given_count cutter priority stream live.pieces given h ∙ ap (λ ps. length (ended_groups ps)) pieces) (omega (arith, lengths, sum))
 
 -- the stream is refused at a byte behind which no front goes on undecided
-further_seen : (cutter : GroupCutter) (priority : Priorities) (stream : List ℕ) (given : List CutGroup) → IsSeen cutter priority stream given → pieces_left cutter ≡ 0 → NoneFurther priority stream given
-further_seen cutter priority stream given part left next u =
+further_seen : (cutter : GroupCutter) (priority : Priorities) (stream : List ℕ) (given : List CutGroup) (scan : Scan) → IsSeen cutter priority stream given scan → pieces_left cutter ≡ 0 → NoneFurther priority stream given
+further_seen cutter priority stream given scan part left next u =
     let s = part.stopped in
     let h = part.looked in
     let pieces : h.looked ≡ ended_pieces s.before = all_looked cutter priority part.seen part.pieces given h left ∙ s.ended in
     let parts : stream ≡ s.before ++ (s.behind ++ part.unseen) =
     part.parts ∙ (ap (λ w. w ++ part.unseen) s.parts ∙ append_assoc s.before s.behind part.unseen) in
     let same : part.seen ++ part.unseen ≡ u.front ++ u.behind = sym part.parts ∙ u.parts in
-    let holding = subst (λ w. IsTrue (holds w part.scan)) same (part.refuses part.unseen).holding in
-    let decided : decided_at (u.front ++ u.behind) part.scan ≡ length s.before =
-    ap (λ w. decided_at w part.scan) (sym same) ∙ s.decided part.unseen in
-    let le = u.undecided u.behind part.scan holding in
+    let holding = subst (λ w. IsTrue (holds w scan)) same (part.refuses part.unseen).holding in
+    let decided : decided_at (u.front ++ u.behind) scan ≡ length s.before =
+    ap (λ w. decided_at w scan) (sym same) ∙ s.decided part.unseen in
+    let le = u.undecided u.behind scan holding in
     none_before priority stream s.before (s.behind ++ part.unseen) given next u parts
     (given_count cutter priority part.seen part.pieces given h ∙ ap (λ ps. length (ended_groups ps)) pieces) (subst (λ n. length u.front ≤ n) decided le)
 
-further_by : (cutter : GroupCutter) (priority : Priorities) (stream : List ℕ) (given : List CutGroup) (b : Bool) → pieces_left cutter ≡ 0 → MatchBool b (IsRefused cutter priority stream given) (IsLive cutter priority stream given) → NoneFurther priority stream given
-further_by cutter priority stream given false left live = further_live cutter priority stream given live left
-further_by cutter priority stream given true left over = elim over.left [
-  | inl none ↦ subst (λ w. NoneFurther priority w given) (append-nil stream) (none.none_further [])
-  | inr part ↦ further_seen cutter priority stream given part left
-]
+further_by : (cutter : GroupCutter) (priority : Priorities) (stream : List ℕ) (given : List CutGroup) (fault : Option SplitFault) (scan : Option Scan) → pieces_left cutter ≡ 0 → MatchOption fault (MatchOption scan (IsLive cutter priority stream given) (λ s. IsSeen cutter priority stream given s)) (λ f. IsStopped cutter priority stream given f) → NoneFurther priority stream given
+further_by cutter priority stream given None None left live = further_live cutter priority stream given live left
+further_by cutter priority stream given None (Some scan) left part = further_seen cutter priority stream given scan part left
+further_by cutter priority stream given (Some fault) scan left over = subst (λ w. NoneFurther priority w given) (append-nil stream) (over.none_further [])
 
 -- where no piece is left
 pub none_further : (cutter : GroupCutter) (priority : Priorities) (stream : List ℕ) (given : List CutGroup) → HasCut cutter priority stream given → pieces_left cutter ≡ 0 → NoneFurther priority stream given
-none_further cutter priority stream given h left = further_by cutter priority stream given cutter.refused left h.state
+none_further cutter priority stream given h left = further_by cutter priority stream given cutter.fault cutter.scan left h.state
+
+pub any_further : {T E : Type 0} (result : Result T E) (cutter : GroupCutter) → OnErr result ((priority : Priorities) (stream : List ℕ) (given : List CutGroup) → HasCut cutter priority stream given → pieces_left cutter ≡ 0 → NoneFurther priority stream given)
+any_further (Ok x) cutter = tt
+any_further (Err e) cutter = none_further cutter
 
 -- the splitter refused the next piece
 pub met_limit : (old : GroupCutter) (p : Piece) (priority : Priorities) (seen : List ℕ) (pieces : List Piece) (given : List CutGroup) (h : HasLooked old priority seen pieces given) → old.looked < length old.pieces.items → get_or old.pieces.items old.looked p ≡ p → IsOneTooMany priority h.looked p → HasMetLimit priority pieces given
@@ -132,11 +135,9 @@ further_limit priority seen rest pieces given front m next u =
     ]
 
 -- where the groups are refused
-pub stopped_by : (cutter : GroupCutter) (priority : Priorities) (stream : List ℕ) (given : List CutGroup) (b : Bool) → ((seen : List ℕ) (pieces : List Piece) → HasLooked cutter priority seen pieces given → HasMetLimit priority pieces given) → MatchBool b (IsRefused cutter priority stream given) (IsLive cutter priority stream given) → (rest : List ℕ) → NoneFurther priority (stream ++ rest) given
-stopped_by cutter priority stream given false limits live rest = further_limit priority stream rest live.pieces given live.front (limits stream live.pieces live.looked)
-stopped_by cutter priority stream given true limits over rest = elim over.left [
-  | inl none ↦ none.none_further rest
-  | inr part ↦
-      subst (λ w. NoneFurther priority w given) (sym (append_assoc part.seen part.unseen rest) ∙ ap (λ w. w ++ rest) (sym part.parts))
-      (further_limit priority part.seen (part.unseen ++ rest) part.pieces given part.front (limits part.seen part.pieces part.looked))
-]
+pub stopped_by : (cutter : GroupCutter) (priority : Priorities) (stream : List ℕ) (given : List CutGroup) (fault : Option SplitFault) (scan : Option Scan) → ((seen : List ℕ) (pieces : List Piece) → HasLooked cutter priority seen pieces given → HasMetLimit priority pieces given) → MatchOption fault (MatchOption scan (IsLive cutter priority stream given) (λ s. IsSeen cutter priority stream given s)) (λ f. IsStopped cutter priority stream given f) → (rest : List ℕ) → NoneFurther priority (stream ++ rest) given
+stopped_by cutter priority stream given None None limits live rest = further_limit priority stream rest live.pieces given live.front (limits stream live.pieces live.looked)
+stopped_by cutter priority stream given None (Some scan) limits part rest =
+    subst (λ w. NoneFurther priority w given) (sym (append_assoc part.seen part.unseen rest) ∙ ap (λ w. w ++ rest) (sym part.parts))
+    (further_limit priority part.seen (part.unseen ++ rest) part.pieces given part.front (limits part.seen part.pieces part.looked))
+stopped_by cutter priority stream given (Some fault) scan limits over rest = over.none_further rest

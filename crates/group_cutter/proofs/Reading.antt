@@ -1,39 +1,101 @@
 -- A cutter that has read a portion, given a group, or refused.
-use Rattle.std.proofs.Common.{◌≡◌, ℕ, ◌≤◌, Bool, true, false, List, [], ◌∷◌, ◌++◌, length, drop, map, Option, Some, None, refl, sym, ◌∙◌, ap, subst, arith, append_assoc, length-append, inl, inr}
-use Rattle.std.specs.Bool.{MatchBool}
+use Rattle.std.proofs.Common.{◌≡◌, ◌≢◌, ℕ, ◌≤◌, true, false, List, [], ◌∷◌, ◌++◌, length, drop, map, Option, Some, None, is_some, refl, sym, ◌∙◌, ap, subst, arith, append_assoc, length-append}
+use Rattle.std.specs.Prelude.{MatchOption}
 use Rattle.std.proofs.lemmas.List.{append-nil, drop-append-le}
-use Rattle.std.proofs.lemmas.Bool.{both_ways}
 use Rattle.mpeg_scan.specs.declared.piece.Piece.{Piece}
 use Rattle.mpeg_scan.specs.declared.refusal.Scan.{Scan}
-use Rattle.mpeg_scan.specs.Refusals.{Refuses, holds, max_stream}
+use Rattle.mpeg_scan.specs.declared.scanner.Scanner.{Scanner}
+use Rattle.mpeg_scan.specs.Refusals.{Refuses, IsAccepted, max_stream}
 use Rattle.mpeg_scan.specs.Pieces.{pieces_of, StandOnEnd}
 use Rattle.mpeg_scan.specs.Scanning.{HasRead, HasStopped, IsFrontOf, HasGrown, added}
 use Rattle.priority_file.specs.Priority.{Priorities, layer_of}
 use Rattle.layer_split.specs.declared.splitter.Splitter.{Splitter}
 use Rattle.layer_split.specs.declared.fault.SplitFault.{SplitFault}
+use Rattle.layer_split.specs.declared.fault.SplitFault.TheVariants as split
 use Rattle.layer_split.specs.Groups.{groups_of}
 use Rattle.layer_split.specs.Faults.{fault_of}
 use Rattle.layer_split.specs.Layers.{Cut}
 use Rattle.layer_split.specs.Splitting.{HasAdded, groups_after}
 use Rattle.group_cutter.specs.CutGroups.{CutGroup}
 use Rattle.group_cutter.specs.declared.groups.GroupCutter.{GroupCutter}
-use Rattle.group_cutter.specs.Cutting.{HasCut, HasLooked, HasEnded, IsLive, IsRefused, IsCuttable, HaveEnded, NoneFurther, HasMetLimit, KeepsPending, cut_group, groups_in, pending, pieces_left, end_of}
+use Rattle.group_cutter.specs.declared.fault.CutFault.TheVariants.{Stream, Groups}
+use Rattle.group_cutter.specs.Cutting.{HasCut, HasScanned, HasLooked, HasEnded, ScansOn, IsLive, IsSeen, IsStopped, IsCutting, IsCutFault, HaveEnded, NoneFurther, HasMetLimit, KeepsPending, groups_fault, cut_group, groups_in, pending, pieces_left, end_of}
 use Rattle.group_cutter.specs.laws.StandingLaws.{stand_end}
 use Rattle.group_cutter.specs.laws.EndedLaws.{given_ended, ended_longer}
 use Rattle.group_cutter.proofs.Looking.{ends_within}
 use Rattle.group_cutter.proofs.Further.{stopped_by}
 
-pub live_of : (cutter : GroupCutter) (priority : Priorities) (stream : List ℕ) (given : List CutGroup) → HasCut cutter priority stream given → cutter.refused ≡ false → IsLive cutter priority stream given
-live_of cutter priority stream given h e = subst (λ b. MatchBool b (IsRefused cutter priority stream given) (IsLive cutter priority stream given)) e h.state
+-- where a cutter stands, by what it has refused
+pub cutting_of : (cutter : GroupCutter) (priority : Priorities) (stream : List ℕ) (given : List CutGroup) → HasCut cutter priority stream given → cutter.fault ≡ None → IsCutting cutter priority stream given
+cutting_of cutter priority stream given h fault = subst (λ o. MatchOption o (IsCutting cutter priority stream given) (λ f. IsStopped cutter priority stream given f)) fault h.state
 
-pub refused_of : (cutter : GroupCutter) (priority : Priorities) (stream : List ℕ) (given : List CutGroup) → HasCut cutter priority stream given → cutter.refused ≡ true → IsRefused cutter priority stream given
-refused_of cutter priority stream given h e = subst (λ b. MatchBool b (IsRefused cutter priority stream given) (IsLive cutter priority stream given)) e h.state
+pub live_of : (cutter : GroupCutter) (priority : Priorities) (stream : List ℕ) (given : List CutGroup) → HasCut cutter priority stream given → cutter.fault ≡ None → cutter.scan ≡ None → IsLive cutter priority stream given
+live_of cutter priority stream given h fault scan = subst (λ o. MatchOption o (IsLive cutter priority stream given) (λ s. IsSeen cutter priority stream given s)) scan (cutting_of cutter priority stream given h fault)
 
-pub cut_live : (cutter : GroupCutter) (priority : Priorities) (stream : List ℕ) (given : List CutGroup) → cutter.refused ≡ false → IsLive cutter priority stream given → HasCut cutter priority stream given
-cut_live cutter priority stream given e live = record { state = subst (λ b. MatchBool b (IsRefused cutter priority stream given) (IsLive cutter priority stream given)) (sym e) live }
+pub stopped_of : (cutter : GroupCutter) (priority : Priorities) (stream : List ℕ) (given : List CutGroup) (fault : SplitFault) → HasCut cutter priority stream given → cutter.fault ≡ Some fault → IsStopped cutter priority stream given fault
+stopped_of cutter priority stream given fault h e = subst (λ o. MatchOption o (IsCutting cutter priority stream given) (λ f. IsStopped cutter priority stream given f)) e h.state
 
-pub cut_refused : (cutter : GroupCutter) (priority : Priorities) (stream : List ℕ) (given : List CutGroup) → cutter.refused ≡ true → IsRefused cutter priority stream given → HasCut cutter priority stream given
-cut_refused cutter priority stream given e over = record { state = subst (λ b. MatchBool b (IsRefused cutter priority stream given) (IsLive cutter priority stream given)) (sym e) over }
+pub read_of : (cutter : GroupCutter) (stream : List ℕ) → HasScanned cutter stream → cutter.scan ≡ None → (pieces : List Piece) × HasRead cutter.scanner stream pieces
+read_of cutter stream h e = subst (λ o. MatchOption o ((pieces : List Piece) × HasRead cutter.scanner stream pieces) (λ scan. (rest : List ℕ) → Refuses (stream ++ rest) scan)) e h
+
+pub refused_of : (cutter : GroupCutter) (stream : List ℕ) (scan : Scan) → HasScanned cutter stream → cutter.scan ≡ Some scan → (rest : List ℕ) → Refuses (stream ++ rest) scan
+refused_of cutter stream scan h e = subst (λ o. MatchOption o ((pieces : List Piece) × HasRead cutter.scanner stream pieces) (λ s. (rest : List ℕ) → Refuses (stream ++ rest) s)) e h
+
+pub no_option : {A : Type 0} (o : Option A) → ((x : A) → o ≡ Some x → ⊥) → o ≡ None
+no_option None none = refl
+no_option (Some x) none = absurd (none x refl)
+
+pub is_none : {A : Type 0} (o : Option A) → is_some o ≡ false → o ≡ None
+is_none None e = refl
+is_none (Some x) e = absurd cc
+
+-- what the scanner has told is the same
+pub same_scanned : (old new : GroupCutter) (stream : List ℕ) → new.scanner ≡ old.scanner → new.scan ≡ old.scan → HasScanned old stream → HasScanned new stream
+same_scanned old new stream scanner scan h =
+    subst (λ o. MatchOption o ((pieces : List Piece) × HasRead new.scanner stream pieces) (λ s. (rest : List ℕ) → Refuses (stream ++ rest) s)) (sym scan)
+    (subst (λ (r : Scanner). MatchOption old.scan ((pieces : List Piece) × HasRead r stream pieces) (λ s. (rest : List ℕ) → Refuses (stream ++ rest) s)) (sym scanner) h)
+
+-- a cutter that nothing stops, by what the scanner has told
+scanned_told : (scanner : Scanner) (stream : List ℕ) (pieces : List Piece) (o : Option Scan) → MatchOption o (HasRead scanner stream pieces) (λ scan. ((rest : List ℕ) → Refuses (stream ++ rest) scan) × HasStopped stream scan pieces) → MatchOption o ((ps : List Piece) × HasRead scanner stream ps) (λ scan. (rest : List ℕ) → Refuses (stream ++ rest) scan)
+scanned_told scanner stream pieces None read = (pieces, read)
+scanned_told scanner stream pieces (Some scan) over = over.0
+
+scanned_cutting : (cutter : GroupCutter) (priority : Priorities) (stream : List ℕ) (pieces : List Piece) (given : List CutGroup) (o : Option Scan) → IsFrontOf stream pieces → HasLooked cutter priority stream pieces given → MatchOption o (HasRead cutter.scanner stream pieces) (λ scan. ((rest : List ℕ) → Refuses (stream ++ rest) scan) × HasStopped stream scan pieces) → MatchOption o (IsLive cutter priority stream given) (λ s. IsSeen cutter priority stream given s)
+scanned_cutting cutter priority stream pieces given None front looked read = record { pieces = pieces; read = read; front = front; looked = looked }
+scanned_cutting cutter priority stream pieces given (Some scan) front looked over = record {
+  seen = stream;
+  unseen = [];
+  parts = sym (append-nil stream);
+  pieces = pieces;
+  front = front;
+  refuses = over.0;
+  stopped = over.1;
+  looked = looked;
+}
+
+pub cut_scanned : (cutter : GroupCutter) (priority : Priorities) (stream : List ℕ) (pieces : List Piece) (given : List CutGroup) → cutter.fault ≡ None → IsFrontOf stream pieces → HasLooked cutter priority stream pieces given → MatchOption cutter.scan (HasRead cutter.scanner stream pieces) (λ scan. ((rest : List ℕ) → Refuses (stream ++ rest) scan) × HasStopped stream scan pieces) → HasCut cutter priority stream given
+cut_scanned cutter priority stream pieces given fault front looked told = record {
+  scanned = scanned_told cutter.scanner stream pieces cutter.scan told;
+  state = subst (λ o. MatchOption o (IsCutting cutter priority stream given) (λ f. IsStopped cutter priority stream given f)) (sym fault)
+      (scanned_cutting cutter priority stream pieces given cutter.scan front looked told);
+}
+
+-- what the scanner told of a portion
+pub scans_live : (before : List Piece) (cutter : GroupCutter) (stream portion : List ℕ) (pieces : List Piece) → cutter.scan ≡ None → IsFrontOf (stream ++ portion) (pieces ++ added before cutter.pieces.items) → HasRead cutter.scanner (stream ++ portion) (pieces ++ added before cutter.pieces.items) → ScansOn before cutter stream portion pieces
+scans_live before cutter stream portion pieces none front read =
+    let all : List Piece = pieces ++ added before cutter.pieces.items in
+    record {
+      front = front;
+      scanned = subst (λ o. MatchOption o (HasRead cutter.scanner (stream ++ portion) all) (λ s. ((rest : List ℕ) → Refuses (stream ++ portion ++ rest) s) × HasStopped (stream ++ portion) s all)) (sym none) read;
+    }
+
+pub scans_refused : (before : List Piece) (cutter : GroupCutter) (stream portion : List ℕ) (pieces : List Piece) (scan : Scan) → cutter.scan ≡ Some scan → IsFrontOf (stream ++ portion) (pieces ++ added before cutter.pieces.items) → ((rest : List ℕ) → Refuses (stream ++ portion ++ rest) scan) → HasStopped (stream ++ portion) scan (pieces ++ added before cutter.pieces.items) → ScansOn before cutter stream portion pieces
+scans_refused before cutter stream portion pieces scan some front refuses stopped =
+    let all : List Piece = pieces ++ added before cutter.pieces.items in
+    record {
+      front = front;
+      scanned = subst (λ o. MatchOption o (HasRead cutter.scanner (stream ++ portion) all) (λ s. ((rest : List ℕ) → Refuses (stream ++ portion ++ rest) s) × HasStopped (stream ++ portion) s all)) (sym some) (refuses, stopped);
+    }
 
 -- at the beginning
 none_after : (gone : List (List Piece)) (current : List Piece) → [] ≡ gone ++ groups_after current [] → (gone ≡ []) × (current ≡ [])
@@ -47,27 +109,24 @@ none_after (g ∷ gone) current e = absurd (not_nil g (gone ++ groups_after curr
     not_nil : (x : List Piece) (xs : List (List Piece)) → [] ≡ x ∷ xs → ⊥
     not_nil x xs e = cc
 
-pub new_cut : (cutter : GroupCutter) (priority : Priorities) → HasRead cutter.scanner [] [] → HasAdded cutter.splitter priority [] [] → cutter.pieces.items ≡ [] → cutter.looked ≡ 0 → cutter.held.items ≡ [] → cutter.from ≡ 0 → cutter.refused ≡ false → HasCut cutter priority [] []
-new_cut cutter priority read added pieces looked held from live =
+pub new_cut : (cutter : GroupCutter) (priority : Priorities) → HasRead cutter.scanner [] [] → HasAdded cutter.splitter priority [] [] → cutter.pieces.items ≡ [] → cutter.looked ≡ 0 → cutter.held.items ≡ [] → cutter.from ≡ 0 → cutter.fault ≡ None → cutter.scan ≡ None → HasCut cutter priority [] []
+new_cut cutter priority read added pieces looked held from fault scan =
     let none = none_after added.gone added.current (added.groups []) in
     let nil : pending cutter ≡ [] = ap (λ n. drop n cutter.pieces.items) looked ∙ pieces in
-    cut_live cutter priority [] [] live (record {
-      pieces = [];
-      read = read;
-      front = record { front = λ rest. (pieces_of rest, refl); end = 0; stand = refl; within = omega arith; bounded = omega arith };
-      looked = record {
-        looked = [];
-        cuts = [];
-        whole = sym nil;
-        some = omega arith;
-        stand = refl;
-        within = omega arith;
-        added = added;
-        gives = λ more. ap (map (cut_group priority more)) (sym none.0);
-        current = subst (λ l. StandOnEnd cutter.from l 0) (sym none.1) from;
-        held = held ∙ ap (λ n. drop n []) (sym from);
-      };
+    cut_scanned cutter priority [] [] [] fault (record { front = λ rest. (pieces_of rest, refl); end = 0; stand = refl; within = omega arith; bounded = omega arith })
+    (record {
+      looked = [];
+      cuts = [];
+      whole = sym nil;
+      some = omega arith;
+      stand = refl;
+      within = omega arith;
+      added = added;
+      gives = λ more. ap (map (cut_group priority more)) (sym none.0);
+      current = subst (λ l. StandOnEnd cutter.from l 0) (sym none.1) from;
+      held = held ∙ ap (λ n. drop n []) (sym from);
     })
+    (subst (λ o. MatchOption o (HasRead cutter.scanner [] []) (λ s. ((rest : List ℕ) → Refuses ([] ++ rest) s) × HasStopped [] s [])) (sym scan) read)
 
 -- the pieces that a call appended are pending too
 pub grown : (looked : ℕ) (olds news : List Piece) → looked ≤ length olds → HasGrown olds news → (drop looked news ≡ drop looked olds ++ added olds news) × (looked ≤ length news)
@@ -116,116 +175,158 @@ feeds old mid new priority stream portion given live keeps grows splitter from l
     (subst (λ n. n ≤ length new.pieces.items) (sym looked) g.1)
     (held ∙ ap (λ v. v.items ++ portion) keeps.held) refl refl front.stand front.within
 
--- the stream was refused before, and goes on
-pub refused_more : (cutter : GroupCutter) (priority : Priorities) (stream portion : List ℕ) (given : List CutGroup) → IsRefused cutter priority stream given → IsRefused cutter priority (stream ++ portion) given
-refused_more cutter priority stream portion given over = record {
-  never = λ rest. subst (λ w. IsCuttable priority w → ⊥) (sym (append_assoc stream portion rest)) (over.never (portion ++ rest));
-  left = elim over.left [
-    | inl none ↦
-        inl (record {
-          none_left = none.none_left;
-          ended = ended_longer priority stream portion given none.ended;
-          none_further = λ rest. subst (λ w. NoneFurther priority w given) (sym (append_assoc stream portion rest)) (none.none_further (portion ++ rest));
-        })
-    | inr part ↦
-        inr (record {
-          seen = part.seen;
-          unseen = part.unseen ++ portion;
-          parts = ap (λ w. w ++ portion) part.parts ∙ append_assoc part.seen part.unseen portion;
-          pieces = part.pieces;
-          front = part.front;
-          scan = part.scan;
-          refuses = part.refuses;
-          stopped = part.stopped;
-          looked = part.looked;
-        })
-  ];
+-- a portion more of a stream whose groups are not refused
+pub feeds_cut : (old mid new : GroupCutter) (priority : Priorities) (stream portion : List ℕ) (given : List CutGroup) → old.fault ≡ None → old.scan ≡ None → KeepsPending old mid → (mid.scan ≡ None → (s : List ℕ) (pieces : List Piece) → HasRead mid.scanner s pieces → ScansOn mid.pieces.items new s portion pieces) → HasGrown mid.pieces.items new.pieces.items → new.splitter ≡ mid.splitter → new.from ≡ mid.from → new.looked ≡ mid.looked → new.fault ≡ mid.fault → new.held.items ≡ mid.held.items ++ portion → HasCut old priority stream given → HasCut new priority (stream ++ portion) given
+feeds_cut old mid new priority stream portion given fault scan keeps scans grows splitter from looked same held h =
+    let live = live_of old priority stream given h fault scan in
+    let on = scans (keeps.scan ∙ scan) stream live.pieces (subst (λ (s : Scanner). HasRead s stream live.pieces) (sym keeps.scanner) live.read) in
+    cut_scanned new priority (stream ++ portion) (live.pieces ++ added mid.pieces.items new.pieces.items) given (same ∙ (keeps.fault ∙ fault)) on.front
+    (feeds old mid new priority stream portion given live keeps grows splitter from looked held on.front) on.scanned
+
+-- what holds of a stream that is refused, or whose groups are, as it goes on
+stopped_longer : (old new : GroupCutter) (priority : Priorities) (stream portion : List ℕ) (given : List CutGroup) (fault : SplitFault) → pieces_left new ≡ 0 → IsStopped old priority stream given fault → IsStopped new priority (stream ++ portion) given fault
+stopped_longer old new priority stream portion given fault left over = record {
+  told = over.told;
+  refuses = λ rest. ap (groups_fault priority) (append_assoc stream portion rest) ∙ over.refuses (portion ++ rest);
+  none_left = left;
+  ended = ended_longer priority stream portion given over.ended;
+  none_further = λ rest. subst (λ w. NoneFurther priority w given) (sym (append_assoc stream portion rest)) (over.none_further (portion ++ rest));
 }
 
-pub not_accepted : (priority : Priorities) (stream : List ℕ) (scan : Scan) → Refuses stream scan → IsCuttable priority stream → ⊥
-not_accepted priority stream scan refuses cuttable = both_ways (holds stream scan) (cuttable.0 scan) refuses.holding
+seen_longer : (cutter : GroupCutter) (priority : Priorities) (stream portion : List ℕ) (given : List CutGroup) (scan : Scan) → IsSeen cutter priority stream given scan → IsSeen cutter priority (stream ++ portion) given scan
+seen_longer cutter priority stream portion given scan part = record {
+  seen = part.seen;
+  unseen = part.unseen ++ portion;
+  parts = ap (λ w. w ++ portion) part.parts ∙ append_assoc part.seen part.unseen portion;
+  pieces = part.pieces;
+  front = part.front;
+  refuses = part.refuses;
+  stopped = part.stopped;
+  looked = part.looked;
+}
 
--- the portion refused the stream
-pub refuses_now : (cutter : GroupCutter) (priority : Priorities) (stream : List ℕ) (pieces : List Piece) (given : List CutGroup) (scan : Scan) → ((rest : List ℕ) → Refuses (stream ++ rest) scan) → HasStopped stream scan pieces → IsFrontOf stream pieces → HasLooked cutter priority stream pieces given → IsRefused cutter priority stream given
-refuses_now cutter priority stream pieces given scan refuses stopped front looked = record {
-  never = λ rest. not_accepted priority (stream ++ rest) scan (refuses rest);
-  left = inr (record {
-    seen = stream;
-    unseen = [];
-    parts = sym (append-nil stream);
-    pieces = pieces;
-    front = front;
-    scan = scan;
-    refuses = refuses;
-    stopped = stopped;
-    looked = looked;
-  });
+-- the groups were refused before, and the scanner has read on
+stopped_more : (old new : GroupCutter) (priority : Priorities) (stream portion : List ℕ) (given : List CutGroup) (o : Option SplitFault) → is_some o ≡ true → pieces_left new ≡ 0 → MatchOption o (IsCutting old priority stream given) (λ f. IsStopped old priority stream given f) → MatchOption o (IsCutting new priority (stream ++ portion) given) (λ f. IsStopped new priority (stream ++ portion) given f)
+stopped_more old new priority stream portion given None some left state = absurd cc
+stopped_more old new priority stream portion given (Some fault) some left over = stopped_longer old new priority stream portion given fault left over
+
+pub scans_stopped : (old mid new : GroupCutter) (priority : Priorities) (stream portion : List ℕ) (given : List CutGroup) → is_some old.fault ≡ true → old.scan ≡ None → (old.scan ≡ None → (s : List ℕ) (pieces : List Piece) → HasRead old.scanner s pieces → ScansOn old.pieces.items mid s portion pieces) → new.scanner ≡ mid.scanner → new.scan ≡ mid.scan → new.fault ≡ old.fault → new.pieces.items ≡ [] → HasCut old priority stream given → HasCut new priority (stream ++ portion) given
+scans_stopped old mid new priority stream portion given some scan scans scanner same fault empty h =
+    let read = read_of old stream h.scanned scan in
+    let on = scans scan stream read.0 read.1 in
+    let none : length new.pieces.items ≡ 0 = ap length empty in
+    record {
+      scanned = same_scanned mid new (stream ++ portion) scanner same (scanned_told mid.scanner (stream ++ portion) (read.0 ++ added old.pieces.items mid.pieces.items) mid.scan on.scanned);
+      state = subst (λ o. MatchOption o (IsCutting new priority (stream ++ portion) given) (λ f. IsStopped new priority (stream ++ portion) given f)) (sym fault)
+          (stopped_more old new priority stream portion given old.fault some (omega arith) h.state);
+    }
+
+-- the stream was refused before, and goes on
+scanned_more : (o : Option Scan) (A B : Type 0) (stream portion : List ℕ) → is_some o ≡ true → MatchOption o A (λ s. (rest : List ℕ) → Refuses (stream ++ rest) s) → MatchOption o B (λ s. (rest : List ℕ) → Refuses (stream ++ portion ++ rest) s)
+scanned_more None A B stream portion is h = absurd cc
+scanned_more (Some scan) A B stream portion is h = λ rest. subst (λ w. Refuses w scan) (sym (append_assoc stream portion rest)) (h (portion ++ rest))
+
+state_more : (cutter : GroupCutter) (priority : Priorities) (stream portion : List ℕ) (given : List CutGroup) (fault : Option SplitFault) (scan : Option Scan) → is_some scan ≡ true → MatchOption fault (MatchOption scan (IsLive cutter priority stream given) (λ s. IsSeen cutter priority stream given s)) (λ f. IsStopped cutter priority stream given f)
+    → MatchOption fault (MatchOption scan (IsLive cutter priority (stream ++ portion) given) (λ s. IsSeen cutter priority (stream ++ portion) given s)) (λ f. IsStopped cutter priority (stream ++ portion) given f)
+state_more cutter priority stream portion given None None is state = absurd cc
+state_more cutter priority stream portion given None (Some scan) is part = seen_longer cutter priority stream portion given scan part
+state_more cutter priority stream portion given (Some fault) scan is over = stopped_longer cutter cutter priority stream portion given fault over.none_left over
+
+pub refused_more : (cutter : GroupCutter) (priority : Priorities) (stream portion : List ℕ) (given : List CutGroup) → is_some cutter.scan ≡ true → HasCut cutter priority stream given → HasCut cutter priority (stream ++ portion) given
+refused_more cutter priority stream portion given is h = record {
+  scanned = scanned_more cutter.scan _ _ stream portion is h.scanned;
+  state = state_more cutter priority stream portion given cutter.fault cutter.scan is h.state;
 }
 
 -- a group was given
-gives_by : (old new : GroupCutter) (group : Option CutGroup) (priority : Priorities) (stream : List ℕ) (given : List CutGroup) (b : Bool) → ((seen : List ℕ) (pieces : List Piece) → HasLooked old priority seen pieces given → HasLooked new priority seen pieces (given ++ groups_in group)) → (pieces_left old ≡ 0 → (group ≡ None) × (new ≡ old)) → new.scanner ≡ old.scanner → MatchBool b (IsRefused old priority stream given) (IsLive old priority stream given) → MatchBool b (IsRefused new priority stream (given ++ groups_in group)) (IsLive new priority stream (given ++ groups_in group))
-gives_by old new group priority stream given false looks idle scanner live = record {
+gives_by : (old new : GroupCutter) (group : Option CutGroup) (priority : Priorities) (stream : List ℕ) (given : List CutGroup) (fault : Option SplitFault) (scan : Option Scan) → ((seen : List ℕ) (pieces : List Piece) → HasLooked old priority seen pieces given → HasLooked new priority seen pieces (given ++ groups_in group)) → (pieces_left old ≡ 0 → (group ≡ None) × (new ≡ old)) → new.scanner ≡ old.scanner
+    → MatchOption fault (MatchOption scan (IsLive old priority stream given) (λ s. IsSeen old priority stream given s)) (λ f. IsStopped old priority stream given f)
+    → MatchOption fault (MatchOption scan (IsLive new priority stream (given ++ groups_in group)) (λ s. IsSeen new priority stream (given ++ groups_in group) s)) (λ f. IsStopped new priority stream (given ++ groups_in group) f)
+gives_by old new group priority stream given None None looks idle scanner live = record {
   pieces = live.pieces;
-  read = subst (λ s. HasRead s stream live.pieces) (sym scanner) live.read;
+  read = subst (λ (s : Scanner). HasRead s stream live.pieces) (sym scanner) live.read;
   front = live.front;
   looked = looks stream live.pieces live.looked;
 }
-gives_by old new group priority stream given true looks idle scanner over = record {
-  never = over.never;
-  left = elim over.left [
-    | inl none ↦
-        (let same = idle none.none_left in
-        let groups : given ≡ given ++ groups_in group = sym (ap (λ g. given ++ groups_in g) same.0 ∙ append-nil given) in
-        inl (record {
-          none_left = subst (λ n. pieces_left n ≡ 0) (sym same.1) none.none_left;
-          ended = subst (HaveEnded priority stream) groups none.ended;
-          none_further = λ rest. subst (NoneFurther priority (stream ++ rest)) groups (none.none_further rest);
-        }))
-    | inr part ↦
-        inr (record {
-          seen = part.seen;
-          unseen = part.unseen;
-          parts = part.parts;
-          pieces = part.pieces;
-          front = part.front;
-          scan = part.scan;
-          refuses = part.refuses;
-          stopped = part.stopped;
-          looked = looks part.seen part.pieces part.looked;
-        })
-  ];
+gives_by old new group priority stream given None (Some scan) looks idle scanner part = record {
+  seen = part.seen;
+  unseen = part.unseen;
+  parts = part.parts;
+  pieces = part.pieces;
+  front = part.front;
+  refuses = part.refuses;
+  stopped = part.stopped;
+  looked = looks part.seen part.pieces part.looked;
 }
+gives_by old new group priority stream given (Some fault) scan looks idle scanner over =
+    let same = idle over.none_left in
+    let groups : given ≡ given ++ groups_in group = sym (ap (λ g. given ++ groups_in g) same.0 ∙ append-nil given) in
+    record {
+      told = over.told;
+      refuses = over.refuses;
+      none_left = subst (λ n. pieces_left n ≡ 0) (sym same.1) over.none_left;
+      ended = subst (HaveEnded priority stream) groups over.ended;
+      none_further = λ rest. subst (NoneFurther priority (stream ++ rest)) groups (over.none_further rest);
+    }
 
-pub gives : (old new : GroupCutter) (group : Option CutGroup) (priority : Priorities) (stream : List ℕ) (given : List CutGroup) → ((seen : List ℕ) (pieces : List Piece) → HasLooked old priority seen pieces given → HasLooked new priority seen pieces (given ++ groups_in group)) → (pieces_left old ≡ 0 → (group ≡ None) × (new ≡ old)) → new.scanner ≡ old.scanner → new.refused ≡ old.refused → HasCut old priority stream given → HasCut new priority stream (given ++ groups_in group)
-gives old new group priority stream given looks idle scanner refused h = record {
-  state = subst (λ b. MatchBool b (IsRefused new priority stream (given ++ groups_in group)) (IsLive new priority stream (given ++ groups_in group))) (sym refused)
-      (gives_by old new group priority stream given old.refused looks idle scanner h.state);
+pub gives : (old new : GroupCutter) (group : Option CutGroup) (priority : Priorities) (stream : List ℕ) (given : List CutGroup) → ((seen : List ℕ) (pieces : List Piece) → HasLooked old priority seen pieces given → HasLooked new priority seen pieces (given ++ groups_in group)) → (pieces_left old ≡ 0 → (group ≡ None) × (new ≡ old)) → new.scanner ≡ old.scanner → new.scan ≡ old.scan → new.fault ≡ old.fault → HasCut old priority stream given → HasCut new priority stream (given ++ groups_in group)
+gives old new group priority stream given looks idle scanner scan fault h = record {
+  scanned = same_scanned old new stream scanner scan h.scanned;
+  state = subst (λ o. MatchOption o (IsCutting new priority stream (given ++ groups_in group)) (λ f. IsStopped new priority stream (given ++ groups_in group) f)) (sym fault)
+      (subst (λ o. MatchOption old.fault (MatchOption o (IsLive new priority stream (given ++ groups_in group)) (λ s. IsSeen new priority stream (given ++ groups_in group) s)) (λ f. IsStopped new priority stream (given ++ groups_in group) f)) (sym scan)
+      (gives_by old new group priority stream given old.fault old.scan looks idle scanner h.state));
 }
-
-pub none_not_some : (fault : SplitFault) → Some fault ≡ None → ⊥
-none_not_some fault e = cc
 
 -- the groups are refused
-faulty : (cutter : GroupCutter) (priority : Priorities) (seen rest : List ℕ) (pieces : List Piece) (fault : SplitFault) → IsFrontOf seen pieces → ((later : List Piece) → fault_of (layer_of priority) (length priority.layers) (groups_of (pieces ++ later)) ≡ Some fault) → IsCuttable priority (seen ++ rest) → ⊥
-faulty cutter priority seen rest pieces fault front faults cuttable =
+faulty : (priority : Priorities) (seen rest : List ℕ) (pieces : List Piece) (fault : SplitFault) → IsFrontOf seen pieces → ((later : List Piece) → fault_of (layer_of priority) (length priority.layers) (groups_of (pieces ++ later)) ≡ Some fault) → groups_fault priority (seen ++ rest) ≡ Some fault
+faulty priority seen rest pieces fault front faults =
     let all = front.front rest in
-    none_not_some fault (sym (faults all.0) ∙ (ap (λ ps. fault_of (layer_of priority) (length priority.layers) (groups_of ps)) (sym all.1) ∙ cuttable.1))
+    ap (λ ps. fault_of (layer_of priority) (length priority.layers) (groups_of ps)) all.1 ∙ faults all.0
 
-never_by : (old : GroupCutter) (priority : Priorities) (stream : List ℕ) (given : List CutGroup) (fault : SplitFault) (b : Bool) → ((seen : List ℕ) (pieces : List Piece) → HasLooked old priority seen pieces given → (later : List Piece) → fault_of (layer_of priority) (length priority.layers) (groups_of (pieces ++ later)) ≡ Some fault) → MatchBool b (IsRefused old priority stream given) (IsLive old priority stream given) → (rest : List ℕ) → IsCuttable priority (stream ++ rest) → ⊥
-never_by old priority stream given fault false faults live rest = faulty old priority stream rest live.pieces fault live.front (faults stream live.pieces live.looked)
-never_by old priority stream given fault true faults over rest = over.never rest
+faulty_by : (old : GroupCutter) (priority : Priorities) (stream : List ℕ) (given : List CutGroup) (fault : SplitFault) (o : Option SplitFault) (scan : Option Scan) → ((seen : List ℕ) (pieces : List Piece) → HasLooked old priority seen pieces given → (later : List Piece) → fault_of (layer_of priority) (length priority.layers) (groups_of (pieces ++ later)) ≡ Some fault) → (pieces_left old ≡ 0 → ⊥)
+    → MatchOption o (MatchOption scan (IsLive old priority stream given) (λ s. IsSeen old priority stream given s)) (λ f. IsStopped old priority stream given f) → (rest : List ℕ) → groups_fault priority (stream ++ rest) ≡ Some fault
+faulty_by old priority stream given fault None None faults some live rest = faulty priority stream rest live.pieces fault live.front (faults stream live.pieces live.looked)
+faulty_by old priority stream given fault None (Some scan) faults some part rest =
+    ap (λ w. groups_fault priority (w ++ rest)) part.parts
+    ∙ (ap (groups_fault priority) (append_assoc part.seen part.unseen rest)
+    ∙ faulty priority part.seen (part.unseen ++ rest) part.pieces fault part.front (faults part.seen part.pieces part.looked))
+faulty_by old priority stream given fault (Some before) scan faults some over rest = absurd (some over.none_left)
 
-pub stops : (old new : GroupCutter) (priority : Priorities) (stream : List ℕ) (given : List CutGroup) (fault : SplitFault) → ((seen : List ℕ) (pieces : List Piece) → HasLooked old priority seen pieces given → (later : List Piece) → fault_of (layer_of priority) (length priority.layers) (groups_of (pieces ++ later)) ≡ Some fault) → ((seen : List ℕ) (pieces : List Piece) → HasLooked old priority seen pieces given → HasMetLimit priority pieces given) → new.refused ≡ true → pieces_left new ≡ 0 → HasCut old priority stream given → HasCut new priority stream (given ++ [])
-stops old new priority stream given fault faults limits refused left h =
+pub stops : (old new : GroupCutter) (priority : Priorities) (stream : List ℕ) (given : List CutGroup) (fault : SplitFault) → fault ≢ split.NoMemory → ((seen : List ℕ) (pieces : List Piece) → HasLooked old priority seen pieces given → (later : List Piece) → fault_of (layer_of priority) (length priority.layers) (groups_of (pieces ++ later)) ≡ Some fault) → ((seen : List ℕ) (pieces : List Piece) → HasLooked old priority seen pieces given → HasMetLimit priority pieces given) → (pieces_left old ≡ 0 → ⊥)
+    → new.fault ≡ Some fault → pieces_left new ≡ 0 → new.scanner ≡ old.scanner → new.scan ≡ old.scan → HasCut old priority stream given → HasCut new priority stream (given ++ [])
+stops old new priority stream given fault told faults limits some kept left scanner scan h =
     subst (HasCut new priority stream) (sym (append-nil given))
-    (cut_refused new priority stream given refused (record {
-      never = never_by old priority stream given fault old.refused faults h.state;
-      left = inl (record {
-        none_left = left;
-        ended = given_ended old priority stream given h;
-        none_further = stopped_by old priority stream given old.refused limits h.state;
-      });
-    }))
+    (record {
+      scanned = same_scanned old new stream scanner scan h.scanned;
+      state = subst (λ o. MatchOption o (IsCutting new priority stream given) (λ f. IsStopped new priority stream given f)) (sym kept)
+          (record {
+            told = told;
+            refuses = faulty_by old priority stream given fault old.fault old.scan faults some h.state;
+            none_left = left;
+            ended = given_ended old priority stream given h;
+            none_further = stopped_by old priority stream given old.fault old.scan limits h.state;
+          });
+    })
+
+-- the refusal that was kept
+pub refused_before : (cutter : GroupCutter) (priority : Priorities) (stream : List ℕ) (given : List CutGroup) (scan : Scan) → cutter.scan ≡ Some scan → HasCut cutter priority stream given → IsCutFault priority stream (Stream scan)
+refused_before cutter priority stream given scan e h =
+    let all = refused_of cutter stream scan h.scanned e in
+    (subst (λ w. Refuses w scan) (append-nil stream) (all []), λ _. all)
+
+-- that of the end
+pub refused_at_end : (cutter : GroupCutter) (priority : Priorities) (stream : List ℕ) (given : List CutGroup) (scan : Scan) → cutter.scan ≡ None → ((s : List ℕ) (pieces : List Piece) → HasRead cutter.scanner s pieces → Refuses s scan) → HasCut cutter priority stream given → IsCutFault priority stream (Stream scan)
+refused_at_end cutter priority stream given scan none refuses h =
+    let read = read_of cutter stream h.scanned none in
+    let bounded = read.1.bounded in
+    (refuses stream read.0 read.1, λ long. absurd (omega (arith, bounded, long)))
+
+-- and the fault of the groups of an accepted stream
+pub groups_refused : (cutter : GroupCutter) (priority : Priorities) (stream : List ℕ) (given : List CutGroup) (fault : SplitFault) → cutter.scan ≡ None → cutter.fault ≡ Some fault → ((s : List ℕ) (pieces : List Piece) → HasRead cutter.scanner s pieces → IsAccepted s) → HasCut cutter priority stream given → IsCutFault priority stream (Groups fault)
+groups_refused cutter priority stream given fault none e accepted h =
+    let read = read_of cutter stream h.scanned none in
+    let over = stopped_of cutter priority stream given fault h e in
+    (accepted stream read.0 read.1, over.told, ap (groups_fault priority) (sym (append-nil stream)) ∙ over.refuses [])
 
 -- the stream has ended
 pub ends : (old new : GroupCutter) (priority : Priorities) (stream : List ℕ) (given : List CutGroup) (live : IsLive old priority stream given) → HasGrown old.pieces.items new.pieces.items → new.splitter ≡ old.splitter → new.from ≡ old.from → new.looked ≡ old.looked → new.held ≡ old.held → live.pieces ++ added old.pieces.items new.pieces.items ≡ pieces_of stream → StandOnEnd 0 (pieces_of stream) (length stream) → length stream ≤ max_stream → HasEnded new priority stream given

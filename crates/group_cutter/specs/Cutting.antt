@@ -1,20 +1,23 @@
 -- The groups of a stream with their bytes, and where a cutter stands that has read a stream, however that came in
 -- portions. This project's own.
-use Rattle.std.specs.Prelude.{◌≡◌, ℕ, ◌+◌, ◌-◌, ◌<◌, ◌≤◌, ◌⊎◌, false, List, [], ◌∷◌, ◌++◌, length, map, take, drop, Option, None, Some, All}
+use Rattle.std.specs.Prelude.{◌≡◌, ◌≢◌, ℕ, ◌+◌, ◌-◌, ◌<◌, ◌≤◌, false, List, [], ◌∷◌, ◌++◌, length, map, take, drop, Option, None, Some, MatchOption, All}
 use Rattle.std.specs.List.{flat_map}
-use Rattle.std.specs.Bool.{MatchBool}
 use Rattle.pet_base.specs.declared.limits.TheConstants.{MAX_GROUPS}
 use Rattle.mpeg_scan.specs.declared.piece.Piece.{Piece}
 use Rattle.mpeg_scan.specs.declared.refusal.Scan.{Scan}
 use Rattle.mpeg_scan.specs.Refusals.{IsAccepted, IsUndecided, Refuses, max_stream}
 use Rattle.mpeg_scan.specs.Pieces.{pieces_of, ended_pieces, StandOnEnd}
-use Rattle.mpeg_scan.specs.Scanning.{HasRead, HasStopped, IsFrontOf}
+use Rattle.mpeg_scan.specs.Scanning.{HasRead, HasStopped, HasGrown, IsFrontOf, added}
 use Rattle.priority_file.specs.Priority.{Priorities, layer_of}
+use Rattle.layer_split.specs.declared.fault.SplitFault.{SplitFault}
+use Rattle.layer_split.specs.declared.fault.SplitFault.TheVariants as split
 use Rattle.layer_split.specs.Groups.{groups_of, ended_groups}
 use Rattle.layer_split.specs.Layers.{Cut, cut_of}
 use Rattle.layer_split.specs.Faults.{fault_of, is_too_long}
 use Rattle.layer_split.specs.Splitting.{HasAdded, IsOneTooMany, rebased}
 use Rattle.group_cutter.specs.CutGroups.{CutGroup}
+use Rattle.group_cutter.specs.declared.fault.CutFault.{CutFault}
+use Rattle.group_cutter.specs.declared.fault.CutFault.TheVariants.{Stream, Groups, NoMemory}
 use Rattle.group_cutter.specs.declared.groups.GroupCutter.{GroupCutter}
 
 -- the bytes of a group's pieces
@@ -43,10 +46,20 @@ abbrev pub groups_in : Option CutGroup → List CutGroup
 groups_in None = []
 groups_in (Some group) = group ∷ []
 
+-- why the stream's groups are refused
+abbrev pub groups_fault : Priorities → List ℕ → Option SplitFault
+groups_fault priority stream = fault_of (layer_of priority) (length priority.layers) (groups_of (pieces_of stream))
+
 -- neither the stream nor its groups are refused
 abbrev pub IsCuttable : Priorities → List ℕ → Type 0
-IsCuttable priority stream =
-    IsAccepted stream × (fault_of (layer_of priority) (length priority.layers) (groups_of (pieces_of stream)) ≡ None)
+IsCuttable priority stream = IsAccepted stream × (groups_fault priority stream ≡ None)
+
+-- Why the stream is not cut: its refusal, which holds however it goes on where it is too long already, or else that of
+-- its groups. Want of memory says nothing.
+abbrev pub IsCutFault : Priorities → List ℕ → CutFault → Type 0
+IsCutFault priority stream (Stream scan) = Refuses stream scan × (max_stream < length stream → (rest : List ℕ) → Refuses (stream ++ rest) scan)
+IsCutFault priority stream (Groups fault) = IsAccepted stream × (fault ≢ split.NoMemory) × (groups_fault priority stream ≡ Some fault)
+IsCutFault priority stream NoMemory = Unit {0}
 
 -- these are all groups of the stream, of which nothing is refused
 pub record AreAll (priority : Priorities) (stream : List ℕ) (groups : List CutGroup) : Type 0 where
@@ -86,14 +99,13 @@ pub record IsLive (cutter : GroupCutter) (priority : Priorities) (stream : List 
   pub front : IsFrontOf stream pieces
   pub looked : HasLooked cutter priority stream pieces given
 
--- a front of the stream was seen, by which the stream is refused, and its pieces are looked at
-pub record IsSeen (cutter : GroupCutter) (priority : Priorities) (stream : List ℕ) (given : List CutGroup) : Type 0 where
+-- a front of the stream was seen, by which the stream is refused so, and its pieces are looked at
+pub record IsSeen (cutter : GroupCutter) (priority : Priorities) (stream : List ℕ) (given : List CutGroup) (scan : Scan) : Type 0 where
   pub seen : List ℕ
   pub unseen : List ℕ
   pub parts : stream ≡ seen ++ unseen
   pub pieces : List Piece
   pub front : IsFrontOf seen pieces
-  pub scan : Scan
   pub refuses : (rest : List ℕ) → Refuses (seen ++ rest) scan
   pub stopped : HasStopped seen scan pieces
   pub looked : HasLooked cutter priority seen pieces given
@@ -129,20 +141,29 @@ pub record HasMetLimit (priority : Priorities) (pieces : List Piece) (given : Li
 abbrev pub AreFirst : Priorities → List ℕ → List CutGroup → Type 0
 AreFirst priority stream groups = (rest : List ℕ) → (later : List CutGroup) × (cut_groups priority (stream ++ rest) ≡ groups ++ later)
 
--- the groups are refused, and of those that had ended before none is left
-pub record IsStopped (cutter : GroupCutter) (priority : Priorities) (stream : List ℕ) (given : List CutGroup) : Type 0 where
+-- the groups are refused so, however the stream goes on, and of those that had ended before none is left
+pub record IsStopped (cutter : GroupCutter) (priority : Priorities) (stream : List ℕ) (given : List CutGroup) (fault : SplitFault) : Type 0 where
+  pub told : fault ≢ split.NoMemory
+  pub refuses : (rest : List ℕ) → groups_fault priority (stream ++ rest) ≡ Some fault
   pub none_left : pieces_left cutter ≡ 0
   pub ended : HaveEnded priority stream given
   pub none_further : (rest : List ℕ) → NoneFurther priority (stream ++ rest) given
 
--- the stream or its groups are refused, however it goes on
-pub record IsRefused (cutter : GroupCutter) (priority : Priorities) (stream : List ℕ) (given : List CutGroup) : Type 0 where
-  pub never : (rest : List ℕ) → IsCuttable priority (stream ++ rest) → ⊥
-  pub left : IsStopped cutter priority stream given ⊎ IsSeen cutter priority stream given
+-- Once the stream is refused it is so however it goes on; until then the scanner has read all of it, also where the
+-- groups are refused.
+abbrev pub HasScanned : GroupCutter → List ℕ → Type 0
+HasScanned cutter stream =
+    MatchOption cutter.scan ((pieces : List Piece) × HasRead cutter.scanner stream pieces) (λ scan. (rest : List ℕ) → Refuses (stream ++ rest) scan)
+
+-- the groups are not refused so far
+abbrev pub IsCutting : GroupCutter → Priorities → List ℕ → List CutGroup → Type 0
+IsCutting cutter priority stream given =
+    MatchOption cutter.scan (IsLive cutter priority stream given) (λ scan. IsSeen cutter priority stream given scan)
 
 -- The cutter for this priority has read the stream, and has given these groups.
 pub record HasCut (cutter : GroupCutter) (priority : Priorities) (stream : List ℕ) (given : List CutGroup) : Type 0 where
-  pub state : MatchBool cutter.refused (IsRefused cutter priority stream given) (IsLive cutter priority stream given)
+  pub scanned : HasScanned cutter stream
+  pub state : MatchOption cutter.fault (IsCutting cutter priority stream given) (λ fault. IsStopped cutter priority stream given fault)
 
 -- the stream has ended with these pieces, of which nothing is refused
 pub record HasEnded (cutter : GroupCutter) (priority : Priorities) (stream : List ℕ) (given : List CutGroup) : Type 0 where
@@ -150,13 +171,30 @@ pub record HasEnded (cutter : GroupCutter) (priority : Priorities) (stream : Lis
   pub bounded : length stream ≤ max_stream
   pub looked : HasLooked cutter priority stream (pieces_of stream) given
 
+-- what the reading of a portion leaves alone, but for the scanner, which appends pieces
+pub record KeepsHeld (old new : GroupCutter) : Type 0 where
+  pub splitter : new.splitter ≡ old.splitter
+  pub held : new.held ≡ old.held
+  pub from : new.from ≡ old.from
+  pub looked : new.looked ≡ old.looked
+  pub fault : new.fault ≡ old.fault
+  pub grows : HasGrown old.pieces.items new.pieces.items
+
+-- The scanner, which had given these pieces of the stream, has read the portion too, and appended further pieces to those
+-- that the cutter had before; or the portion refuses the stream.
+pub record ScansOn (before : List Piece) (cutter : GroupCutter) (stream portion : List ℕ) (pieces : List Piece) : Type 0 where
+  pub front : IsFrontOf (stream ++ portion) (pieces ++ added before cutter.pieces.items)
+  pub scanned : MatchOption cutter.scan (HasRead cutter.scanner (stream ++ portion) (pieces ++ added before cutter.pieces.items))
+      (λ scan. ((rest : List ℕ) → Refuses (stream ++ portion ++ rest) scan) × HasStopped (stream ++ portion) scan (pieces ++ added before cutter.pieces.items))
+
 -- what letting go of pieces leaves alone
 pub record KeepsPending (old new : GroupCutter) : Type 0 where
   pub scanner : new.scanner ≡ old.scanner
   pub splitter : new.splitter ≡ old.splitter
   pub held : new.held ≡ old.held
   pub from : new.from ≡ old.from
-  pub refused : new.refused ≡ old.refused
+  pub scan : new.scan ≡ old.scan
+  pub fault : new.fault ≡ old.fault
   pub pending : pending new ≡ pending old
   pub some : old.looked ≤ length old.pieces.items → new.looked ≤ length new.pieces.items
 
@@ -166,7 +204,8 @@ pub record KeepsPieces (old new : GroupCutter) : Type 0 where
   pub splitter : new.splitter ≡ old.splitter
   pub pieces : new.pieces ≡ old.pieces
   pub looked : new.looked ≡ old.looked
-  pub refused : new.refused ≡ old.refused
+  pub scan : new.scan ≡ old.scan
+  pub fault : new.fault ≡ old.fault
 
 -- the group of this cut, where there is one, has the bytes that were held before this byte of the stream
 abbrev pub Ends : GroupCutter → GroupCutter → Option Cut → ℕ → Option CutGroup → Type 0

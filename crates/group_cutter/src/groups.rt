@@ -1,16 +1,20 @@
 //! The groups of a stream with their bytes, one by one.
-ghost use Rattle.std.specs.Prelude.{◌≡◌, ◌≢◌, ◌-◌, ◌<◌, ◌≤◌, ◌++◌, ◌∷◌, ℕ, List, [], All, length, map, take, drop, true, OnOk, IfOk, IfErr, IfSome, IfNone, IsSome, Ok, Some, None};
+ghost use Rattle.std.specs.Prelude.{◌≡◌, ◌≢◌, ◌-◌, ◌<◌, ◌≤◌, ◌++◌, ◌∷◌, ℕ, List, [], All, length, map, take, drop, OnOk, OnErr, IfOk, IfErr, IfNone, IsSome, Ok, Some, None};
 ghost use Rattle.mpeg_scan.specs.declared.piece.Piece.{Piece};
 ghost use Rattle.mpeg_scan.specs.Pieces.{pieces_of};
 ghost use Rattle.mpeg_scan.specs.declared.refusal.Scan.{Scan};
+ghost use Rattle.mpeg_scan.specs.Refusals.{IsAccepted};
+ghost use Rattle.mpeg_scan.specs.Scanning.{HasRead};
 ghost use Rattle.priority_file.specs.Priority.{Priorities, layer_of};
 ghost use Rattle.layer_split.specs.declared.fault.SplitFault.{SplitFault};
 ghost use Rattle.layer_split.specs.Groups.{groups_of};
 ghost use Rattle.layer_split.specs.Faults.{fault_of};
 ghost use Rattle.layer_split.specs.Splitting.{rebased};
 ghost use Rattle.group_cutter.specs.CutGroups.{CutGroup};
-ghost use Rattle.group_cutter.specs.Cutting.{HasCut, HasLooked, HasEnded, AreAll, IsCuttable, NoneFurther, HasMetLimit, KeepsPieces, KeepsPending, Ends, cut_groups, group_from, groups_in, pieces_left};
+ghost use Rattle.group_cutter.specs.declared.fault.CutFault.{CutFault};
+ghost use Rattle.group_cutter.specs.Cutting.{HasCut, HasLooked, HasEnded, AreAll, IsCutFault, NoneFurther, HasMetLimit, KeepsHeld, KeepsPieces, KeepsPending, ScansOn, Ends, cut_groups, groups_fault, group_from, groups_in, pieces_left};
 
+use crate::fault::CutFault;
 use layer_split::{GroupCut, SplitFault, Splitter};
 use mpeg_scan::{Piece, Scan, Scanner};
 use pet_base::NoMemory;
@@ -50,8 +54,10 @@ pub struct GroupCutter {
     held: Vec<u8>,
     /// Where in the stream they begin.
     from: u64,
-    /// The stream or its groups are refused, and no more of it is read.
-    refused: bool,
+    /// Why the stream is refused. No more of it is read then.
+    scan: Option<Scan>,
+    /// Why its groups are refused. Nothing is held then, and the stream is only scanned.
+    fault: Option<SplitFault>,
 }
 
 impl GroupCutter {
@@ -68,28 +74,28 @@ impl GroupCutter {
             looked: 0,
             held: Vec::new(alloc),
             from: 0,
-            refused: false,
+            scan: None,
+            fault: None,
         })
     }
 
-    /// Reads the next portion of the stream. A refusal of the stream is kept until the end; no more is read then.
+    /// Reads the next portion of the stream. A refusal of the stream is kept until the end; no more is read then. Where the
+    /// groups are refused, the stream is only scanned.
     pub fn feed(&mut self, portion: &[u8]) -> Result<(), NoMemory>
         ensures { OnOk result ((priority : Priorities) (stream : List ℕ) (given : List CutGroup) → HasCut self.old priority stream given
             → HasCut self.new priority (stream ++ portion.now) given) }
     {
-        if self.refused {
+        if self.scan.is_some() {
+            return Ok(());
+        }
+        if self.fault.is_some() {
+            self.scan_on(portion)?;
+            self.pieces.clear();
             return Ok(());
         }
         self.forget_looked();
         self.held.extend_from_slice(portion)?;
-        match self.scanner.feed(portion, &mut self.pieces) {
-            Ok(()) => Ok(()),
-            Err(scan) => {
-                pass_on_scan(scan)?;
-                self.refused = true;
-                Ok(())
-            }
-        }
+        self.scan_on(portion)
     }
 
     /// The next group that has ended, and `None` where none has.
@@ -107,34 +113,58 @@ impl GroupCutter {
             Ok(group) => Ok(group),
             Err(fault) => {
                 pass_on_fault(fault)?;
-                self.stop();
+                self.stop(fault);
                 Ok(None)
             }
         }
     }
 
-    /// Ends the stream: the groups that were not given yet, the last of the stream among them, or `None` where the stream
-    /// or its groups are refused. It is called once and last.
+    /// Ends the stream: the groups that were not given yet, the last of the stream among them. It is called once and last.
     ///
     /// Where `next` gave all it could, they are two at most: the stream's last piece can end a group and be the next.
-    pub fn finish(&mut self) -> Result<Option<Vec<Group>>, NoMemory>
-        ensures whole { IfOk result (λ groups. IfSome groups (λ left. (priority : Priorities) (stream : List ℕ) (given : List CutGroup)
-            → HasCut self.old priority stream given → AreAll priority stream (given ++ left.items))) }
-        ensures refused { IfOk result (λ groups. IfNone groups ((priority : Priorities) (stream : List ℕ) (given : List CutGroup)
-            → HasCut self.old priority stream given → IsCuttable priority stream → ⊥)) }
+    ///
+    /// # Errors
+    ///
+    /// The refusal of the stream, or else that of its groups.
+    pub fn finish(&mut self) -> Result<Vec<Group>, CutFault>
+        ensures whole { IfOk result (λ left. (priority : Priorities) (stream : List ℕ) (given : List CutGroup)
+            → HasCut self.old priority stream given → AreAll priority stream (given ++ left.items)) }
+        ensures refused { IfErr result (λ fault. (priority : Priorities) (stream : List ℕ) (given : List CutGroup)
+            → HasCut self.old priority stream given → IsCutFault priority stream fault) }
         // Where all that was read was looked at, every group that had ended before the refusal was given.
-        ensures further { IfOk result (λ groups. IfNone groups ((priority : Priorities) (stream : List ℕ) (given : List CutGroup)
-            → HasCut self.old priority stream given → pieces_left self.old ≡ 0 → NoneFurther priority stream given)) }
+        ensures further { OnErr result ((priority : Priorities) (stream : List ℕ) (given : List CutGroup) → HasCut self.old priority stream given
+            → pieces_left self.old ≡ 0 → NoneFurther priority stream given) }
     {
-        if self.refused {
-            return Ok(None);
+        if let Some(scan) = self.scan {
+            return Err(CutFault::Stream(scan));
         }
         match self.scanner.finish(&mut self.pieces) {
-            Ok(()) => self.last_groups(),
-            Err(scan) => {
-                pass_on_scan(scan)?;
-                Ok(None)
-            }
+            Ok(()) => match self.fault {
+                Some(fault) => Err(CutFault::Groups(fault)),
+                None => self.last_groups(),
+            },
+            Err(scan) => match scan {
+                Scan::NoMemory => Err(CutFault::NoMemory),
+                _ => Err(CutFault::Stream(scan)),
+            },
+        }
+    }
+
+    /// Hands the portion to the scanner, and keeps its refusal.
+    fn scan_on(&mut self, portion: &[u8]) -> Result<(), NoMemory>
+        ensures scans { OnOk result (self.old.scan ≡ None → (stream : List ℕ) (pieces : List Piece) → HasRead self.old.scanner stream pieces
+            → ScansOn self.old.pieces.items self.new stream portion.now pieces) }
+        ensures rest { KeepsHeld self.old self.new }
+    {
+        match self.scanner.feed(portion, &mut self.pieces) {
+            Ok(()) => Ok(()),
+            Err(scan) => match scan {
+                Scan::NoMemory => Err(NoMemory),
+                _ => {
+                    self.scan = Some(scan);
+                    Ok(())
+                }
+            },
         }
     }
 
@@ -148,14 +178,16 @@ impl GroupCutter {
         }
     }
 
-    /// Reads no more, and holds nothing.
-    fn stop(&mut self)
-        ensures { (self.new.refused ≡ true) × (pieces_left self.new ≡ 0) }
+    /// Keeps why the groups are refused, and holds nothing of the stream.
+    fn stop(&mut self, fault: SplitFault)
+        ensures kept { self.new.fault ≡ Some fault }
+        ensures none_left { pieces_left self.new ≡ 0 }
+        ensures rest { (self.new.scanner ≡ self.old.scanner) × (self.new.scan ≡ self.old.scan) }
     {
         self.pieces.clear();
         self.looked = 0;
         self.held.clear();
-        self.refused = true;
+        self.fault = Some(fault);
     }
 
     /// Looks at pieces until a group has ended, or none is left.
@@ -171,8 +203,8 @@ impl GroupCutter {
             → pieces_left self.new < pieces_left self.old) }
         ensures done { IfOk result (λ group. IfNone group (pieces_left self.new ≡ 0)) }
         ensures idle { pieces_left self.old ≡ 0 → (result ≡ Ok None) × (self.new ≡ self.old) }
-        ensures rest { (self.new.scanner ≡ self.old.scanner)
-            × (self.new.refused ≡ self.old.refused) }
+        ensures rest { (self.new.scanner ≡ self.old.scanner) × (self.new.scan ≡ self.old.scan)
+            × (self.new.fault ≡ self.old.fault) }
     {
         while self.looked < self.pieces.len() {
             if let Some(group) = self.look()? {
@@ -193,8 +225,8 @@ impl GroupCutter {
         ensures limit { IfErr result (λ fault. fault ≢ SplitFault.NoMemory → (priority : Priorities) (seen : List ℕ) (pieces : List Piece) (given : List CutGroup)
             → HasLooked self.old priority seen pieces given → HasMetLimit priority pieces given) }
         ensures fewer { OnOk result (pieces_left self.new < pieces_left self.old) }
-        ensures rest { (self.new.scanner ≡ self.old.scanner)
-            × (self.new.refused ≡ self.old.refused) }
+        ensures rest { (self.new.scanner ≡ self.old.scanner) × (self.new.scan ≡ self.old.scan)
+            × (self.new.fault ≡ self.old.fault) }
     {
         let piece = self.pieces[self.looked];
         self.looked += 1;
@@ -202,22 +234,20 @@ impl GroupCutter {
         self.end_group(cut, piece.at)
     }
 
-    /// Ends the stream's groups: those that are left, or `None` where the groups are refused.
-    fn last_groups(&mut self) -> Result<Option<Vec<Group>>, NoMemory>
-        ensures whole { IfOk result (λ groups. IfSome groups (λ left. (priority : Priorities) (stream : List ℕ) (given : List CutGroup)
-            → HasEnded self.old priority stream given → (given ++ left.items ≡ cut_groups priority stream)
-            × (fault_of (layer_of priority) (length priority.layers) (groups_of (pieces_of stream)) ≡ None))) }
-        ensures refused { IfOk result (λ groups. IfNone groups ((priority : Priorities) (stream : List ℕ) (given : List CutGroup)
-            → HasEnded self.old priority stream given
-            → fault_of (layer_of priority) (length priority.layers) (groups_of (pieces_of stream)) ≢ None)) }
+    /// Ends the stream's groups: those that are left.
+    fn last_groups(&mut self) -> Result<Vec<Group>, CutFault>
+        ensures whole { IfOk result (λ left. (priority : Priorities) (stream : List ℕ) (given : List CutGroup) → HasEnded self.old priority stream given
+            → (given ++ left.items ≡ cut_groups priority stream) × (groups_fault priority stream ≡ None)) }
+        ensures refused { IfErr result (λ fault. (priority : Priorities) (stream : List ℕ) (given : List CutGroup) → HasEnded self.old priority stream given
+            → IsAccepted stream → IsCutFault priority stream fault) }
     {
         let mut groups = Vec::new(self.alloc);
         match self.end_groups(&mut groups) {
-            Ok(()) => Ok(Some(groups)),
-            Err(fault) => {
-                pass_on_fault(fault)?;
-                Ok(None)
-            }
+            Ok(()) => Ok(groups),
+            Err(fault) => match fault {
+                SplitFault::NoMemory => Err(CutFault::NoMemory),
+                _ => Err(CutFault::Groups(fault)),
+            },
         }
     }
 
@@ -225,10 +255,10 @@ impl GroupCutter {
     fn end_groups(&mut self, groups: &mut Vec<Group>) -> Result<(), SplitFault>
         ensures whole { OnOk result ((priority : Priorities) (stream : List ℕ) (given : List CutGroup)
             → HasEnded self.old priority stream (given ++ groups.old.items) → (given ++ groups.new.items ≡ cut_groups priority stream)
-            × (fault_of (layer_of priority) (length priority.layers) (groups_of (pieces_of stream)) ≡ None)) }
+            × (groups_fault priority stream ≡ None)) }
         ensures fault { IfErr result (λ fault. fault ≢ SplitFault.NoMemory → (priority : Priorities) (stream : List ℕ) (given : List CutGroup)
             → HasEnded self.old priority stream (given ++ groups.old.items)
-            → fault_of (layer_of priority) (length priority.layers) (groups_of (pieces_of stream)) ≡ Some fault) }
+            → groups_fault priority stream ≡ Some fault) }
     {
         while self.looked < self.pieces.len() {
             let group = self.look()?;
@@ -242,10 +272,10 @@ impl GroupCutter {
     fn last_group(&mut self) -> Result<Option<Group>, SplitFault>
         ensures whole { IfOk result (λ group. (priority : Priorities) (stream : List ℕ) (given : List CutGroup)
             → HasEnded self.old priority stream given → pieces_left self.old ≡ 0 → (given ++ groups_in group ≡ cut_groups priority stream)
-            × (fault_of (layer_of priority) (length priority.layers) (groups_of (pieces_of stream)) ≡ None)) }
+            × (groups_fault priority stream ≡ None)) }
         ensures fault { IfErr result (λ fault. fault ≢ SplitFault.NoMemory → (priority : Priorities) (stream : List ℕ) (given : List CutGroup)
             → HasEnded self.old priority stream given → pieces_left self.old ≡ 0
-            → fault_of (layer_of priority) (length priority.layers) (groups_of (pieces_of stream)) ≡ Some fault) }
+            → groups_fault priority stream ≡ Some fault) }
     {
         let cut = self.splitter.finish()?;
         let end = self.from.saturating_add(self.held.len() as u64);
@@ -294,17 +324,7 @@ fn rebase(cut: &mut GroupCut, from: u64)
     }
 }
 
-/// Passes want of memory on: any other answer is a refusal of the stream.
-fn pass_on_scan(scan: Scan) -> Result<(), NoMemory>
-    ensures { OnOk result (scan ≢ Scan.NoMemory) }
-{
-    match scan {
-        Scan::NoMemory => Err(NoMemory),
-        _ => Ok(()),
-    }
-}
-
-/// The same of a fault of the groups.
+/// Passes want of memory on: any other answer is a fault of the groups.
 fn pass_on_fault(fault: SplitFault) -> Result<(), NoMemory>
     ensures { OnOk result (fault ≢ SplitFault.NoMemory) }
 {

@@ -5,3 +5,4 @@ pub mod OneGroupMore
 pub mod Planned
 pub mod Passed
 pub mod Sourced
+pub mod KeptInOrder

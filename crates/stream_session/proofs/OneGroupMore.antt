@@ -6,7 +6,7 @@ use Rattle.std.proofs.lemmas.Iterator.Adapters.{position_from-zero}
 use Rattle.std.proofs.lemmas.Bool.{cond-true, cond-false, cases_Bool}
 use Rattle.priority_file.specs.Priority.{Priorities}
 use Rattle.layer_split.specs.Layers.{Cut}
-use Rattle.stream_session.specs.declared.planner.Planner.{Planner}
+use Rattle.stream_session.specs.declared.group_tables.GroupTables.{GroupTables}
 use Rattle.stream_session.specs.Tables.{table_of, tables_of}
 use Rattle.stream_session.specs.Refusals.{is_wide}
 use Rattle.stream_session.specs.Planning.{HasTables, AreOf}
@@ -42,7 +42,7 @@ wide_if priority cut none = elim (cases_Bool (is_wide priority cut)) [
   | inr e ↦ absurd (some_not_none (table_of priority cut) (sym (none ∙ cond-false (is_wide priority cut) None (Some (table_of priority cut)) e)))
 ]
 
-pub keeps_wide : (old new : Planner) (priority : Priorities) (cuts : List Cut) (cut : Cut) (group : ℕ) → new.needs ≡ old.needs → new.wide ≡ Some group → group ≡ length cuts → old.wide ≡ None → None ≡ (if is_wide priority cut then None else Some (table_of priority cut)) → HasTables old priority cuts → HasTables new priority (cuts ++ cut ∷ [])
+pub keeps_wide : (old new : GroupTables) (priority : Priorities) (cuts : List Cut) (cut : Cut) (group : ℕ) → new.needs ≡ old.needs → new.wide ≡ Some group → group ≡ length cuts → old.wide ≡ None → None ≡ (if is_wide priority cut then None else Some (table_of priority cut)) → HasTables old priority cuts → HasTables new priority (cuts ++ cut ∷ [])
 keeps_wide old new priority cuts cut group needs wide number none made h =
     let k : group ≡ 0 + length cuts = omega arith in
     record {

@@ -12,6 +12,7 @@ use Rattle.layer_split.specs.Layers.{Cut}
 use Rattle.layer_split.specs.Faults.{is_too_long, fault_of}
 use Rattle.layer_split.specs.Splitting.{HasAdded, cuts_of, cuts_in}
 use Rattle.stream_session.specs.declared.fault.SessionFault.{SessionFault}
+use Rattle.stream_session.specs.declared.group_tables.GroupTables.{GroupTables}
 use Rattle.stream_session.specs.declared.planner.Planner.{Planner}
 use Rattle.stream_session.specs.Tables.{tables_of, IsFit}
 use Rattle.stream_session.specs.Refusals.{cost_in, first_above, large_fault, size_fault, fault_after, fault_of_cuts, session_fault}
@@ -25,7 +26,7 @@ some_not_none x e = cc
 abbrev IsShort : Priorities → List Piece → Type 0
 IsShort priority group = is_too_long (layer_of priority) (length priority.layers) group ≡ false
 
-behind : {A : Type 0} (Fact : A → Type 0) (front rest : List A) → All Fact (front ++ rest) → All Fact rest
+pub behind : {A : Type 0} (Fact : A → Type 0) (front rest : List A) → All Fact (front ++ rest) → All Fact rest
 behind Fact [] rest h = h
 behind Fact (x ∷ front) rest h = behind Fact front rest (λ k d lt. h (suc k) d (omega arith))
 
@@ -47,8 +48,8 @@ costs_same : (priority : Priorities) (cuts : List Cut) → map table_cost (table
 costs_same priority [] = refl
 costs_same priority (cut ∷ cuts) = ap (λ ns. cost_in priority cut ∷ ns) (costs_same priority cuts)
 
-pub judged_large : (planner : Planner) (priority : Priorities) (cuts : List Cut) (large : Option ℕ) → planner.wide ≡ None → large ≡ first_above MAX_SESSION 0 (map table_cost planner.tables.items) → HasTables planner priority cuts → fault_of_cuts priority cuts ≡ large_fault large
-judged_large planner priority cuts large none is h =
+pub judged_large : (kept : GroupTables) (priority : Priorities) (cuts : List Cut) (large : Option ℕ) → kept.wide ≡ None → large ≡ first_above MAX_SESSION 0 (map table_cost kept.tables.items) → HasTables kept priority cuts → fault_of_cuts priority cuts ≡ large_fault large
+judged_large kept priority cuts large none is h =
     ap (λ o. size_fault o (first_above MAX_SESSION 0 (map (cost_in priority) cuts))) (sym h.wide ∙ none)
     ∙ sym (ap large_fault (is ∙ ap (first_above MAX_SESSION 0) (ap (map table_cost) (h.tables none) ∙ costs_same priority cuts)))
 
@@ -67,13 +68,13 @@ fault_judged priority pieces cuts o none is judged =
 abbrev Adds : Splitter → Splitter → Piece → Option Cut → Type 0
 Adds old new piece cut = (priority : Priorities) (pieces : List Piece) (cuts : List Cut) → HasAdded old priority pieces cuts → HasAdded new priority (pieces ++ piece ∷ []) (cuts ++ cuts_in cut)
 
-abbrev Keeps : Planner → Planner → Option Cut → Type 0
+abbrev Keeps : GroupTables → GroupTables → Option Cut → Type 0
 Keeps old new cut = (priority : Priorities) (cuts : List Cut) → length cuts < MAX_GROUPS → All (IsFit priority) (cuts_in cut) → HasTables old priority cuts → HasTables new priority (cuts ++ cuts_in cut)
 
-pub keeps_some : (old new : Planner) (told : Option Cut) (cut : Cut) → told ≡ Some cut → ((priority : Priorities) (cuts : List Cut) → length cuts < MAX_GROUPS → IsFit priority cut → HasTables old priority cuts → HasTables new priority (cuts ++ cut ∷ [])) → Keeps old new told
+pub keeps_some : (old new : GroupTables) (told : Option Cut) (cut : Cut) → told ≡ Some cut → ((priority : Priorities) (cuts : List Cut) → length cuts < MAX_GROUPS → IsFit priority cut → HasTables old priority cuts → HasTables new priority (cuts ++ cut ∷ [])) → Keeps old new told
 keeps_some old new told cut is one = subst (Keeps old new) (sym is) (λ priority cuts few fit h. one priority cuts few (fit 0 cut (omega arith)) h)
 
-pub stays_live : (old new : Planner) (splitter : Splitter) (piece : Piece) (cut : Option Cut) → is_some old.refused ≡ false → Adds old.splitter splitter piece cut → KeepsRest (record old { splitter = splitter }) new → Keeps (record old { splitter = splitter }) new cut → (priority : Priorities) (pieces : List Piece) → HasPlanned old priority pieces → HasPlanned new priority (pieces ++ piece ∷ [])
+pub stays_live : (old new : Planner) (splitter : Splitter) (piece : Piece) (cut : Option Cut) → is_some old.refused ≡ false → Adds old.splitter splitter piece cut → KeepsRest (record old { splitter = splitter }) new → Keeps old.tables new.tables cut → (priority : Priorities) (pieces : List Piece) → HasPlanned old priority pieces → HasPlanned new priority (pieces ++ piece ∷ [])
 stays_live old new splitter piece cut live adds rest keeps priority pieces (inr h) = absurd (both_ways (is_some old.refused) live h.some)
 stays_live old new splitter piece cut live adds rest keeps priority pieces (inl h) =
     let added = adds priority pieces h.cuts h.added in
@@ -82,7 +83,7 @@ stays_live old new splitter piece cut live adds rest keeps priority pieces (inl 
       cuts = h.cuts ++ cuts_in cut;
       none = rest.refused ∙ h.none;
       added = subst (λ s. HasAdded s priority (pieces ++ piece ∷ []) (h.cuts ++ cuts_in cut)) (sym rest.splitter) added;
-      kept = keeps priority h.cuts (few_cuts old.splitter priority pieces h.cuts h.added) fit (record { needs = h.kept.needs; wide = h.kept.wide; tables = h.kept.tables });
+      kept = keeps priority h.cuts (few_cuts old.splitter priority pieces h.cuts h.added) fit h.kept;
     })
 
 pub becomes_refused : (old new : Planner) (piece : Piece) (fault : SplitFault) → is_some old.refused ≡ false → HasRefused new fault → ((priority : Priorities) (pieces : List Piece) (cuts : List Cut) → HasAdded old.splitter priority pieces cuts → (later : List Piece) → fault_of (layer_of priority) (length priority.layers) (groups_of (pieces ++ piece ∷ later)) ≡ Some fault) → (priority : Priorities) (pieces : List Piece) → HasPlanned old priority pieces → HasPlanned new priority (pieces ++ piece ∷ [])
@@ -109,22 +110,22 @@ live_of planner priority pieces none (inr h) = absurd (told planner.refused none
     told (Some fault) none some = none fault refl
 
 -- what holds for the last cut, at the end of a live planner
-pub record AtEnd (planner : Planner) (splitter : Splitter) (cut : Option Cut) (priority : Priorities) (pieces : List Piece) : Type 0 where
+pub record AtEnd (planner : Planner) (cut : Option Cut) (priority : Priorities) (pieces : List Piece) : Type 0 where
   pub cuts : List Cut
   pub few : length cuts < MAX_GROUPS
   pub fit : All (IsFit priority) (cuts_in cut)
-  pub kept : HasTables (record planner { splitter = splitter }) priority cuts
+  pub kept : HasTables planner.tables priority cuts
   pub none : fault_of (layer_of priority) (length priority.layers) (groups_of pieces) ≡ None
   pub all : cuts ++ cuts_in cut ≡ cuts_of priority (groups_of pieces)
 
-pub at_end : (planner : Planner) (splitter : Splitter) (cut : Option Cut) (priority : Priorities) (pieces : List Piece) → ((priority : Priorities) (pieces : List Piece) (cuts : List Cut) → HasAdded planner.splitter priority pieces cuts → (cuts ++ cuts_in cut ≡ cuts_of priority (groups_of pieces)) × (fault_of (layer_of priority) (length priority.layers) (groups_of pieces) ≡ None)) → IsLive planner priority pieces → AtEnd planner splitter cut priority pieces
-at_end planner splitter cut priority pieces ends h =
+pub at_end : (planner : Planner) (cut : Option Cut) (priority : Priorities) (pieces : List Piece) → ((priority : Priorities) (pieces : List Piece) (cuts : List Cut) → HasAdded planner.splitter priority pieces cuts → (cuts ++ cuts_in cut ≡ cuts_of priority (groups_of pieces)) × (fault_of (layer_of priority) (length priority.layers) (groups_of pieces) ≡ None)) → IsLive planner priority pieces → AtEnd planner cut priority pieces
+at_end planner cut priority pieces ends h =
     let (all, none) = ends priority pieces h.cuts h.added in
     record {
       cuts = h.cuts;
       few = few_cuts planner.splitter priority pieces h.cuts h.added;
       fit = last_fits priority h.cuts (cuts_in cut) (groups_of pieces) all (all_short priority (groups_of pieces) none);
-      kept = record { needs = h.kept.needs; wide = h.kept.wide; tables = h.kept.tables };
+      kept = h.kept;
       none = none;
       all = all;
     }

@@ -10,6 +10,7 @@ use Rattle.layer_split.specs.Layers.{Cut}
 use Rattle.layer_split.specs.Splitting.{HasAdded}
 use Rattle.pet_encode.specs.Session.{cost_of}
 use Rattle.stream_session.specs.declared.fault.SessionFault.{SessionFault}
+use Rattle.stream_session.specs.declared.group_tables.GroupTables.{GroupTables}
 use Rattle.stream_session.specs.declared.needs.LayerNeeds.{LayerNeeds}
 use Rattle.stream_session.specs.declared.planner.Planner.{Planner}
 use Rattle.stream_session.specs.Tables.{tables_of}
@@ -26,11 +27,11 @@ pub record AreOf (held : LayerNeeds) (priority : Priorities) : Type 0 where
   pub few : length priority.layers ≤ MAX_LAYERS
   pub bounds : is_priority priority ≡ true
 
--- the planner keeps the first of these cuts that is too wide, and while there is none the tables of all
-pub record HasTables (planner : Planner) (priority : Priorities) (cuts : List Cut) : Type 0 where
-  pub needs : AreOf planner.needs priority
-  pub wide : planner.wide ≡ position (is_wide priority) cuts
-  pub tables : planner.wide ≡ None → planner.tables.items ≡ tables_of priority cuts
+-- these are the first of the cuts that is too wide, and while there is none the tables of all
+pub record HasTables (kept : GroupTables) (priority : Priorities) (cuts : List Cut) : Type 0 where
+  pub needs : AreOf kept.needs priority
+  pub wide : kept.wide ≡ position (is_wide priority) cuts
+  pub tables : kept.wide ≡ None → kept.tables.items ≡ tables_of priority cuts
 
 -- what keeping a table leaves alone
 pub record KeepsRest (old new : Planner) : Type 0 where
@@ -48,7 +49,7 @@ pub record IsLive (planner : Planner) (priority : Priorities) (pieces : List Pie
   pub cuts : List Cut
   pub none : planner.refused ≡ None
   pub added : HasAdded planner.splitter priority pieces cuts
-  pub kept : HasTables planner priority cuts
+  pub kept : HasTables planner.tables priority cuts
 
 -- what was refused is the fault of the pieces, whatever comes later
 pub record IsRefused (planner : Planner) (priority : Priorities) (pieces : List Piece) : Type 0 where

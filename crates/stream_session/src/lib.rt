@@ -9,6 +9,7 @@
 
 mod both;
 mod fault;
+mod group_tables;
 mod mark;
 mod marked;
 mod marking;

@@ -1,16 +1,24 @@
 //! The first pass over a stream whose groups are marked.
-ghost use Rattle.std.specs.Prelude.{◌≡◌, ◌++◌, ℕ, List, OnOk};
+ghost use Rattle.std.specs.Prelude.{◌≡◌, ◌<◌, ◌≤◌, ◌++◌, ◌∷◌, ℕ, List, [], All, length, OnOk, IfOk, IfErr};
+ghost use Rattle.pet_base.specs.declared.limits.TheConstants.{MAX_GROUPS};
+ghost use Rattle.sha2.specs.Hashers.{Holds256};
 ghost use Rattle.priority_file.specs.Priority.{Priorities};
-ghost use Rattle.group_cutter.specs.Cutting.{IsCuttable};
-ghost use Rattle.stream_session.specs.Marks.{group_marks, marks_of};
-ghost use Rattle.stream_session.specs.Marking.{AreMarked, HasMarked, IsMarkedPlanOf};
+ghost use Rattle.group_cutter.specs.CutGroups.{CutGroup};
+ghost use Rattle.group_cutter.specs.Cutting.{AreAll, IsCutFault};
+ghost use Rattle.stream_session.specs.Tables.{IsFit};
+ghost use Rattle.stream_session.specs.Number.{hashed};
+ghost use Rattle.stream_session.specs.Passing.{IsStreamFault};
+ghost use Rattle.stream_session.specs.Marking.{AreKept, HasKept, HasMarked, IsMarkedPlanOf};
 
+use crate::group_tables::GroupTables;
 use crate::mark::GroupMark;
-use crate::pass::{Pass, SessionPlan, StreamFault};
+use crate::pass::{SessionPlan, StreamFault, first_eight, hasher_of};
+use crate::planner::refusal_of;
 use crate::reader::StreamReader;
-use group_cutter::{Group, GroupCutter};
+use group_cutter::{CutFault, Group, GroupCutter};
 use pet_base::NoMemory;
 use priority_file::Priority;
+use sha2::{Digest, Sha256};
 use std::alloc::Global;
 
 /// The session of a stream, and the marks of its groups.
@@ -21,12 +29,20 @@ pub(crate) struct MarkedPlan {
     pub marks: Vec<GroupMark>,
 }
 
-/// A pass that marks each group as it ends, and then lets it go. It holds the bytes of the group that has not ended.
+/// The tables and the marks of groups that come one by one.
+#[derive(Drop)]
+struct KeptGroups {
+    tables: GroupTables,
+    marks: Vec<GroupMark>,
+}
+
+/// A pass that scans the stream once: of each group it keeps the table and the mark as the group ends, and then lets it go.
+/// It holds the bytes of the group that has not ended.
 #[derive(Drop)]
 pub(crate) struct MarkedPass {
-    pass: Pass,
     cutter: GroupCutter,
-    marks: Vec<GroupMark>,
+    kept: KeptGroups,
+    hasher: Sha256,
 }
 
 impl StreamReader for MarkedPass {
@@ -38,55 +54,95 @@ impl StreamReader for MarkedPass {
 
     fn begin(alloc: Global, priority: &Priority, file: &[u8]) -> Result<MarkedPass, NoMemory> {
         Ok(MarkedPass {
-            pass: Pass::new(alloc, priority, file)?,
             cutter: GroupCutter::new(alloc, priority)?,
-            marks: Vec::new(alloc),
+            kept: KeptGroups {
+                tables: GroupTables::new(alloc, priority),
+                marks: Vec::new(alloc),
+            },
+            hasher: hasher_of(file),
         })
     }
 
     fn read(&mut self, portion: &[u8]) -> Result<(), NoMemory> {
-        self.pass.add(portion)?;
+        self.hasher.update(portion);
         self.cutter.feed(portion)?;
-        mark_ended(&mut self.cutter, &mut self.marks)
+        keep_ended(&mut self.cutter, &mut self.kept)
     }
 
     fn end(self) -> Result<MarkedPlan, StreamFault> {
-        let plan = self.pass.finish()?;
         let mut cutter = self.cutter;
-        let mut marks = self.marks;
-        mark_last(&mut cutter, &mut marks)?;
-        Ok(MarkedPlan { plan, marks })
+        match cutter.finish() {
+            Ok(left) => plan_with(self.kept, self.hasher, &left),
+            Err(fault) => Err(stream_fault(fault)),
+        }
     }
 }
 
-/// Marks the groups that have ended.
-fn mark_ended(cutter: &mut GroupCutter, marks: &mut Vec<GroupMark>) -> Result<(), NoMemory>
-    ensures { OnOk result ((priority : Priorities) (stream : List ℕ) → AreMarked cutter.old marks.old.items priority stream
-        → AreMarked cutter.new marks.new.items priority stream) }
+impl KeptGroups {
+    /// Keeps the table and the mark of the next group.
+    fn keep(&mut self, group: &Group) -> Result<(), NoMemory>
+        ensures { OnOk result ((priority : Priorities) (groups : List CutGroup) → length groups < MAX_GROUPS → IsFit priority group.now.cut
+            → AreKept self.old priority groups → AreKept self.new priority (groups ++ group.now ∷ [])) }
+    {
+        self.tables.keep(&group.cut)?;
+        self.marks.push(GroupMark::of(&group.bytes))?;
+        Ok(())
+    }
+}
+
+/// Keeps the groups that have ended.
+fn keep_ended(cutter: &mut GroupCutter, kept: &mut KeptGroups) -> Result<(), NoMemory>
+    ensures { OnOk result ((priority : Priorities) (stream : List ℕ) → HasKept cutter.old kept.old priority stream
+        → HasKept cutter.new kept.new priority stream) }
 {
     while let Some(ended) = cutter.next()? {
-        marks.push(GroupMark::of(&ended.bytes))?;
+        kept.keep(&ended)?;
     }
     Ok(())
 }
 
-/// Marks the groups that are left at the end of the stream, of which the cutter gives none where it refuses the stream.
-fn mark_last(cutter: &mut GroupCutter, marks: &mut Vec<GroupMark>) -> Result<(), NoMemory>
-    ensures { OnOk result ((priority : Priorities) (stream : List ℕ) → AreMarked cutter.old marks.old.items priority stream
-        → IsCuttable priority stream → marks.new.items ≡ marks_of priority stream) }
-{
-    match cutter.finish()? {
-        Some(groups) => mark_all(&groups, marks),
-        None => Ok(()),
-    }
-}
-
-/// Marks these groups.
-fn mark_all(groups: &[Group], marks: &mut Vec<GroupMark>) -> Result<(), NoMemory>
-    ensures { OnOk result (marks.new.items ≡ marks.old.items ++ group_marks groups.now) }
+/// Keeps these groups.
+fn keep_all(groups: &[Group], kept: &mut KeptGroups) -> Result<(), NoMemory>
+    ensures { OnOk result ((priority : Priorities) (before : List CutGroup) → length (before ++ groups.now) ≤ MAX_GROUPS → All (λ group. IsFit priority group.cut) groups.now
+        → AreKept kept.old priority before → AreKept kept.new priority (before ++ groups.now)) }
 {
     for group in groups {
-        marks.push(GroupMark::of(&group.bytes))?;
+        kept.keep(group)?;
     }
     Ok(())
+}
+
+/// The plan of an accepted stream, of whose groups these are left, by a hasher that has read all.
+fn plan_with(
+    mut kept: KeptGroups,
+    hasher: Sha256,
+    left: &[Group],
+) -> Result<MarkedPlan, StreamFault>
+    ensures plan { IfOk result (λ marked. (priority : Priorities) (file stream : List ℕ) (given : List CutGroup) → AreAll priority stream (given ++ left.now)
+        → AreKept kept priority given → Holds256 hasher (hashed file stream) → IsMarkedPlanOf marked priority file stream) }
+    ensures refused { IfErr result (λ fault. (priority : Priorities) (stream : List ℕ) (given : List CutGroup) → AreAll priority stream (given ++ left.now)
+        → AreKept kept priority given → IsStreamFault priority stream fault) }
+{
+    keep_all(left, &mut kept)?;
+    match kept.tables.judged() {
+        Ok(tables) => Ok(MarkedPlan {
+            plan: SessionPlan {
+                number: first_eight(hasher.finalize()),
+                tables,
+            },
+            marks: kept.marks,
+        }),
+        Err(fault) => Err(StreamFault::Plan(fault)),
+    }
+}
+
+/// The same cause, as one against a stream.
+fn stream_fault(fault: CutFault) -> StreamFault
+    ensures { (priority : Priorities) (stream : List ℕ) → IsCutFault priority stream fault → IsStreamFault priority stream result }
+{
+    match fault {
+        CutFault::Stream(scan) => StreamFault::Stream(scan),
+        CutFault::Groups(fault) => StreamFault::Plan(refusal_of(fault)),
+        CutFault::NoMemory => StreamFault::NoMemory,
+    }
 }

@@ -173,7 +173,7 @@ fn add_all(planner: &mut Planner, pieces: &[Piece]) -> Result<(), NoMemory>
 }
 
 /// A hasher that has read the length of the priority file in four bytes, and the priority file.
-fn hasher_of(file: &[u8]) -> Sha256
+pub(crate) fn hasher_of(file: &[u8]) -> Sha256
     requires { length file.now < 2 ^ 32 }
     ensures { Holds256 result (hashed file.now []) }
 {

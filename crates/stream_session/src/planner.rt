@@ -12,8 +12,7 @@ ghost use Rattle.stream_session.specs.Refusals.{session_fault, fault_after, faul
 ghost use Rattle.stream_session.specs.Planning.{HasPlanned, HasTables, HasRefused, KeepsRest};
 
 use crate::fault::SessionFault;
-use crate::needs::LayerNeeds;
-use crate::total::first_too_large;
+use crate::group_tables::GroupTables;
 use layer_split::{GroupCut, SplitFault, Splitter};
 use mpeg_scan::Piece;
 use pet_base::NoMemory;
@@ -25,12 +24,9 @@ use stripe_plan::Table;
 /// the stream.
 #[derive(Drop)]
 pub struct Planner {
-    needs: LayerNeeds,
     splitter: Splitter,
-    /// The tables of the groups that have ended, up to the first that is too wide.
-    tables: Vec<Table>,
-    /// The first group that is too wide.
-    wide: Option<u32>,
+    /// Those of the groups that have ended.
+    tables: GroupTables,
     /// Why the splitter has refused.
     refused: Option<SessionFault>,
 }
@@ -42,10 +38,8 @@ impl Planner {
     {
         let splitter = Splitter::new(alloc, priority)?;
         Ok(Planner {
-            needs: LayerNeeds::new(priority),
             splitter,
-            tables: Vec::new(alloc),
-            wide: None,
+            tables: GroupTables::new(alloc, priority),
             refused: None,
         })
     }
@@ -84,31 +78,15 @@ impl Planner {
     /// The tables with that of the last group, or the first cause that holds against the groups.
     fn end(mut self, cut: Option<GroupCut>) -> Result<Vec<Table>, SessionFault>
         ensures tables { IfOk result (λ tables. (priority : Priorities) (cuts : List Cut) → length cuts < MAX_GROUPS → All (IsFit priority) (cuts_in cut)
-            → HasTables self priority cuts
+            → HasTables self.tables priority cuts
             → (fault_of_cuts priority (cuts ++ cuts_in cut) ≡ None) × (tables.items ≡ tables_of priority (cuts ++ cuts_in cut))) }
         ensures refused { IfErr result (λ fault. fault ≢ SessionFault.NoMemory → (priority : Priorities) (cuts : List Cut) → length cuts < MAX_GROUPS
-            → All (IsFit priority) (cuts_in cut) → HasTables self priority cuts
+            → All (IsFit priority) (cuts_in cut) → HasTables self.tables priority cuts
             → fault_of_cuts priority (cuts ++ cuts_in cut) ≡ Some fault) }
     {
         match self.keep(cut) {
-            Ok(()) => self.judged(),
+            Ok(()) => self.tables.judged(),
             Err(NoMemory) => Err(SessionFault::NoMemory),
-        }
-    }
-
-    /// The tables, or the first cause that holds against the groups that have ended.
-    fn judged(self) -> Result<Vec<Table>, SessionFault>
-        ensures tables { IfOk result (λ tables. (priority : Priorities) (cuts : List Cut) → HasTables self priority cuts
-            → (fault_of_cuts priority cuts ≡ None) × (tables.items ≡ tables_of priority cuts)) }
-        ensures refused { IfErr result (λ fault. (priority : Priorities) (cuts : List Cut) → HasTables self priority cuts
-            → fault_of_cuts priority cuts ≡ Some fault) }
-    {
-        if let Some(group) = self.wide {
-            return Err(SessionFault::TooWide(group));
-        }
-        match first_too_large(&self.tables) {
-            Some(group) => Err(SessionFault::TooLarge(group)),
-            None => Ok(self.tables),
         }
     }
 
@@ -126,39 +104,18 @@ impl Planner {
     /// Keeps the table of the next group, where there is one.
     fn keep(&mut self, cut: Option<GroupCut>) -> Result<(), NoMemory>
         ensures kept { OnOk result ((priority : Priorities) (cuts : List Cut) → length cuts < MAX_GROUPS → All (IsFit priority) (cuts_in cut)
-            → HasTables self.old priority cuts → HasTables self.new priority (cuts ++ cuts_in cut)) }
+            → HasTables self.old.tables priority cuts → HasTables self.new.tables priority (cuts ++ cuts_in cut)) }
         ensures rest { KeepsRest self.old self.new }
     {
         match cut {
-            Some(cut) => self.keep_table(&cut),
+            Some(cut) => self.tables.keep(&cut),
             None => Ok(()),
-        }
-    }
-
-    /// Keeps the table of the next group, or its number where it is the first that is too wide.
-    fn keep_table(&mut self, cut: &GroupCut) -> Result<(), NoMemory>
-        ensures kept { OnOk result ((priority : Priorities) (cuts : List Cut) → length cuts < MAX_GROUPS → IsFit priority cut.now
-            → HasTables self.old priority cuts → HasTables self.new priority (cuts ++ cut.now ∷ [])) }
-        ensures rest { KeepsRest self.old self.new }
-    {
-        if self.wide.is_some() {
-            return Ok(());
-        }
-        match self.needs.table_of(cut) {
-            Some(table) => {
-                self.tables.push(table)?;
-                Ok(())
-            }
-            None => {
-                self.wide = Some(self.tables.len().min(u32::MAX as usize) as u32);
-                Ok(())
-            }
         }
     }
 }
 
 /// The same cause, as one against a session.
-fn refusal_of(fault: SplitFault) -> SessionFault
+pub(crate) fn refusal_of(fault: SplitFault) -> SessionFault
     ensures { (later : Option SessionFault) → fault_after (Some fault) later ≡ Some result }
 {
     match fault {

@@ -1,8 +1,9 @@
 //! Streams cut into groups with their bytes.
 use crate::TWO_GROUPS;
 use example_session::{PRIORITIES, STREAM};
-use group_cutter::{Group, GroupCutter};
-use layer_split::Run;
+use group_cutter::{CutFault, Group, GroupCutter};
+use layer_split::{Run, SplitFault};
+use mpeg_scan::Scan;
 use pet_base::NoMemory;
 use priority_file::{Priority, read_priority};
 use std::alloc::Global;
@@ -24,14 +25,14 @@ fn take_ended(cutter: &mut GroupCutter, groups: &mut Vec<Group>) -> Result<(), N
     Ok(())
 }
 
-/// The groups of a stream that comes in portions of so many bytes behind a first one, and whether it was not refused.
+/// The groups of a stream that comes in portions of so many bytes behind a first one, and why it was refused.
 fn cut_in(
     alloc: Global,
     priority: &Priority,
     stream: &[u8],
     first: usize,
     size: usize,
-) -> Result<(Vec<Group>, bool), NoMemory> {
+) -> Result<(Vec<Group>, Option<CutFault>), NoMemory> {
     let mut cutter = GroupCutter::new(alloc, priority)?;
     let mut groups = Vec::new(alloc);
     let mut from = 0usize;
@@ -46,14 +47,15 @@ fn cut_in(
         from = end;
         portion = size;
     }
-    match cutter.finish()? {
-        Some(left) => {
+    match cutter.finish() {
+        Ok(left) => {
             for group in left {
                 groups.push(group)?;
             }
-            Ok((groups, true))
+            Ok((groups, None))
         }
-        None => Ok((groups, false)),
+        Err(CutFault::NoMemory) => Err(NoMemory),
+        Err(fault) => Ok((groups, Some(fault))),
     }
 }
 
@@ -62,10 +64,10 @@ fn gives_two_groups_of_a_stream_cut_anywhere(rt: HostRuntime) -> Result<(), Fail
     let priority = read_priority(rt.alloc(), PRIORITIES.as_bytes()).expect(&rt, "a priority");
     for first in 1..23usize {
         for size in [1usize, 22] {
-            let (groups, whole) = cut_in(rt.alloc(), &priority, &TWO_GROUPS, first, size).expect(
+            let (groups, fault) = cut_in(rt.alloc(), &priority, &TWO_GROUPS, first, size).expect(
                 &rt, "memory",
             );
-            assert!(rt; whole);
+            assert_eq!(rt; fault, None);
             assert_eq!(rt; groups.len(), 2);
             assert_eq!(rt; groups[0].bytes.as_slice(), &TWO_GROUPS[..11]);
             assert_eq!(rt; groups[1].bytes.as_slice(), &TWO_GROUPS[11..]);
@@ -83,20 +85,25 @@ fn gives_what_ended_before_a_refusal(rt: HostRuntime) -> Result<(), Fail> {
     let pack_behind_two_groups = [
         0, 0, 1, 0xB8, 1, 0, 0, 1, 0, 0, 8, 0, 0, 1, 0xB8, 2, 0, 0, 1, 0, 0, 8, 0, 0, 1, 0xBA,
     ];
-    // the stream, how many groups are given, the length of the last, and whether these are all
-    let rows: [(&[u8], usize, usize, bool); 4] = [
-        (&TWO_GROUPS[..11], 1, 11, true),
-        (&TWO_GROUPS[..15], 2, 4, true),
-        (&no_head, 0, 0, false),
-        (&pack_behind_two_groups, 1, 11, false),
+    // the stream, how many groups are given, the length of the last, and why these are not all
+    let rows: [(&[u8], usize, usize, Option<CutFault>); 4] = [
+        (&TWO_GROUPS[..11], 1, 11, None),
+        (&TWO_GROUPS[..15], 2, 4, None),
+        (&no_head, 0, 0, Some(CutFault::Stream(Scan::NoHead(0)))),
+        (
+            &pack_behind_two_groups,
+            1,
+            11,
+            Some(CutFault::Stream(Scan::System(22))),
+        ),
     ];
     let priority = read_priority(rt.alloc(), PRIORITIES.as_bytes()).expect(&rt, "a priority");
-    for (stream, count, last, all) in rows {
+    for (stream, count, last, why) in rows {
         for first in 1..27usize {
-            let (groups, whole) = cut_in(rt.alloc(), &priority, stream, first, 1).expect(
+            let (groups, fault) = cut_in(rt.alloc(), &priority, stream, first, 1).expect(
                 &rt, "memory",
             );
-            assert_eq!(rt; whole, all);
+            assert_eq!(rt; fault, why);
             assert_eq!(rt; groups.len(), count);
             let len = groups.last().map_or(0, |group| group.bytes.len());
             assert_eq!(rt; len, last);
@@ -108,8 +115,8 @@ fn gives_what_ended_before_a_refusal(rt: HostRuntime) -> Result<(), Fail> {
 #[test]
 fn cuts_the_example_stream_by_places(rt: HostRuntime) -> Result<(), Fail> {
     let priority = read_priority(rt.alloc(), PLACES.as_bytes()).expect(&rt, "a priority");
-    let (groups, whole) = cut_in(rt.alloc(), &priority, &STREAM, 20, 20).expect(&rt, "memory");
-    assert!(rt; whole);
+    let (groups, fault) = cut_in(rt.alloc(), &priority, &STREAM, 20, 20).expect(&rt, "memory");
+    assert_eq!(rt; fault, None);
     assert_eq!(rt; groups.len(), 1);
     let runs = [run(0, 0, 18), run(1, 18, 14), run(2, 32, 8), run(0, 40, 4)];
     assert_eq!(rt; groups[0].cut.runs.as_slice(), runs.as_slice());

@@ -4,7 +4,7 @@ use mpeg_scan::Scan;
 use pet_base::MemoryPlace;
 use std::alloc::Global;
 use std::test::Fail;
-use stream_session::{GroupMark, MarkedSource, SourceFault, read_marked};
+use stream_session::{GroupMark, MarkedSource, SessionFault, SourceFault, read_marked};
 
 /// Priorities of two layers.
 const PRIORITIES: &str =
@@ -89,5 +89,31 @@ fn marks_no_bytes_by_their_digest(rt: HostRuntime) -> Result<(), Fail> {
         empty.digest,
         [0xE3, 0xB0, 0xC4, 0x42, 0x98, 0xFC, 0x1C, 0x14]
     );
+    Ok(())
+}
+
+/// The two groups, of which the first is too long, and these bytes behind them.
+fn with_too_long(alloc: Global, behind: &[u8]) -> Option<Vec<u8>> {
+    let mut stream = with_more(alloc, 4_200_000)?;
+    stream.extend_from_slice(behind).ok()?;
+    Some(stream)
+}
+
+#[test]
+fn answers_a_later_refusal_before_a_groups_fault(rt: HostRuntime) -> Result<(), Fail> {
+    let rows: [(&[u8], SourceFault); 2] = [
+        (&[], SourceFault::Plan(SessionFault::GroupTooLong(0))),
+        (
+            &[0, 0, 1, 0xBA],
+            SourceFault::Stream(Scan::System(4_200_022)),
+        ),
+    ];
+    for (behind, why) in rows {
+        let stream = with_too_long(rt.alloc(), behind).expect(&rt, "memory");
+        let fault = read(rt.alloc(), stream.as_slice())
+            .expect(&rt, "files")
+            .err();
+        assert_eq!(rt; fault, Some(why));
+    }
     Ok(())
 }

@@ -1,24 +1,28 @@
 -- What callers know of groups that ended before a refusal: those that a cutter gave did, they stay as the stream goes on,
 -- and they are the first groups of the stream. This project's own.
-use Rattle.std.proofs.Common.{◌≡◌, ℕ, ◌+◌, Bool, true, false, List, [], ◌∷◌, ◌++◌, length, take, drop, map, refl, sym, ◌∙◌, ap, subst, arith, inl, inr, append_assoc}
-use Rattle.std.specs.Prelude.{All}
-use Rattle.std.specs.Bool.{MatchBool}
+use Rattle.std.proofs.Common.{◌≡◌, ◌≢◌, ℕ, ◌+◌, false, List, [], ◌∷◌, ◌++◌, length, take, drop, map, Option, None, Some, refl, sym, ◌∙◌, ap, subst, arith, append_assoc}
+use Rattle.std.specs.Prelude.{All, MatchOption}
+use Rattle.std.proofs.lemmas.Bool.{both_ways}
 use Rattle.std.proofs.Math.Seq.{take-append_seam}
 use Rattle.std.proofs.lemmas.List.{append-nil, map-append, length-append, take-map, take-append-drop}
 use Rattle.std.proofs.lemmas.List.Elements.{All-nil, All-take, All-tail}
 use Rattle.mpeg_scan.specs.declared.piece.Piece.{Piece}
-use Rattle.mpeg_scan.specs.Refusals.{IsUndecided}
+use Rattle.mpeg_scan.specs.declared.refusal.Scan.{Scan}
+use Rattle.mpeg_scan.specs.Refusals.{IsUndecided, holds}
 use Rattle.mpeg_scan.specs.Pieces.{pieces_of, ended_pieces}
 use Rattle.mpeg_scan.specs.laws.EndedLaws.{read_ended, ended_stay}
 use Rattle.priority_file.specs.Priority.{Priorities, layer_of}
+use Rattle.layer_split.specs.declared.fault.SplitFault.{SplitFault}
 use Rattle.layer_split.specs.Groups.{groups_of, ended_groups}
 use Rattle.layer_split.specs.Faults.{is_too_long}
 use Rattle.layer_split.specs.Layers.{cut_of}
 use Rattle.layer_split.specs.laws.CutLaws.{StandsIn}
 use Rattle.layer_split.specs.laws.EndedLaws.{gone_ended, groups_stay, groups_grow}
 use Rattle.group_cutter.specs.CutGroups.{CutGroup}
+use Rattle.group_cutter.specs.declared.fault.CutFault.{CutFault}
+use Rattle.group_cutter.specs.declared.fault.CutFault.TheVariants.{Stream, Groups, NoMemory}
 use Rattle.group_cutter.specs.declared.groups.GroupCutter.{GroupCutter}
-use Rattle.group_cutter.specs.Cutting.{HasCut, HasLooked, IsLive, IsRefused, HaveEnded, AreFirst, cut_group, cut_groups, group_from, first_at, bytes_of_pieces, pending}
+use Rattle.group_cutter.specs.Cutting.{HasCut, HasLooked, IsLive, IsSeen, IsStopped, IsCuttable, IsCutFault, HaveEnded, AreFirst, cut_group, cut_groups, group_from, first_at, bytes_of_pieces, pending}
 use Rattle.group_cutter.specs.laws.StandingLaws.{stand_bytes, groups_stand}
 
 -- the first of elements that all pass
@@ -90,26 +94,33 @@ ended_longer priority stream portion groups h = record {
   few = h.few;
 }
 
-ended_by : (cutter : GroupCutter) (priority : Priorities) (stream : List ℕ) (given : List CutGroup) (b : Bool) → MatchBool b (IsRefused cutter priority stream given) (IsLive cutter priority stream given) → HaveEnded priority stream given
-ended_by cutter priority stream given false live =
+ended_by : (cutter : GroupCutter) (priority : Priorities) (stream : List ℕ) (given : List CutGroup) (fault : Option SplitFault) (scan : Option Scan) → MatchOption fault (MatchOption scan (IsLive cutter priority stream given) (λ s. IsSeen cutter priority stream given s)) (λ f. IsStopped cutter priority stream given f) → HaveEnded priority stream given
+ended_by cutter priority stream given None None live =
     let whole = append-nil stream in
     subst (λ w. HaveEnded priority w given) whole
     (looked_ended cutter priority stream [] live.pieces given (subst (λ w. HasLooked cutter priority w live.pieces given) (sym whole) live.looked)
     live.read.undecided (read_ended cutter.scanner stream live.pieces live.read))
-ended_by cutter priority stream given true over = elim over.left [
-  | inl none ↦ none.ended
-  | inr part ↦
-      (let s = part.stopped in
-      subst (λ w. HaveEnded priority w given) (sym part.parts)
-      (ended_longer priority part.seen part.unseen given
-      (subst (λ w. HaveEnded priority w given) (sym s.parts)
-      (looked_ended cutter priority s.before s.behind part.pieces given (subst (λ w. HasLooked cutter priority w part.pieces given) s.parts part.looked)
-      s.undecided s.ended))))
-]
+ended_by cutter priority stream given None (Some scan) part =
+    let s = part.stopped in
+    subst (λ w. HaveEnded priority w given) (sym part.parts)
+    (ended_longer priority part.seen part.unseen given
+    (subst (λ w. HaveEnded priority w given) (sym s.parts)
+    (looked_ended cutter priority s.before s.behind part.pieces given (subst (λ w. HasLooked cutter priority w part.pieces given) s.parts part.looked)
+    s.undecided s.ended)))
+ended_by cutter priority stream given (Some fault) scan over = over.ended
 
 -- the groups that a cutter has given
 pub given_ended : (cutter : GroupCutter) (priority : Priorities) (stream : List ℕ) (given : List CutGroup) → HasCut cutter priority stream given → HaveEnded priority stream given
-given_ended cutter priority stream given h = ended_by cutter priority stream given cutter.refused h.state
+given_ended cutter priority stream given h = ended_by cutter priority stream given cutter.fault cutter.scan h.state
+
+-- a stream that is not cut is refused, or its groups are
+none_and_some : (fault : SplitFault) (o : Option SplitFault) → o ≡ Some fault → o ≡ None → ⊥
+none_and_some fault o some none = cc
+
+pub fault_refuses : (priority : Priorities) (stream : List ℕ) (fault : CutFault) → fault ≢ NoMemory → IsCutFault priority stream fault → IsCuttable priority stream → ⊥
+fault_refuses priority stream (Stream scan) told is cuttable = both_ways (holds stream scan) (cuttable.0 scan) is.0.holding
+fault_refuses priority stream (Groups fault) told is cuttable = none_and_some fault _ is.2 cuttable.1
+fault_refuses priority stream NoMemory told is cuttable = told refl
 
 -- no group at all
 pub none_ended : (priority : Priorities) (stream : List ℕ) → HaveEnded priority stream []

@@ -52,6 +52,10 @@ all_short priority groups e =
     let (none, few) = fault_none (position p (take MAX_GROUPS groups)) (length groups) e in
     nowhere p groups (ap (position p) (sym (take_all MAX_GROUPS groups few)) ∙ none)
 
+-- nor too many
+pub groups_few : (priority : Priorities) (groups : List (List Piece)) → fault_of (layer_of priority) (length priority.layers) groups ≡ None → length groups ≤ MAX_GROUPS
+groups_few priority groups e = (fault_none (position (is_too_long (layer_of priority) (length priority.layers)) (take MAX_GROUPS groups)) (length groups) e).1
+
 -- and so their cuts
 pub all_fit : (priority : Priorities) (groups : List (List Piece)) → All (λ group. is_too_long (layer_of priority) (length priority.layers) group ≡ false) groups → All (IsFit priority) (cuts_of priority groups)
 all_fit priority [] h = All-nil (IsFit priority)
@@ -76,8 +80,7 @@ unfolding session_fault
 no_cause priority pieces e = after_none (fault_of (layer_of priority) (length priority.layers) (groups_of pieces)) (fault_of_cuts priority (cuts_of priority (groups_of pieces))) e
 
 pub few_groups : (priority : Priorities) (pieces : List Piece) → session_fault priority pieces ≡ None → length (groups_of pieces) ≤ MAX_GROUPS
-few_groups priority pieces e =
-    (fault_none (position (is_too_long (layer_of priority) (length priority.layers)) (take MAX_GROUPS (groups_of pieces))) (length (groups_of pieces)) (no_cause priority pieces e).0).1
+few_groups priority pieces e = groups_few priority (groups_of pieces) (no_cause priority pieces e).0
 
 -- each group has a table
 abbrev pub IsWithinBounds : Sizes → Type 0

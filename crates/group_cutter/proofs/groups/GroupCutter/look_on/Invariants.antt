@@ -12,7 +12,8 @@ invariant-loop-self l =
     × (pieces_left l.self ≤ pieces_left l.initial.self)
     × (pieces_left l.initial.self ≡ 0 → l.self ≡ l.initial.self)
     × (l.self.scanner ≡ l.initial.self.scanner)
-    × (l.self.refused ≡ l.initial.self.refused)
+    × (l.self.scan ≡ l.initial.self.scan)
+    × (l.self.fault ≡ l.initial.self.fault)
 
 abbrev pub decreases-loop-self : goal.decreases-loop-self
 decreases-loop-self l = pieces_left l.self

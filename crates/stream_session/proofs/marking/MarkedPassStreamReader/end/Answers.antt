@@ -1,8 +1,28 @@
-use Rattle.mpeg_scan.specs.Pieces.{pieces_of}
-use Rattle.stream_session.specs.laws.FitLaws.{no_cause}
+-- The groups that are left, of an accepted stream, or the fault.
+use Rattle.std.proofs.Common.{List, ◌++◌, subst, sym}
+use Rattle.std.proofs.lemmas.Result.{IfOk-weaker, IfErr-weaker}
+use Rattle.group_cutter.specs.CutGroups.{CutGroup}
+use Rattle.group_cutter.specs.Cutting.{AreAll}
 use Rattle.stream_session.proofs.marking.MarkedPassStreamReader.end.Goals as goal
 
-pub returns-clause-answer : goal.returns-clause-answer
-returns-clause-answer c priority file stream held =
-    let of = c.in_ok-plan.ensures.plan priority file stream held.passed in
-    (of.accepted, record { plan = of; marks = c.in_ok-mark_last.ensures priority stream held.marked_are (of.accepted, (no_cause priority (pieces_of stream) of.fits).0) })
+pub returns-in-Ok-clause-answer : goal.returns-in-Ok-clause-answer
+returns-in-Ok-clause-answer c =
+    IfOk-weaker c.plan_with.result _ _
+    (λ marked plan priority file stream held.
+    let kept = held.has_kept in
+    let all = subst (λ (l : List CutGroup). AreAll priority stream (kept.given ++ l)) (sym c.deref.ensures.value) (c.in-Ok.ensures.whole priority stream kept.given kept.cut) in
+    (all.cuttable.0, plan priority file stream kept.given all kept.are_kept held.has_hashed))
+    c.plan_with.ensures.plan
+
+pub returns-in-Ok-clause-refused : goal.returns-in-Ok-clause-refused
+returns-in-Ok-clause-refused c =
+    IfErr-weaker c.plan_with.result _ _
+    (λ fault refused priority file stream held.
+    let kept = held.has_kept in
+    let all = subst (λ (l : List CutGroup). AreAll priority stream (kept.given ++ l)) (sym c.deref.ensures.value) (c.in-Ok.ensures.whole priority stream kept.given kept.cut) in
+    refused priority stream kept.given all kept.are_kept)
+    c.plan_with.ensures.refused
+
+pub returns-in-Err-clause-refused : goal.returns-in-Err-clause-refused
+returns-in-Err-clause-refused c priority file stream held =
+    c.stream_fault.ensures priority stream (c.in-Err.ensures.refused priority stream held.has_kept.given held.has_kept.cut)

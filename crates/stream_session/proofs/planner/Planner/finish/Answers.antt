@@ -10,13 +10,13 @@ returns-in-Some-clause-refused c ne priority pieces h = ends_refused c.args.self
 
 pub returns-in-Ok-clause-tables : goal.returns-in-Ok-clause-tables
 returns-in-Ok-clause-tables c = IfOk-weaker c.end.result _ _ (λ tables told priority pieces h.
-    let e = at_end c.args.self c.finish.new.self c.in-Ok.cut priority pieces c.in-Ok.ensures.ok (live_of c.args.self priority pieces c.in_default.not-Some h) in
+    let e = at_end c.args.self c.in-Ok.cut priority pieces c.in-Ok.ensures.ok (live_of c.args.self priority pieces c.in_default.not-Some h) in
     let judged = told priority e.cuts e.few e.fit e.kept in
     (fault_judged priority pieces _ None e.none e.all judged.0, judged.1 ∙ ap (tables_of priority) e.all)) c.end.ensures.tables
 
 pub returns-in-Ok-clause-refused : goal.returns-in-Ok-clause-refused
 returns-in-Ok-clause-refused c = IfErr-weaker c.end.result _ _ (λ fault told ne priority pieces h.
-    let e = at_end c.args.self c.finish.new.self c.in-Ok.cut priority pieces c.in-Ok.ensures.ok (live_of c.args.self priority pieces c.in_default.not-Some h) in
+    let e = at_end c.args.self c.in-Ok.cut priority pieces c.in-Ok.ensures.ok (live_of c.args.self priority pieces c.in_default.not-Some h) in
     fault_judged priority pieces _ (Some fault) e.none e.all (told ne priority e.cuts e.few e.fit e.kept)) c.end.ensures.refused
 
 pub returns-in-Err-clause-refused : goal.returns-in-Err-clause-refused

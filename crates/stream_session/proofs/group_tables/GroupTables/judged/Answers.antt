@@ -4,7 +4,7 @@ use Rattle.pet_base.specs.declared.limits.TheConstants.{MAX_SESSION}
 use Rattle.stream_session.specs.Refusals.{first_above}
 use Rattle.stream_session.specs.Planning.{table_cost}
 use Rattle.stream_session.proofs.Planned.{judged_large, no_fault}
-use Rattle.stream_session.proofs.planner.Planner.judged.Goals as goal
+use Rattle.stream_session.proofs.group_tables.GroupTables.judged.Goals as goal
 
 pub returns-in-Some-first_too_large-clause-refused : goal.returns-in-Some-first_too_large-clause-refused
 returns-in-Some-first_too_large-clause-refused c priority cuts h =

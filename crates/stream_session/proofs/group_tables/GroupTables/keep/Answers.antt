@@ -2,10 +2,10 @@
 use Rattle.std.proofs.Common.{◌≡◌, ◌∙◌, length, sym, ap, refl, rules, arith}
 use Rattle.std.specs.Prelude.{vec_len}
 use Rattle.stream_session.proofs.OneGroupMore.{is_none, keeps_wide, tables_length}
-use Rattle.stream_session.proofs.planner.Planner.keep_table.Goals as goal
+use Rattle.stream_session.proofs.group_tables.GroupTables.keep.Goals as goal
 
-pub returns-in-None-clause-kept : goal.returns-in-None-clause-kept
-returns-in-None-clause-kept c priority cuts few fit h =
+pub returns-in-None : goal.returns-in-None
+returns-in-None c priority cuts few fit h =
     let none = is_none c.args.self.now.wide (sym c.is_some.ensures ∙ c.if-is_some.false) in
     let count : length c.args.self.now.tables.items ≡ vec_len c.args.self.now.tables = search rules in
     let kept : length c.args.self.now.tables.items ≡ length cuts = ap length (h.tables none) ∙ tables_length priority cuts in
