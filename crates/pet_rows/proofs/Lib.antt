@@ -11,3 +11,4 @@ pub mod Parts
 pub mod FirstBlocks
 pub mod Pushed
 pub mod LayingOut
+pub mod LongRows

@@ -21,6 +21,7 @@ mod gf16_tables;
 mod kernels;
 mod laid;
 mod lanes;
+mod long_rows;
 mod memory;
 mod nibbles;
 mod products;
@@ -28,5 +29,6 @@ mod rows;
 
 pub use blocks::{Block, MAX_WIDTH, block_values, push_stripe};
 pub use laid::{lay_out, transpose};
+pub use long_rows::{add_multiple_row, butterfly_row, multiply_row};
 pub use products::Products;
 pub use rows::Rows;
