@@ -7,5 +7,5 @@ pub mod Places
 pub mod OneColumn
 pub mod Columns
 pub mod Counting
-pub mod Pieces
+pub mod Multiples
 pub mod Zeros

@@ -3,8 +3,7 @@ ghost use Rattle.std.specs.Prelude.{◌≡◌, ℕ, ◌+◌, ◌<◌, ◌≤◌,
 ghost use Rattle.pet_field.specs.Gf16.{gf16};
 
 use pet_base::Steps;
-use pet_field::Gf16Plain;
-use pet_rows::{MAX_WIDTH, Rows};
+use pet_rows::{Products, add_multiple_row, butterfly_row, multiply_row};
 use std::sync::ledger::Ledger;
 
 /// Words are elements.
@@ -37,13 +36,7 @@ pub(crate) fn add_multiple<L: Ledger>(
     ensures cost { steps.new ≤ steps.old + length other.now }
 {
     if by != 0 {
-        let factors = [Gf16Plain.prepare(by)];
-        let mut at = 0;
-        while at < other.len() {
-            let end = other.len().min(at + MAX_WIDTH);
-            Gf16Plain.add_products(&factors, &other[at..end], &mut into[at..end], steps);
-            at = end;
-        }
+        add_multiple_row(&Products::new(by), other, into, steps);
     }
 }
 
@@ -57,8 +50,12 @@ pub(crate) fn butterfly<L: Ledger>(low: &mut [u16], high: &mut [u16], by: u16, s
         ≡ bit_xor (slice_index high.old i) (slice_index low.new i) }
     ensures cost { steps.new ≤ steps.old + length high.old }
 {
-    add_multiple(low, high, by, steps);
-    add_words(high, low, low.len());
+    if by == 0 {
+        are_elements(high);
+        add_words(high, low, low.len());
+    } else {
+        butterfly_row(&Products::new(by), low, high, steps);
+    }
 }
 
 /// Multiplies words. It counts one step for each word, or none where the factor is 1.
@@ -68,12 +65,6 @@ pub(crate) fn multiply<L: Ledger>(words: &mut [u16], by: u16, steps: &mut Steps<
     ensures cost { steps.new ≤ steps.old + length words.old }
 {
     if by != 1 {
-        let factor = Gf16Plain.prepare(by);
-        let mut at = 0;
-        while at < words.len() {
-            let end = words.len().min(at + MAX_WIDTH);
-            Gf16Plain.scale(&factor, &mut words[at..end], steps);
-            at = end;
-        }
+        multiply_row(&Products::new(by), words, steps);
     }
 }

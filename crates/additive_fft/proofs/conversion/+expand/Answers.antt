@@ -1,4 +1,4 @@
-use Rattle.std.proofs.Common.{◌-◌, ◌^◌, ◌+◌, ◌≡◌, ◌∙◌, ap, refl, sym, arith}
+use Rattle.std.proofs.Common.{◌-◌, ◌^◌, ◌+◌, ◌≡◌, ◌∙◌, ap, refl, arith}
 use Rattle.additive_fft.proofs.Columns.{expands_columns, expands_none_columns, length_low, length_high, middle, power_between}
 use Rattle.additive_fft.proofs.Zeros.{from_front, from_back, from_end, from_append, expands_low}
 use Rattle.additive_fft.proofs.conversion.+expand.Goals as goal

@@ -1,4 +1,4 @@
-use Rattle.std.proofs.Common.{◌-◌, ◌^◌, ◌+◌, ◌*◌, ◌≡◌, ◌≤◌, ◌∙◌, length, drop, ap, refl, sym, arith}
+use Rattle.std.proofs.Common.{◌-◌, ◌^◌, ◌+◌, ◌≡◌, ◌∙◌, length, ap, refl, arith}
 use Rattle.std.proofs.lemmas.List.{length-take-le}
 use Rattle.pet_field.specs.Gf16.{gf16}
 use Rattle.additive_fft.proofs.Columns.{scales_columns, scales_none_columns, length_low, length_high, middle, power_halves}
