@@ -2,15 +2,13 @@
 use borrow.Rule.Slice.PartMut.{put_mid, post_of}
 use Rattle.std.proofs.Common.{◌≡◌, ◌≢◌, ℕ, zero, suc, ◌+◌, ◌-◌, ◌*◌, ◌<◌, ◌≤◌, inl, inr, List, [], ◌∷◌, ◌++◌, length, get_or, set, take, drop, refl, sym, ap, ap₂, ◌∙◌, arith, append_assoc, add-one}
 use native.Mathlib.Nat.{mul_comm}
-use Rattle.std.specs.List.{range_with_len}
 use Rattle.std.proofs.lemmas.Bool.{cases_lt}
 use Rattle.std.proofs.lemmas.Nat.{same_from_place}
-use Rattle.std.proofs.lemmas.List.{length-map, get_or-map, get_or-take, get_or-set_same, get_or-set_other, get_or_default, length-drop, length-take-le, drop-drop, drop-take, append-nil, ext_get_or, take_at, drop_at, length-append}
-use Rattle.std.proofs.lemmas.List.FromFn.{get_or-range_with_len, length-range_with_len}
+use Rattle.std.proofs.lemmas.List.{get_or-take, get_or-set_same, get_or-set_other, get_or_default, length-drop, length-take-le, drop-drop, drop-take, append-nil, take_at, drop_at, length-append}
 use Rattle.std.proofs.lemmas.Slice.{take-put_mid_below}
 use Rattle.pet_rows.specs.declared.blocks.Block.{Block}
-use Rattle.pet_rows.specs.Columns.{column, block_columns}
-use Rattle.pet_rows.specs.laws.ColumnLaws.{column_take, block_columns_take, columns_are_stripes}
+use Rattle.pet_rows.specs.Columns.{block_columns}
+use Rattle.pet_rows.specs.laws.ColumnLaws.{block_columns_take, columns_are_stripes}
 use Rattle.pet_rows.specs.laws.BlockLaws.{stripes_cons}
 use Rattle.pet_rows.specs.Blocks.{size_of, stripes_of, columns_of}
 use Rattle.pet_rows.specs.Stripes.{cut}

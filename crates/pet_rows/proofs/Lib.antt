@@ -6,6 +6,7 @@ pub mod HornerSteps
 pub mod ColumnLoop
 pub mod Padding
 pub mod RowPlaces
+mod AddedRows
 pub mod AnyField
 pub mod Parts
 pub mod FirstBlocks
