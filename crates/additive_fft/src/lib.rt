@@ -3,11 +3,11 @@
 //!
 //! The subspaces of small numbers are those of the numbers below 2^j. `hats` of `specs/Basis.antt` are their polynomials,
 //! each 0 on its subspace and 1 at 2^j; products of them are a basis of all polynomials. `convert` takes the columns of rows,
-//! as coefficients of powers, to coefficients in that basis; `values_at_coset` takes these to the values at the points of
-//! 2^level numbers from a multiple of 2^level on. One conversion serves for all cosets. `values` does both. Rows stand one
-//! after another and may have any width: each step goes along whole rows, so that each factor is prepared once for all
-//! columns. What is promised is the value of each column at each point, and how many products are made at most. Nothing
-//! here takes memory.
+//! as coefficients of powers, to coefficients in that basis, and leaves out rows that are known to be zero; `values_at_coset`
+//! takes these to the values at the points of as many numbers as are asked for, up to 2^level, from a multiple of 2^level on.
+//! One conversion serves for all cosets. `values` does both. Rows stand one after another and may have any width: each step
+//! goes along whole rows, so that each factor is prepared once for all columns. What is promised is the value of each column
+//! at each point, and how many products are made at most. Nothing here takes memory.
 #![tactic(auto)]
 
 mod butterflies;

@@ -23,7 +23,7 @@ pub(crate) fn add_words(into: &mut [u16], other: &[u16], known: usize)
     }
 }
 
-/// Adds a multiple of words to as many words. It counts one step for each word, or none where the factor is 0.
+/// Adds a multiple of words to as many words. It counts at most one step for each word.
 pub(crate) fn add_multiple<L: Ledger>(
     into: &mut [u16],
     other: &[u16],
@@ -40,8 +40,8 @@ pub(crate) fn add_multiple<L: Ledger>(
     }
 }
 
-/// Adds a multiple of the words of `high` to those of `low`, and then these to `high`. It counts one step for each word of
-/// `high`, or none where the factor is 0.
+/// Adds a multiple of the words of `high` to those of `low`, and then these to `high`. It counts at most one step for
+/// each word of `high`.
 pub(crate) fn butterfly<L: Ledger>(low: &mut [u16], high: &mut [u16], by: u16, steps: &mut Steps<L>)
     requires { length low.old ≡ length high.old }
     ensures low { (i : ℕ) → i < length high.old → slice_index low.new i
@@ -58,7 +58,7 @@ pub(crate) fn butterfly<L: Ledger>(low: &mut [u16], high: &mut [u16], by: u16, s
     }
 }
 
-/// Multiplies words. It counts one step for each word, or none where the factor is 1.
+/// Multiplies words. It counts at most one step for each word.
 pub(crate) fn multiply<L: Ledger>(words: &mut [u16], by: u16, steps: &mut Steps<L>)
     ensures products { (i : ℕ) → i < length words.old → slice_index words.new i
         ≡ gf16.times by (slice_index words.old i) }
