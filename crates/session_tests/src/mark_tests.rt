@@ -1,10 +1,10 @@
 //! The marks of a stream's groups.
-use crate::TWO_GROUPS;
 use mpeg_scan::Scan;
 use pet_base::MemoryPlace;
 use std::alloc::Global;
 use std::test::Fail;
 use stream_session::{GroupMark, MarkedSource, SessionFault, SourceFault, read_marked};
+use stream_tests::TWO_GROUPS;
 
 /// Priorities of two layers.
 const PRIORITIES: &str =

@@ -1,7 +1,6 @@
 //! The text of a plan, and the plan file that is read again.
 ghost use Rattle.std.specs.Prelude.{◌≡◌, ◌↔◌, length, IsTrue};
 
-use crate::{layer, layers_of};
 use example_session::PRIORITIES;
 use plan_text::{
     PlanFault, Repeat, least_line, lengths_line, plan_group_line, plan_layer_line,
@@ -10,6 +9,7 @@ use plan_text::{
 use priority_file::{Priority, read_priority};
 use std::test::Fail;
 use stripe_plan::Table;
+use stripe_tests::{layer, layers_of};
 
 #[test]
 fn prints_rows_of_equal_lengths(rt: HostRuntime) -> Result<(), Fail> {

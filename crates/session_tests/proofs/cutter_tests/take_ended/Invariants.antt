@@ -1,5 +1,5 @@
 use Rattle.group_cutter.specs.Cutting.{pieces_left}
-use Rattle.stream_tests.proofs.cutter_tests.take_ended.Given as goal
+use Rattle.session_tests.proofs.cutter_tests.take_ended.Given as goal
 
 -- with each group fewer pieces are left
 abbrev pub decreases-loop-group : goal.decreases-loop-group

@@ -1,12 +1,13 @@
 //! The example stream under the example priorities, and the limits.
-use crate::{EXAMPLE_PIECES, is_table, piece, pieces_on_end, priority_of, three_layers};
 use mpeg_scan::Piece;
 use pet_base::{Kind, NoMemory};
 use priority_file::Priority;
 use std::alloc::Global;
 use std::test::Fail;
 use stream_session::{Planner, SessionFault};
+use stream_tests::{EXAMPLE_PIECES, piece, pieces_on_end, priority_of, three_layers};
 use stripe_plan::{Table, datagram_length, stripes};
+use stripe_tests::is_table;
 
 fn add_all(planner: &mut Planner, pieces: &[Piece]) -> Result<(), NoMemory> {
     for piece in pieces {

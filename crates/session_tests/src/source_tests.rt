@@ -1,5 +1,4 @@
 //! The example session over files in memory, and what two files are refused for.
-use crate::is_example;
 use example_session::{PRIORITIES, SESSION, STREAM};
 use mpeg_scan::Scan;
 use pet_base::MemoryPlace;
@@ -7,6 +6,7 @@ use priority_file::{Priority, PriorityFault, read_priority};
 use std::alloc::Global;
 use std::test::Fail;
 use stream_session::{Pass, SessionPlan, SourceFault, StreamFault, read_source};
+use stripe_tests::is_example;
 
 /// The plan of a stream that comes in portions of so many bytes.
 fn plan_of(

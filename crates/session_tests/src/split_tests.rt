@@ -1,5 +1,4 @@
 //! The example stream in groups and layers, and the limits.
-use crate::{EXAMPLE_PIECES, piece, pieces_on_end, priority_of, three_layers};
 use arrayvec::ArrayVec;
 use example_session::STREAM;
 use layer_split::{
@@ -7,6 +6,7 @@ use layer_split::{
 };
 use pet_base::{Kind, MAX_LAYERS};
 use std::test::Fail;
+use stream_tests::{EXAMPLE_PIECES, piece, pieces_on_end, priority_of, three_layers};
 
 const P: u32 = 4;
 

@@ -1,21 +1,18 @@
 //! Streams cut into groups with their bytes.
-use crate::TWO_GROUPS;
+use crate::run;
 use example_session::{PRIORITIES, STREAM};
 use group_cutter::{CutFault, Group, GroupCutter};
-use layer_split::{Run, SplitFault};
+use layer_split::SplitFault;
 use mpeg_scan::Scan;
 use pet_base::NoMemory;
 use priority_file::{Priority, read_priority};
 use std::alloc::Global;
 use std::test::Fail;
+use stream_tests::TWO_GROUPS;
 
 /// Heads, I and D pictures in layer 0, P pictures and the first B picture of a group in layer 1, the others in layer 2.
 const PLACES: &str =
     "packets = 6\n[[layer]]\nname = \"base\"\nkinds = [\"head\", \"I\"]\nneed = 2\n[[layer]]\nname = \"P\"\nkinds = [\"P\", \"B1\"]\nneed = 3\n[[layer]]\nname = \"B\"\nkinds = [\"B\"]\nneed = 5\n";
-
-fn run(layer: u8, at: u64, len: u32) -> Run {
-    Run { layer, at, len }
-}
 
 /// Takes the groups that have ended.
 fn take_ended(cutter: &mut GroupCutter, groups: &mut Vec<Group>) -> Result<(), NoMemory> {
