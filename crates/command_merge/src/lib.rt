@@ -9,8 +9,3 @@ mod command;
 mod files;
 
 pub use command::{MergeEnd, merge};
-
-#[cfg(test)]
-mod fixtures;
-#[cfg(test)]
-mod tests;

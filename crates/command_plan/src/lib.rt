@@ -14,8 +14,3 @@ mod planning;
 
 pub use checking::{CheckEnd, check};
 pub use planning::{PlanEnd, plan};
-
-#[cfg(test)]
-mod fixtures;
-#[cfg(test)]
-mod tests;

@@ -15,12 +15,3 @@ mod opening;
 mod reading;
 
 pub use command::{ReceiveEnd, receive};
-
-#[cfg(test)]
-mod fixtures;
-#[cfg(test)]
-mod link_tests;
-#[cfg(test)]
-mod tests;
-#[cfg(test)]
-mod untold;

@@ -14,14 +14,3 @@ mod session;
 
 pub use command::{SendEnd, send};
 pub use sent_group::Change;
-
-#[cfg(test)]
-mod fixtures;
-#[cfg(test)]
-mod link_tests;
-#[cfg(test)]
-mod second_tests;
-#[cfg(test)]
-mod send_tests;
-#[cfg(test)]
-mod untold_place;

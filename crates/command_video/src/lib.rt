@@ -11,10 +11,3 @@ mod command;
 mod files;
 
 pub use command::{VideoEnd, video};
-
-#[cfg(test)]
-mod fixtures;
-#[cfg(test)]
-mod run_tables;
-#[cfg(test)]
-mod tests;

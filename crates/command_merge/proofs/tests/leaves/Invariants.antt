@@ -1,4 +1,0 @@
-use Rattle.command_merge.proofs.tests.leaves.Given as goal
-
-abbrev pub ghosts-merge_counted : goal.ghosts-merge_counted
-ghosts-merge_counted a = record { name = a.blank.name; parts = a.blank.parts }

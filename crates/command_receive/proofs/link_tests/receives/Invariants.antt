@@ -1,4 +1,0 @@
-use Rattle.command_receive.proofs.link_tests.receives.Given as goal
-
-abbrev pub ghosts-receives_counted : goal.ghosts-receives_counted
-ghosts-receives_counted g a = record { name = a.blank.name; parts = a.blank.parts }

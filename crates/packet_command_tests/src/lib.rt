@@ -1,0 +1,30 @@
+//! Tests over the public calls of the commands that read packets: `command_receive`, `command_merge` and `command_video`.
+//!
+//! They stand apart because the gate proves a crate with tests twice, once alone and once with them: here the second time is
+//! the tests' own. No program uses this crate.
+#![tactic(auto)]
+
+mod head;
+
+pub use head::{STORE_HEAD, store_head};
+
+#[cfg(test)]
+mod merge_fixtures;
+#[cfg(test)]
+mod merge_tests;
+#[cfg(test)]
+mod receive_fixtures;
+#[cfg(test)]
+mod receive_link_tests;
+#[cfg(test)]
+mod receive_tests;
+#[cfg(test)]
+mod run_table_fixtures;
+#[cfg(test)]
+mod store_fixtures;
+#[cfg(test)]
+mod untold;
+#[cfg(test)]
+mod video_fixtures;
+#[cfg(test)]
+mod video_tests;
