@@ -8,8 +8,8 @@ ghost use Rattle.command_merge.specs.Ends.{IsFirstEnd, IsSecondEnd};
 ghost use Rattle.command_merge.specs.Merges.{IsCause, WritesUnion, union_of};
 
 use crate::command::MergeEnd;
-use pet_base::{NoMemory, Place, Steps, Stop};
 use kept_sets::Absorb;
+use pet_base::{NoMemory, Place, Steps, Stop};
 use pet_receive::Receiver;
 use pet_tables::Gf16Tables;
 use std::alloc::Global;

@@ -23,11 +23,11 @@ ghost use Rattle.command_receive.specs.SoFar.{HasReceived, StoppedSoFar, PartOfO
 
 use crate::opening::open;
 use datagram_route::{Route, RouteStop, next_datagram};
+use kept_sets::{Verdict, group_of};
 use met_packets::put_shown;
 use pet_base::{
     Entry, Link, MAX_DATAGRAMS, MAX_ENTRY, MAX_SESSION, Outside, Place, Sink, Steps, Stop,
 };
-use kept_sets::{Verdict, group_of};
 use pet_receive::Receiver;
 use pet_tables::Gf16Tables;
 use std::alloc::{AllocError, Global};

@@ -41,10 +41,6 @@ read_of cutter stream h e = subst (λ o. MatchOption o ((pieces : List Piece) ×
 pub refused_of : (cutter : GroupCutter) (stream : List ℕ) (scan : Scan) → HasScanned cutter stream → cutter.scan ≡ Some scan → (rest : List ℕ) → Refuses (stream ++ rest) scan
 refused_of cutter stream scan h e = subst (λ o. MatchOption o ((pieces : List Piece) × HasRead cutter.scanner stream pieces) (λ s. (rest : List ℕ) → Refuses (stream ++ rest) s)) e h
 
-pub no_option : {A : Type 0} (o : Option A) → ((x : A) → o ≡ Some x → ⊥) → o ≡ None
-no_option None none = refl
-no_option (Some x) none = absurd (none x refl)
-
 pub is_none : {A : Type 0} (o : Option A) → is_some o ≡ false → o ≡ None
 is_none None e = refl
 is_none (Some x) e = absurd cc

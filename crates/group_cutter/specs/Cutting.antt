@@ -5,7 +5,7 @@ use Rattle.std.specs.List.{flat_map}
 use Rattle.pet_base.specs.declared.limits.TheConstants.{MAX_GROUPS}
 use Rattle.mpeg_scan.specs.declared.piece.Piece.{Piece}
 use Rattle.mpeg_scan.specs.declared.refusal.Scan.{Scan}
-use Rattle.mpeg_scan.specs.Refusals.{IsAccepted, IsUndecided, Refuses, max_stream}
+use Rattle.mpeg_scan.specs.Refusals.{IsAccepted, IsUndecided, IsRefusal, Refuses, max_stream}
 use Rattle.mpeg_scan.specs.Pieces.{pieces_of, ended_pieces, StandOnEnd}
 use Rattle.mpeg_scan.specs.Scanning.{HasRead, HasStopped, HasGrown, IsFrontOf, added}
 use Rattle.priority_file.specs.Priority.{Priorities, layer_of}
@@ -57,7 +57,7 @@ IsCuttable priority stream = IsAccepted stream × (groups_fault priority stream 
 -- Why the stream is not cut: its refusal, which holds however it goes on where it is too long already, or else that of
 -- its groups. Want of memory says nothing.
 abbrev pub IsCutFault : Priorities → List ℕ → CutFault → Type 0
-IsCutFault priority stream (Stream scan) = Refuses stream scan × (max_stream < length stream → (rest : List ℕ) → Refuses (stream ++ rest) scan)
+IsCutFault priority stream (Stream scan) = IsRefusal stream scan
 IsCutFault priority stream (Groups fault) = IsAccepted stream × (fault ≢ split.NoMemory) × (groups_fault priority stream ≡ Some fault)
 IsCutFault priority stream NoMemory = Unit {0}
 
@@ -171,7 +171,7 @@ pub record HasEnded (cutter : GroupCutter) (priority : Priorities) (stream : Lis
   pub bounded : length stream ≤ max_stream
   pub looked : HasLooked cutter priority stream (pieces_of stream) given
 
--- what the reading of a portion leaves alone, but for the scanner, which appends pieces
+-- what the reading of a portion leaves alone: all but the scanner, its refusal, and the pieces, which it appends
 pub record KeepsHeld (old new : GroupCutter) : Type 0 where
   pub splitter : new.splitter ≡ old.splitter
   pub held : new.held ≡ old.held

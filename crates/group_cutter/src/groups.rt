@@ -40,8 +40,9 @@ impl Model for Group {
 
 /// Gives the groups of a stream that comes in portions, one by one, each once it has ended.
 ///
-/// It holds the bytes of the group that has not ended, and the last portion. Its calls fail only for want of memory, and
-/// nothing is said of the cutter after that.
+/// It holds the bytes of the group that has not ended, and the last portion, and none once its groups are refused. `new`,
+/// `feed` and `next` fail only for want of memory, and nothing is said of the cutter after that; `finish` answers a refusal
+/// too.
 #[derive(Drop)]
 pub struct GroupCutter {
     alloc: Global,

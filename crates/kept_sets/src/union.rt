@@ -1,4 +1,4 @@
-//! Taking in all that another receiver has kept.
+//! Why what another receiver has kept cannot be taken in.
 ghost use Rattle.std.specs.Prelude.{◌≡◌};
 
 use pet_base::NoMemory;

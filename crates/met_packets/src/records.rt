@@ -15,8 +15,8 @@ ghost use Rattle.met_packets.specs.Records.{layers_in, records_text, AreLayersOf
 ghost use Rattle.command_files.specs.Outputs.{Puts, PutsPart};
 
 use arrayvec::ArrayVec;
-use pet_base::{Failed, MAX_LAYERS, Place};
 use kept_sets::LayerSet;
+use pet_base::{Failed, MAX_LAYERS, Place};
 use pet_receive::Receiver;
 use pet_rows::Rows;
 

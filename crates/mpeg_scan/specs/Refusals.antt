@@ -54,6 +54,10 @@ pub record Refuses (stream : List ℕ) (scan : Scan) : Type 0 where
   pub holding : IsTrue (holds stream scan)
   pub first : (other : Scan) → IsTrue (holds stream other) → (other ≡ scan) ⊎ ComesBefore stream scan other
 
+-- the stream is refused so, and where it is too long already, so it is however it goes on
+abbrev pub IsRefusal : List ℕ → Scan → Type 0
+IsRefusal stream scan = Refuses stream scan × (max_stream < length stream → (rest : List ℕ) → Refuses (stream ++ rest) scan)
+
 -- a stream without a refusal
 abbrev pub IsAccepted : List ℕ → Type 0
 IsAccepted stream = (scan : Scan) → holds stream scan ≡ false

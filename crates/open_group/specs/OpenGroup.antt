@@ -1,12 +1,11 @@
 -- What is held of one open group, and the packets for which it stands, in their order. This project's own. No order is stored.
-use Rattle.std.specs.Prelude.{◌≡◌, ◌↔◌, ℕ, ◌<◌, ◌≤◌, List, [], length, Contains, map, replicate, None, IsSome, unwrap_or, slice_index_or}
+use Rattle.std.specs.Prelude.{◌≡◌, ◌↔◌, ℕ, ◌<◌, ◌≤◌, List, [], length, Contains, map, IsSome, unwrap_or, slice_index_or}
 use Rattle.pet_field.specs.Field.{Coding}
 use Rattle.pet_poly.specs.Value.{AreDistinct}
 use Rattle.pet_poly.specs.Rows.{words}
 use Rattle.pet_interp.specs.Progressive.{Held, StandsFor, stripe_of, lengths_of}
 use Rattle.stripe_plan.specs.declared.layer.LayerSize.{LayerSize}
 use Rattle.stripe_plan.specs.Layers.{plan_stripes}
-use Rattle.packet_frame.specs.declared.frame.Header.{Header}
 pub use Rattle.packet_set.specs.Packets.{Packets, slot_at, count_in, layers_of, no_packets}
 use Rattle.pet_encode.specs.Payload.{stripes_in}
 use Rattle.pet_encode.specs.Session.{IsMessage}

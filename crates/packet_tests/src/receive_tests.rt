@@ -6,10 +6,10 @@ use crate::receive_fixtures::{
     IN_GROUP_258, LONG_LAYER, OF_ANOTHER_SESSION, ONLY_LAYER, SEVEN_0, SEVEN_2, SHORT_LAYER,
     TWO_GROUPS_TAG, WORDS_1, WORDS_3, two_layers,
 };
+use kept_sets::{LayerSet, Verdict, group_of};
 use packet_frame::read_frame;
 use pet_base::{NoMemory, Steps};
 use pet_field::Gf16Plain;
-use kept_sets::{LayerSet, Verdict, group_of};
 use pet_receive::Receiver;
 use std::alloc::Global;
 use std::marker::Brand;

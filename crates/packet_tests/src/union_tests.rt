@@ -2,9 +2,9 @@
 ghost use Rattle.std.specs.Prelude.{◌≡◌, ◌<◌};
 
 use crate::receive_fixtures::{EXAMPLE, EXAMPLE_2, EXAMPLE_5, WORDS_1};
+use kept_sets::Absorb;
 use pet_base::{NoMemory, Steps};
 use pet_field::Gf16Plain;
-use kept_sets::Absorb;
 use pet_receive::Receiver;
 use std::alloc::Global;
 use std::marker::Brand;

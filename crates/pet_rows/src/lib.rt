@@ -8,12 +8,12 @@
 //! for the values of a few columns, which are faster by tables), under the very same clauses: each counts exactly one step
 //! for each product.
 //!
-//! `multiply_row`, `add_multiple_row` and `butterfly_row` go along rows of any length by one factor of that field, on the same
-//! vectors.
-//!
 //! `push_stripe` puts stripes into blocks, `lay_out` writes a row of stripes into the columns of blocks, and `transpose`
 //! does so for one block, and writes its columns on end again. `block_values` is what the encoder asks of blocks. All of
 //! this holds over any lawful field. Only `push_stripe` takes memory.
+//!
+//! `multiply_row`, `add_multiple_row` and `butterfly_row` go along rows of any length by one factor, over the field of 65,536
+//! elements alone, on the same vectors.
 #![tactic(auto)]
 
 mod any_field;

@@ -35,7 +35,7 @@ by_twice a b = grind arith
 regroup : (a b c : ℕ) → a * b * c ≡ a * (b * c)
 regroup a b c = grind arith
 
--- a transform makes fewer products than Horner's rule
+-- a transform makes no more products than Horner's rule
 pub cost_fits : (level size known stripes wide further words count : ℕ) → size ≡ 2 ^ level → wide ≡ size * stripes
     → 2 * (level * (known * stripes) + 2 * size) + (further + 1) * (level * wide + 4 * size) ≤ 2 * count * words
     → level * (known * stripes) + 2 ^ (level + 1) + (further + 1) * (butterflies level * stripes + 2 ^ (level + 1)) ≤ count * words

@@ -47,7 +47,8 @@ pub trait AllValues: Rows {
 
 impl AllValues for Gf16Plain {}
 
-/// By the additive fast Fourier transform where that makes fewer products and its buffer is small, and else point after point.
+/// By the additive fast Fourier transform where that makes no more products, its buffers are small and there is memory for
+/// them, and else point after point.
 impl AllValues for Gf16Tables {
     fn value_rows<L: Ledger>(
         &self,

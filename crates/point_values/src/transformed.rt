@@ -71,7 +71,7 @@ fn is_taken(
     if words > MAX_WIDE || wide > MAX_WIDE / buffers || wide > MAX_PADDING * words {
         return false;
     }
-    // twice as many as are made
+    // twice the bounds of what is made
     let converted = 2 * (level as usize * (known * stripes) + 2 * size);
     let flown = level as usize * wide + 4 * size;
     if converted + (usize::from(further) + 1) * flown > 2 * count * words {

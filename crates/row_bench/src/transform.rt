@@ -14,7 +14,8 @@ const LEVEL: u32 = 7;
 /// How many points these are.
 const POINTS: usize = 128;
 
-/// The values of each stripe at the points of the packets, a row for each point, of at most `POINTS`.
+/// The values of each stripe at the points of the packets, `POINTS` at most, a row for each. What stands in the rows behind
+/// them is not said.
 #[inline(never)]
 pub fn transformed<L: Ledger>(
     alloc: Global,

@@ -15,8 +15,8 @@ ghost use Rattle.store_merge.specs.Reading.{frame_of, fault_of, fault_by, is_nex
 
 use crate::fault::{BadStore, StoreKind};
 use crate::format::{HEAD_LENGTH, MARK};
-use pet_base::{Steps, TAG_LENGTH};
 use kept_sets::{Verdict, group_of, number_of};
+use pet_base::{Steps, TAG_LENGTH};
 use pet_receive::Receiver;
 use pet_rows::Rows;
 use sha2::{Digest, Sha256};

@@ -1,7 +1,7 @@
 -- Where a pass stands over a stream that came in portions, and what it answers at the end. This project's own.
 use Rattle.std.specs.Prelude.{◌≡◌, ◌≢◌, ℕ, ◌<◌, List, [], ◌++◌, length, take, None, Some, MatchOption}
 use Rattle.mpeg_scan.specs.declared.piece.Piece.{Piece}
-use Rattle.mpeg_scan.specs.Refusals.{Refuses, IsAccepted, max_stream}
+use Rattle.mpeg_scan.specs.Refusals.{Refuses, IsRefusal, IsAccepted}
 use Rattle.mpeg_scan.specs.Pieces.{pieces_of}
 use Rattle.mpeg_scan.specs.Scanning.{HasRead}
 use Rattle.sha2.specs.Hashers.{Holds256}
@@ -55,7 +55,7 @@ IsPlanFault priority pieces NoMemory = Unit {0}
 -- Why the stream is no session: its refusal, which holds however it goes on where it is too long already, or else that
 -- of the plan. Want of memory says nothing.
 abbrev pub IsStreamFault : Priorities → List ℕ → StreamFault → Type 0
-IsStreamFault priority stream (Stream scan) = Refuses stream scan × (max_stream < length stream → (rest : List ℕ) → Refuses (stream ++ rest) scan)
+IsStreamFault priority stream (Stream scan) = IsRefusal stream scan
 IsStreamFault priority stream (Plan fault) =
     IsAccepted stream × (fault ≢ session.NoMemory) × (session_fault priority (pieces_of stream) ≡ Some fault)
 IsStreamFault priority stream NoMemory = Unit {0}

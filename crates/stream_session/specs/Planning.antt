@@ -27,7 +27,7 @@ pub record AreOf (held : LayerNeeds) (priority : Priorities) : Type 0 where
   pub few : length priority.layers ≤ MAX_LAYERS
   pub bounds : is_priority priority ≡ true
 
--- these are the first of the cuts that is too wide, and while there is none the tables of all
+-- kept are the number of the first cut that is too wide, and while there is none the tables of all
 pub record HasTables (kept : GroupTables) (priority : Priorities) (cuts : List Cut) : Type 0 where
   pub needs : AreOf kept.needs priority
   pub wide : kept.wide ≡ position (is_wide priority) cuts

@@ -113,10 +113,10 @@ ended_by cutter priority stream given (Some fault) scan over = over.ended
 pub given_ended : (cutter : GroupCutter) (priority : Priorities) (stream : List ℕ) (given : List CutGroup) → HasCut cutter priority stream given → HaveEnded priority stream given
 given_ended cutter priority stream given h = ended_by cutter priority stream given cutter.fault cutter.scan h.state
 
--- a stream that is not cut is refused, or its groups are
 none_and_some : (fault : SplitFault) (o : Option SplitFault) → o ≡ Some fault → o ≡ None → ⊥
 none_and_some fault o some none = cc
 
+-- what is refused so cannot be cut
 pub fault_refuses : (priority : Priorities) (stream : List ℕ) (fault : CutFault) → fault ≢ NoMemory → IsCutFault priority stream fault → IsCuttable priority stream → ⊥
 fault_refuses priority stream (Stream scan) told is cuttable = both_ways (holds stream scan) (cuttable.0 scan) is.0.holding
 fault_refuses priority stream (Groups fault) told is cuttable = none_and_some fault _ is.2 cuttable.1
