@@ -18,6 +18,3 @@ pub use lines::{bound_line, merged_line, receive_line, video_line};
 pub use name::Name;
 pub use status::{PlanKind, Status, fault_line};
 pub use words::{Command, WordsFault, read_words};
-
-#[cfg(test)]
-mod tests;

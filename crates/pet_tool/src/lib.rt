@@ -13,8 +13,3 @@ mod statuses;
 mod top;
 
 pub use top::run;
-
-#[cfg(test)]
-mod fixtures;
-#[cfg(test)]
-mod tests;

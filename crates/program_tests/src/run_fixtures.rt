@@ -1,9 +1,9 @@
 //! What the tests of `run` share: a place that has files, and `run` on objects in memory.
 ghost use Rattle.std.specs.Prelude.{◌≡◌, ◌<◌};
 
-use crate::run;
 use pet_base::{Link, MemoryLink, MemoryPlace, MemorySink, Place, Steps};
 use pet_text::Status;
+use pet_tool::run;
 use std::alloc::{AllocError, Global};
 use std::marker::Brand;
 use std::sync::ledger::{Blank, Ledger};

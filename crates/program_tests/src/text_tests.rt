@@ -1,6 +1,10 @@
-use super::*;
+//! Words, statuses and lines of `pet_text`, each as it stands.
 use arrayvec::ArrayVec;
 use mpeg_scan::Scan;
+use pet_text::{
+    Command, End, PlanKind, Status, WordsFault, bound_line, fault_line, merged_line, read_words,
+    receive_line, video_line,
+};
 use priority_file::PriorityFault;
 use std::alloc::{AllocError, Global};
 use std::test::Fail;

@@ -1,6 +1,7 @@
 //! `run` over objects in memory: each form of words, and statuses with their numbers and lines. Session numbers were made
 //! outside. What each command writes is tested in its own crate.
-use crate::fixtures::{GROUPS, NO_RUN, ends, place_of, run_by, run_on};
+use crate::bad_line;
+use crate::run_fixtures::{GROUPS, NO_RUN, ends, place_of, run_by, run_on};
 use example_session::{PLAN, PRIORITIES, STREAM};
 use mpeg_scan::Scan;
 use pet_base::{MemoryLink, MemorySink};
@@ -56,7 +57,7 @@ fn ends_with_the_status_and_its_line(rt: HostRuntime) -> Result<(), Fail> {
     let least = "fault least 0\n";
     let sent = "session a5ac9461b03bcf36 groups 1 datagrams 6\n";
     let nothing = "read 0 kept 0 shown 0\nfault incomplete\n";
-    let text = Status::BadPlan(PlanKind::Text, 1);
+    let text = bad_line(1);
     let lines = Status::BadPlan(PlanKind::Lines, 0);
     let rows: [(&[&str], &str, Status, u8, &str); 10] = [
         (&plan, PLAN, Status::Done, 0, PLAN),

@@ -1,0 +1,16 @@
+//! Tests over the public calls of `pet_text` and `pet_tool`: words, statuses and lines, and `run` on files and links in memory.
+//!
+//! They stand apart because the gate proves a crate with tests twice, once alone and once with them: here the second time is
+//! the tests' own. No program uses this crate.
+#![tactic(auto)]
+
+mod statuses;
+
+pub use statuses::bad_line;
+
+#[cfg(test)]
+mod run_fixtures;
+#[cfg(test)]
+mod run_tests;
+#[cfg(test)]
+mod text_tests;
