@@ -17,6 +17,3 @@ mod transform;
 mod words;
 
 pub use transform::{convert, values, values_at_coset};
-
-#[cfg(test)]
-mod tests;

@@ -1,7 +1,7 @@
 //! Tests of the field, of polynomials, of rows and of interpolation: values from outside.
 //!
-//! They run the public calls of `pet_field`, `pet_tables`, `pet_poly`, `pet_rows`, `point_values` and `pet_interp`, as a
-//! caller sees them, a module a crate. They stand apart because the gate proves a crate that has tests twice, once alone and
+//! They run the public calls of `pet_field`, `pet_tables`, `pet_poly`, `pet_rows`, `additive_fft`, `point_values` and
+//! `pet_interp`, as a caller sees them, a module a crate. They stand apart because the gate proves a crate that has tests twice, once alone and
 //! once whole with its tests: here the second time is the tests' own. `fixtures` is what several of them share. No program
 //! uses this crate.
 #![tactic(auto)]
@@ -22,5 +22,7 @@ mod poly_tests;
 mod rows_tests;
 #[cfg(test)]
 mod tables_tests;
+#[cfg(test)]
+mod transform_tests;
 #[cfg(test)]
 mod values_tests;

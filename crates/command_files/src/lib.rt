@@ -9,6 +9,3 @@
 mod input;
 
 pub use input::{MAX_PORTION, portion_room, read_file, take_portion};
-
-#[cfg(test)]
-mod tests;

@@ -16,8 +16,3 @@ mod udp_link;
 pub use file_place::FilePlace;
 pub use standard_out::StandardOut;
 pub use udp_link::UdpLink;
-
-#[cfg(test)]
-mod link_tests;
-#[cfg(test)]
-mod tests;

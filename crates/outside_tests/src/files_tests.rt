@@ -1,5 +1,5 @@
 //! Files in memory that are read to their end, or one byte past a limit.
-use crate::read_file;
+use command_files::read_file;
 use pet_base::{MemoryPlace, Stop};
 use std::test::Fail;
 

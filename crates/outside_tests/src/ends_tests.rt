@@ -1,6 +1,6 @@
 //! A real file, and a writer that takes little at a time and gives out in the middle.
-use super::*;
 use pet_base::{Failed, Place, Sink};
+use pet_ends::{FilePlace, StandardOut};
 use std::io::{ErrorKind, Write};
 use std::test::Fail;
 use std::{fs, io};

@@ -1,9 +1,10 @@
 //! Datagrams over the loopback of this machine: what is sent arrives, and what fails.
-ghost use Rattle.std.specs.Prelude.{◌≡◌, ◌≤◌, length, vec_len, IfOk};
+ghost use Rattle.std.specs.Prelude.{◌≤◌, length};
 ghost use Rattle.pet_base.specs.declared.limits.TheConstants.{MAX_ENTRY};
 
-use super::UdpLink;
-use pet_base::{Failed, Got, Link, MAX_ENTRY};
+use crate::room;
+use pet_base::{Failed, Got, Link};
+use pet_ends::UdpLink;
 use std::alloc::{AllocError, Global};
 use std::net::Net;
 use std::test::Fail;
@@ -11,13 +12,6 @@ use std::time::{Duration, Instant};
 
 /// The most bytes of a datagram that IPv4 has room for, beside its header and that of UDP.
 const LONGEST: usize = 65_507;
-
-/// Room for the longest datagram.
-fn room(alloc: Global) -> Result<Vec<u8>, AllocError>
-    ensures { IfOk result (λ room. vec_len room ≡ MAX_ENTRY) }
-{
-    vec![in alloc; 0u8; usize::from(MAX_ENTRY)]
-}
 
 /// A datagram of so many bytes.
 fn long(alloc: Global, length: usize) -> Result<Vec<u8>, AllocError> {

@@ -1,7 +1,8 @@
 //! Values from outside, over the field of 65,536 elements.
 ghost use Rattle.std.specs.Prelude.{◌≡◌, ◌+◌, ◌*◌, ◌<◌, ◌≤◌, ◌^◌, length, slice_index, IfOk, ℕ, vec_len};
 
-use crate::{convert, values, values_at_coset};
+use crate::digest;
+use additive_fft::{convert, values, values_at_coset};
 use pet_base::Steps;
 use std::alloc::{AllocError, Global};
 use std::marker::Brand;
@@ -46,14 +47,6 @@ fn words(alloc: Global, count: usize, known: usize) -> Result<Vec<u16>, AllocErr
         words[i] = word;
     }
     Ok(words)
-}
-
-fn digest(words: &[u16]) -> u32 {
-    let mut sum: u32 = 0;
-    for word in words {
-        sum = sum.wrapping_mul(31).wrapping_add(u32::from(*word));
-    }
-    sum
 }
 
 /// The digests of the values of rows of such words, at once and by a conversion.
