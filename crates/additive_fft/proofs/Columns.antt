@@ -114,6 +114,12 @@ middle n p w rows e long =
     let t : length rows ≡ p * w + p * w = long ∙ ap (λ k. k * w) e ∙ twice p w in
     omega arith
 
+-- what is behind the middle
+pub rest_fits : (n p w known : ℕ) (rows high : List ℕ) → n ≡ p + p → length rows ≡ n * w → length high ≡ p * w → known ≤ length rows → known - length rows / 2 ≤ length high
+rest_fits n p w known rows high e long l h =
+    let t : length rows ≡ p * w + p * w = long ∙ ap (λ k. k * w) e ∙ twice p w in
+    omega (arith, middle n p w rows e long)
+
 pub length_low : (n p w m : ℕ) (rows low : List ℕ) → n ≡ p + p → length rows ≡ n * w → m ≡ length rows / 2 → low ≡ take m rows → length low ≡ p * w
 length_low n p w m rows low e long em l =
     let t : length rows ≡ p * w + p * w = long ∙ ap (λ k. k * w) e ∙ twice p w in

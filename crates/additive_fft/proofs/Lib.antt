@@ -3,6 +3,7 @@ pub mod Readings
 pub mod Flights
 pub mod Conversions
 pub mod Factors
+pub mod Kernels
 pub mod Places
 pub mod OneColumn
 pub mod Columns

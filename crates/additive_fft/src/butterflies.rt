@@ -1,6 +1,6 @@
 //! From coefficients in the basis of the subspaces to values.
 ghost use Rattle.std.specs.Prelude.{◌≡◌, ◌<◌, ◌≤◌, ◌^◌, ◌+◌, ◌*◌, ℕ, length};
-ghost use Rattle.additive_fft.specs.Steps.{butterflies};
+ghost use Rattle.additive_fft.specs.Steps.{products_of_values};
 ghost use Rattle.additive_fft.specs.Columnwise.{Columnwise, Flies};
 
 use crate::element::hat;
@@ -21,7 +21,7 @@ pub(crate) fn fly<L: Ledger>(
     requires size { length rows.old ≡ 2 ^ level * width }
     requires count { count ≤ 2 ^ level }
     ensures values { Columnwise (Flies level c count) width (2 ^ level) rows.old rows.new }
-    ensures cost { steps.new + 2 * level + 2 ≤ steps.old + butterflies level * width + 2 ^ (level + 1) }
+    ensures cost { steps.new ≡ steps.old + products_of_values width level c count }
 {
     if level > 0 {
         let below = level - 1;

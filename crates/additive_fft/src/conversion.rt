@@ -1,7 +1,8 @@
 //! From coefficients of powers to coefficients in the basis of the subspaces.
-ghost use Rattle.std.specs.Prelude.{◌≡◌, ◌<◌, ◌≤◌, ◌+◌, ◌*◌, ◌^◌, ℕ, length, slice_index};
+ghost use Rattle.std.specs.Prelude.{◌≡◌, ◌<◌, ◌≤◌, ◌+◌, ◌-◌, ◌*◌, ◌^◌, ℕ, length, slice_index, true, cond};
 ghost use Rattle.pet_rows.specs.Columns.{column};
 ghost use Rattle.additive_fft.specs.Columnwise.{Columnwise, Expands, Scales, Converts, Lifts};
+ghost use Rattle.additive_fft.specs.Steps.{products_of_powers, products_of_conversion};
 
 use crate::element::{factor_of, product, squares};
 use crate::words::{add_words, multiply};
@@ -49,7 +50,8 @@ fn expand(rows: &mut [u16], width: usize, shift: u32, level: u32, known: usize)
     }
 }
 
-/// Multiplies block i of 2^shift rows by a and the power i of g. The words from `known` on are zero, and stay so.
+/// Multiplies block i of 2^shift rows by a and the power i of g. The words from `known` on are zero, and stay so. `first` says
+/// that a is 1, so that block 0 makes no product.
 fn scale<L: Ledger>(
     rows: &mut [u16],
     width: usize,
@@ -57,30 +59,34 @@ fn scale<L: Ledger>(
     level: u32,
     g: u16,
     a: u16,
+    first: bool,
     known: usize,
     steps: &mut Steps<L>,
 )
     requires few { shift + level < 16 }
     requires size { length rows.old ≡ 2 ^ (shift + level) * width }
     requires zeros { (i : ℕ) → known ≤ i → slice_index rows.old i ≡ 0 }
+    requires fits { known ≤ length rows.old }
+    requires one { first ≡ true → a ≡ 1 }
     ensures products { Columnwise (Scales shift level g a) width (2 ^ (shift + level)) rows.old rows.new }
     ensures zeros { (i : ℕ) → known ≤ i → slice_index rows.new i ≡ 0 }
-    ensures cost { steps.new + level + 2 ≤ steps.old + known + 2 ^ (level + 1) }
+    ensures cost { steps.new ≡ steps.old + (known - cond first (2 ^ shift * width) 0)
+        + products_of_powers (2 ^ shift * width) level known }
 {
     if level == 0 {
         let end = known.min(rows.len());
         let (front, _zeros) = rows.split_at_mut(end);
-        multiply(front, a, steps);
+        multiply(front, a, first, steps);
     } else {
         let below = level - 1;
         let half = rows.len() / 2;
         let (low, high) = rows.split_at_mut(half);
         if known <= half {
-            scale(low, width, shift, below, g, a, known, steps);
+            scale(low, width, shift, below, g, a, first, known, steps);
         } else {
             let b = product(a, squares(g, below, steps), steps);
-            scale(low, width, shift, below, g, a, half, steps);
-            scale(high, width, shift, below, g, b, known - half, steps);
+            scale(low, width, shift, below, g, a, first, half, steps);
+            scale(high, width, shift, below, g, b, false, known - half, steps);
         }
     }
 }
@@ -98,9 +104,10 @@ pub(crate) fn convert_from<L: Ledger>(
     requires few { shift + level < 16 }
     requires size { length rows.old ≡ 2 ^ (shift + level) * width }
     requires zeros { (i : ℕ) → known ≤ i → slice_index rows.old i ≡ 0 }
+    requires fits { known ≤ length rows.old }
     ensures coefficients { Columnwise (Converts shift level) width (2 ^ (shift + level)) rows.old rows.new }
     ensures zeros { (i : ℕ) → known ≤ i → slice_index rows.new i ≡ 0 }
-    ensures cost { steps.new ≤ steps.old + level * known + 2 ^ (level + 1) }
+    ensures cost { steps.new ≡ steps.old + products_of_conversion (2 ^ shift * width) level known }
 {
     if level > 0 {
         let below = level - 1;
@@ -112,6 +119,7 @@ pub(crate) fn convert_from<L: Ledger>(
             below,
             factor_of(shift),
             1,
+            true,
             known,
             steps,
         );

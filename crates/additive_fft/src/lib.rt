@@ -7,7 +7,7 @@
 //! takes these to the values at the points of as many numbers as are asked for, up to 2^level, from a multiple of 2^level on.
 //! One conversion serves for all cosets. `values` does both. Rows stand one after another and may have any width: each step
 //! goes along whole rows, so that each factor is prepared once for all columns. What is promised is the value of each column
-//! at each point, and how many products are made at most. Nothing here takes memory.
+//! at each point, and how many products are made, to the product (`specs/Steps.antt`). Nothing here takes memory.
 #![tactic(auto)]
 
 mod butterflies;

@@ -5,7 +5,7 @@ ghost use Rattle.pet_poly.specs.Value.{value};
 ghost use Rattle.pet_rows.specs.Columns.{column};
 ghost use Rattle.additive_fft.specs.Basis.{value_in_basis};
 ghost use Rattle.additive_fft.specs.Constants.{inverse};
-ghost use Rattle.additive_fft.specs.Steps.{butterflies};
+ghost use Rattle.additive_fft.specs.Steps.{butterflies, products_of_conversion, products_of_values};
 
 use crate::butterflies::fly;
 use crate::conversion::convert_from;
@@ -15,7 +15,7 @@ use std::sync::ledger::Ledger;
 
 /// Takes each column of 2^level rows of `width` words, as the coefficients of a polynomial, to the coefficients of the same
 /// polynomial in the basis of the products of the polynomials of the subspaces. The rows from `known` on are zero, and stay so. It
-/// counts at most one step for each word before them and each level, and two for each row.
+/// counts one step for each product that is made: at most one for each word before them and each level, and two for each row.
 pub fn convert<L: Ledger>(
     rows: &mut [u16],
     width: usize,
@@ -31,7 +31,8 @@ pub fn convert<L: Ledger>(
         value_in_basis gf16 inverse level (column 0 width (2 ^ level) c rows.new) x
         ≡ value gf16 (column 0 width (2 ^ level) c rows.old) x }
     ensures zeros { (i : ℕ) → known * width ≤ i → slice_index rows.new i ≡ 0 }
-    ensures cost { steps.new ≤ steps.old + level * (known * width) + 2 ^ (level + 1) }
+    ensures cost { steps.new ≡ steps.old + products_of_conversion width level (known * width) }
+    ensures bounded { steps.new ≤ steps.old + level * (known * width) + 2 ^ (level + 1) }
 {
     are_elements(rows);
     convert_from(rows, width, 0, level, known * width, steps);
@@ -39,8 +40,8 @@ pub fn convert<L: Ledger>(
 
 /// Takes each column of 2^level rows of `width` words, as the coefficients of a polynomial in the basis of the products of
 /// the polynomials of the subspaces, to its values: each of the first `count` rows, row p, gets those at the point of the number
-/// block * 2^level + p. What stands in the other rows is not said. It counts at most one step for each word of a butterfly and
-/// two for each row.
+/// block * 2^level + p. What stands in the other rows is not said. It counts one step for each product that is made: at most one
+/// for each word of a butterfly and two for each row.
 pub fn values_at_coset<L: Ledger>(
     rows: &mut [u16],
     width: usize,
@@ -55,7 +56,8 @@ pub fn values_at_coset<L: Ledger>(
     requires count { count ≤ 2 ^ level }
     ensures values { (p c : ℕ) → p < count → c < width → slice_index rows.new (p * width + c)
         ≡ value_in_basis gf16 inverse level (column 0 width (2 ^ level) c rows.old) (block * 2 ^ level + p) }
-    ensures cost { steps.new ≤ steps.old + butterflies level * width + 2 ^ (level + 1) }
+    ensures cost { steps.new ≡ steps.old + products_of_values width level (block * 2 ^ level) count }
+    ensures bounded { steps.new ≤ steps.old + butterflies level * width + 2 ^ (level + 1) }
 {
     are_elements(rows);
     fly(rows, width, level, block << level, count, steps);
@@ -63,7 +65,7 @@ pub fn values_at_coset<L: Ledger>(
 
 /// Takes each column of 2^level rows of `width` words, as the coefficients of a polynomial, to its values: each of the
 /// first `count` rows, row p, gets those at the point of the number block * 2^level + p. The rows from `known` on are zero. It
-/// counts at most as many steps as the two calls that it is.
+/// counts as many steps as the two calls that it is.
 pub fn values<L: Ledger>(
     rows: &mut [u16],
     width: usize,
@@ -85,7 +87,9 @@ pub fn values<L: Ledger>(
         ((i : ℕ) → k ≤ i → i < 2 ^ level → slice_index rows.old (i * width + c) ≡ 0)
         → slice_index rows.new (p * width + c)
         ≡ value gf16 (column 0 width k c rows.old) (block * 2 ^ level + p) }
-    ensures cost { steps.new ≤ steps.old + (level * known + butterflies level) * width + 2 ^ (level + 2) }
+    ensures cost { steps.new ≡ steps.old + products_of_conversion width level (known * width)
+        + products_of_values width level (block * 2 ^ level) count }
+    ensures bounded { steps.new ≤ steps.old + (level * known + butterflies level) * width + 2 ^ (level + 2) }
     ensures fewer { 4 ≤ level → 0 < width → steps.new ≤ steps.old + 2 ^ level * length rows.old }
 {
     convert(rows, width, level, known, steps);

@@ -1,6 +1,7 @@
 use Rattle.std.proofs.Common.{◌-◌, ◌^◌, ◌*◌, ◌+◌, ◌≡◌, ◌∙◌, length, refl, sym, arith}
 use Rattle.additive_fft.proofs.Columns.{flies_columns, flies_low_columns, flies_none_columns, length_low, length_high, power_half}
-use Rattle.additive_fft.proofs.Counting.{fly_cost, fly_low_cost}
+use Rattle.additive_fft.proofs.Counting.{fly_cost, fly_low_cost, fly_none_cost}
+use Rattle.additive_fft.proofs.Kernels.{hat_zero, hat_some, not_nothing}
 use Rattle.additive_fft.proofs.Places.{shift_16, shift_64}
 use Rattle.additive_fft.proofs.butterflies.+fly.Goals as goal
 
@@ -89,10 +90,12 @@ returns-then-count-half-clause-values g t c =
 pub returns-then-count-half-clause-cost : goal.returns-then-count-half-clause-cost
 returns-then-count-half-clause-cost g t c =
     let n = c.args.level in
-    let e : 2 ^ n ≡ 2 ^ (n - 1) + 2 ^ (n - 1) = power_half n (omega arith) in
-    fly_low_cost n c.args.width c.args.steps.now c.hat-by.new.steps c.add_multiple.new.steps c.fly.new.steps (length c.split_at_mut-low.result.1.now)
-    (omega arith) (length_high (2 ^ n) (2 ^ (n - 1)) c.args.width _ c.args.rows.now c.split_at_mut-low.result.1.now e c.requires.size refl c.split_at_mut-low.ensures.back)
-    c.hat-by.ensures.cost c.add_multiple.ensures.cost c.fly.ensures.cost
+    let k = n - 1 in
+    let e : 2 ^ n ≡ 2 ^ k + 2 ^ k = power_half n (omega arith) in
+    fly_low_cost n k c.args.width c.args.c _ c.args.count c.args.steps.now c.hat-by.new.steps c.add_multiple.new.steps c.fly.new.steps (length c.split_at_mut-low.result.1.now)
+    (omega arith) (length_high (2 ^ n) (2 ^ k) c.args.width _ c.args.rows.now c.split_at_mut-low.result.1.now e c.requires.size refl c.split_at_mut-low.ensures.back)
+    (shift_64 k (omega arith)) (omega arith) c.hat-by.ensures.cost (λ l. c.add_multiple.ensures.none (c.hat-by.ensures.value ∙ hat_zero k c.args.c (omega arith) l))
+    (λ l. c.add_multiple.ensures.cost (not_nothing c.hat-by.result _ c.hat-by.ensures.value (hat_some k c.args.c (omega arith) (omega arith) l))) c.fly.ensures.cost
 
 pub returns-else-count-half-clause-values : goal.returns-else-count-half-clause-values
 returns-else-count-half-clause-values g t c =
@@ -111,10 +114,18 @@ returns-else-count-half-clause-values g t c =
 pub returns-else-count-half-clause-cost : goal.returns-else-count-half-clause-cost
 returns-else-count-half-clause-cost g t c =
     let n = c.args.level in
-    let e : 2 ^ n ≡ 2 ^ (n - 1) + 2 ^ (n - 1) = power_half n (omega arith) in
-    fly_cost n c.args.width c.args.steps.now c.hat-by.new.steps c.butterfly.new.steps c.fly-else-count-half.new.steps c.fly-else-count-half-2.new.steps (length c.split_at_mut-low.result.1.now)
-    (omega arith) (length_high (2 ^ n) (2 ^ (n - 1)) c.args.width _ c.args.rows.now c.split_at_mut-low.result.1.now e c.requires.size refl c.split_at_mut-low.ensures.back)
-    c.hat-by.ensures.cost c.butterfly.ensures.cost c.fly-else-count-half.ensures.cost c.fly-else-count-half-2.ensures.cost
+    let k = n - 1 in
+    let e : 2 ^ n ≡ 2 ^ k + 2 ^ k = power_half n (omega arith) in
+    fly_cost n k c.args.width c.args.c _ _ c.args.count c.args.steps.now c.hat-by.new.steps c.butterfly.new.steps c.fly-else-count-half.new.steps
+    c.fly-else-count-half-2.new.steps (length c.split_at_mut-low.result.1.now) (omega arith)
+    (length_high (2 ^ n) (2 ^ k) c.args.width _ c.args.rows.now c.split_at_mut-low.result.1.now e c.requires.size refl c.split_at_mut-low.ensures.back)
+    (shift_64 k (omega arith)) (shift_16 k (omega arith)) (omega arith) c.hat-by.ensures.cost
+    (λ l. c.butterfly.ensures.none (c.hat-by.ensures.value ∙ hat_zero k c.args.c (omega arith) l))
+    (λ l. c.butterfly.ensures.cost (not_nothing c.hat-by.result _ c.hat-by.ensures.value (hat_some k c.args.c (omega arith) (omega arith) l)))
+    c.fly-else-count-half.ensures.cost c.fly-else-count-half-2.ensures.cost
 
 pub returns-else-level-gt0-clause-values : goal.returns-else-level-gt0-clause-values
 returns-else-level-gt0-clause-values g t c = flies_none_columns c.args.width c.args.level c.args.c c.args.count c.args.rows.now (λ _. omega arith)
+
+pub returns-else-level-gt0-clause-cost : goal.returns-else-level-gt0-clause-cost
+returns-else-level-gt0-clause-cost g t c = fly_none_cost c.args.level c.args.width c.args.c c.args.count c.args.steps.now (omega arith)

@@ -1,5 +1,6 @@
-use Rattle.std.proofs.Common.{◌-◌, ◌^◌, ◌+◌, ◌≡◌, ap, arith}
+use Rattle.std.proofs.Common.{◌-◌, ◌^◌, ◌+◌, ◌*◌, ◌≡◌, ap, arith}
 use Rattle.additive_fft.proofs.Columns.{converts_columns, converts_none_columns}
+use Rattle.additive_fft.proofs.Counting.{convert_cost, convert_none_cost}
 use Rattle.additive_fft.proofs.conversion.+convert_from.Goals as goal
 
 pub returns-then-level-gt0-clause-coefficients : goal.returns-then-level-gt0-clause-coefficients
@@ -15,3 +16,11 @@ returns-then-level-gt0-clause-coefficients g t c =
 pub returns-else-level-gt0-clause-coefficients : goal.returns-else-level-gt0-clause-coefficients
 returns-else-level-gt0-clause-coefficients g t c =
     converts_none_columns c.args.width c.args.level c.args.shift (2 ^ (c.args.shift + c.args.level)) c.args.rows.now (omega arith)
+
+pub returns-then-level-gt0-clause-cost : goal.returns-then-level-gt0-clause-cost
+returns-then-level-gt0-clause-cost g t c =
+    convert_cost c.args.level (c.args.level - 1) c.args.shift c.args.width c.args.known c.args.steps.now c.scale.new.steps c.convert_from.new.steps (omega arith)
+    c.scale.ensures.cost c.convert_from.ensures.cost
+
+pub returns-else-level-gt0-clause-cost : goal.returns-else-level-gt0-clause-cost
+returns-else-level-gt0-clause-cost g t c = convert_none_cost c.args.level (2 ^ c.args.shift * c.args.width) c.args.known c.args.steps.now (omega arith)

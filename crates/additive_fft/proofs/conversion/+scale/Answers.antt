@@ -1,24 +1,31 @@
 use Rattle.std.proofs.Common.{◌-◌, ◌^◌, ◌+◌, ◌≡◌, ◌∙◌, length, ap, refl, arith}
 use Rattle.std.proofs.lemmas.List.{length-take-le}
 use Rattle.pet_field.specs.Gf16.{gf16}
-use Rattle.additive_fft.proofs.Columns.{scales_columns, scales_none_columns, length_low, length_high, middle, power_halves}
+use Rattle.additive_fft.proofs.Columns.{scales_columns, scales_none_columns, length_low, length_high, middle, rest_fits, power_halves}
 use Rattle.additive_fft.proofs.Zeros.{from_front, from_back, from_end, from_append, back_zeros, scales_low, products_known}
-use Rattle.additive_fft.proofs.Counting.{scale_low_cost}
+use Rattle.additive_fft.proofs.Counting.{scale_low_cost, scale_both_cost, scale_none_cost}
 use Rattle.additive_fft.proofs.conversion.+scale.Goals as goal
 
 pub scale-requires : goal.scale-requires
 scale-requires g t c κs within =
     let n = c.args.level in
     let j = c.args.shift in
-    let s = c.split_at_mut-low in (
+    let w = c.args.width in
+    let rows = c.args.rows.now in
+    let s = c.split_at_mut-low in
+    let e : 2 ^ (j + n) ≡ 2 ^ (j + (n - 1)) + 2 ^ (j + (n - 1)) = power_halves j n (omega arith) in
+    let long = length_low (2 ^ (j + n)) (2 ^ (j + (n - 1))) w _ rows s.result.0.now e c.requires.size refl s.ensures.front in (
       omega arith,
       (
         within,
         (
           omega arith,
           (
-            length_low (2 ^ (j + n)) (2 ^ (j + (n - 1))) c.args.width _ c.args.rows.now s.result.0.now (power_halves j n (omega arith)) c.requires.size refl s.ensures.front,
-            from_front _ c.args.known c.args.rows.now s.result.0.now s.ensures.front c.requires.zeros,
+            long,
+            (
+              from_front _ c.args.known c.args.rows.now s.result.0.now s.ensures.front c.requires.zeros,
+              (omega (arith, long, middle (2 ^ (j + n)) (2 ^ (j + (n - 1))) w rows e c.requires.size), c.requires.one),
+            ),
           ),
         ),
       ),
@@ -38,7 +45,13 @@ scale-requires-else-known-half g t c κs within =
         within,
         (
           omega arith,
-          (long, from_end _ s.result.0.now (omega (arith, long, middle (2 ^ (j + n)) (2 ^ (j + (n - 1))) w rows e c.requires.size))),
+          (
+            long,
+            (
+              from_end _ s.result.0.now (omega (arith, long, middle (2 ^ (j + n)) (2 ^ (j + (n - 1))) w rows e c.requires.size)),
+              (omega (arith, long, middle (2 ^ (j + n)) (2 ^ (j + (n - 1))) w rows e c.requires.size), c.requires.one),
+            ),
+          ),
         ),
       ),
     )
@@ -47,15 +60,22 @@ pub scale-requires-else-known-half-2 : goal.scale-requires-else-known-half-2
 scale-requires-else-known-half-2 g t c κs within =
     let n = c.args.level in
     let j = c.args.shift in
-    let s = c.split_at_mut-low in (
+    let w = c.args.width in
+    let rows = c.args.rows.now in
+    let s = c.split_at_mut-low in
+    let e : 2 ^ (j + n) ≡ 2 ^ (j + (n - 1)) + 2 ^ (j + (n - 1)) = power_halves j n (omega arith) in
+    let long = length_high (2 ^ (j + n)) (2 ^ (j + (n - 1))) w _ rows s.result.1.now e c.requires.size refl s.ensures.back in (
       omega arith,
       (
         within,
         (
           omega arith,
           (
-            length_high (2 ^ (j + n)) (2 ^ (j + (n - 1))) c.args.width _ c.args.rows.now s.result.1.now (power_halves j n (omega arith)) c.requires.size refl s.ensures.back,
-            from_back _ c.args.known c.args.rows.now s.result.1.now s.ensures.back c.requires.zeros,
+            long,
+            (
+              from_back _ c.args.known c.args.rows.now s.result.1.now s.ensures.back c.requires.zeros,
+              (rest_fits (2 ^ (j + n)) (2 ^ (j + (n - 1))) w c.args.known rows s.result.1.now e c.requires.size long c.requires.fits, λ t. absurd (cc)),
+            ),
           ),
         ),
       ),
@@ -100,7 +120,30 @@ returns-then-known-half-clause-zeros g t c =
     (λ i l. from_back _ c.args.known c.args.rows.now s.result.1.now s.ensures.back c.requires.zeros i (omega arith))
 
 pub returns-then-known-half-clause-cost : goal.returns-then-known-half-clause-cost
-returns-then-known-half-clause-cost g t c = scale_low_cost c.args.level c.args.known c.args.steps.now c.scale.new.steps (omega arith) c.scale.ensures.cost
+returns-then-known-half-clause-cost g t c =
+    let n = c.args.level in
+    let j = c.args.shift in
+    let w = c.args.width in
+    scale_low_cost n (n - 1) j w _ c.args.known c.args.steps.now c.scale.new.steps c.args.first (omega arith)
+    (middle (2 ^ (j + n)) (2 ^ (j + (n - 1))) w c.args.rows.now (power_halves j n (omega arith)) c.requires.size) (omega arith) c.scale.ensures.cost
+
+pub returns-else-known-half-clause-cost : goal.returns-else-known-half-clause-cost
+returns-else-known-half-clause-cost g t c =
+    let n = c.args.level in
+    let j = c.args.shift in
+    let w = c.args.width in
+    scale_both_cost n (n - 1) j w _ c.args.known c.args.steps.now c.squares.new.steps c.product-b.new.steps c.scale-else-known-half.new.steps
+    c.scale-else-known-half-2.new.steps c.args.first (omega arith)
+    (middle (2 ^ (j + n)) (2 ^ (j + (n - 1))) w c.args.rows.now (power_halves j n (omega arith)) c.requires.size) (omega arith) c.squares.ensures.cost
+    c.product-b.ensures.cost c.scale-else-known-half.ensures.cost c.scale-else-known-half-2.ensures.cost
+
+pub returns-then-level-eq0-clause-cost : goal.returns-then-level-eq0-clause-cost
+returns-then-level-eq0-clause-cost g t c =
+    let rows = c.args.rows.now in
+    let s = c.split_at_mut-front in
+    scale_none_cost c.args.level c.args.shift c.args.width c.args.known c.args.steps.now c.multiply.new.steps (length s.result.0.now) c.args.first (omega arith)
+    (omega (arith, c.requires.size, c.requires.fits)) (ap length s.ensures.front ∙ length-take-le c.min-end.result rows (omega arith) ∙ omega arith)
+    c.multiply.ensures.none c.multiply.ensures.cost
 
 pub returns-else-known-half-clause-products : goal.returns-else-known-half-clause-products
 returns-else-known-half-clause-products g t c =

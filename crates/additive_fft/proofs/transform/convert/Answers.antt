@@ -1,5 +1,6 @@
-use Rattle.std.proofs.Common.{◌^◌, ◌+◌, ◌≡◌, ap, arith}
+use Rattle.std.proofs.Common.{◌^◌, ◌+◌, ◌*◌, ◌≡◌, ap, arith}
 use Rattle.additive_fft.proofs.Columns.{converted_columns}
+use Rattle.additive_fft.proofs.Counting.{from_width, conversion_most}
 use Rattle.additive_fft.proofs.transform.convert.Goals as goal
 
 pub returns-clause-coefficients : goal.returns-clause-coefficients
@@ -8,3 +9,12 @@ returns-clause-coefficients g c i x l hx =
     let e : 0 + n ≡ n = omega arith in
     converted_columns c.args.width n (2 ^ (0 + n)) x i c.args.rows.now c.convert_from.new.rows (ap (λ k. 2 ^ k) e) c.requires.few hx c.are_elements.ensures
     c.requires.size l c.convert_from.ensures.coefficients
+
+pub returns-clause-cost : goal.returns-clause-cost
+returns-clause-cost g c =
+    from_width c.args.width c.args.level (c.args.known * c.args.width) c.args.steps.now c.convert_from.new.steps c.convert_from.ensures.cost
+
+pub returns-clause-bounded : goal.returns-clause-bounded
+returns-clause-bounded g c =
+    conversion_most c.args.width c.args.level (c.args.known * c.args.width) c.args.steps.now c.convert_from.new.steps
+    (from_width c.args.width c.args.level (c.args.known * c.args.width) c.args.steps.now c.convert_from.new.steps c.convert_from.ensures.cost)

@@ -18,13 +18,13 @@ returns-clause-padded g c k p i few lp l zeros =
     c.values_at_coset.ensures.values p i lp l ∙ c.convert.ensures.coefficients i (a * 2 ^ n + p) l x
     ∙ padded_value c.args.width (2 ^ n) k i (a * 2 ^ n + p) c.args.rows.now l few x zeros
 
-pub returns-clause-cost : goal.returns-clause-cost
-returns-clause-cost g c =
-    whole_cost c.args.level c.args.known c.args.width c.args.steps.now c.convert.new.steps c.values_at_coset.new.steps c.convert.ensures.cost
-    c.values_at_coset.ensures.cost
+pub returns-clause-bounded : goal.returns-clause-bounded
+returns-clause-bounded g c =
+    whole_cost c.args.level c.args.known c.args.width c.args.steps.now c.convert.new.steps c.values_at_coset.new.steps c.convert.ensures.bounded
+    c.values_at_coset.ensures.bounded
 
 pub returns-clause-fewer : goal.returns-clause-fewer
 returns-clause-fewer g c l some =
     fewer c.args.level c.args.known c.args.width c.args.steps.now c.values_at_coset.new.steps _ l some c.requires.known c.requires.size
-    (whole_cost c.args.level c.args.known c.args.width c.args.steps.now c.convert.new.steps c.values_at_coset.new.steps c.convert.ensures.cost
-    c.values_at_coset.ensures.cost)
+    (whole_cost c.args.level c.args.known c.args.width c.args.steps.now c.convert.new.steps c.values_at_coset.new.steps c.convert.ensures.bounded
+    c.values_at_coset.ensures.bounded)

@@ -3,10 +3,10 @@ use Rattle.pet_field.specs.Gf16.{gf16}
 use Rattle.additive_fft.proofs.Multiples.{once}
 use Rattle.additive_fft.proofs.words.multiply.Goals as goal
 
-pub returns-then-by-ne1-clause-products : goal.returns-then-by-ne1-clause-products
-returns-then-by-ne1-clause-products g c i l =
+pub returns-then-not-once-clause-products : goal.returns-then-not-once-clause-products
+returns-then-not-once-clause-products g c i l =
     c.multiply_row.ensures.products i l ∙ ap (λ f. gf16.times f (get_or c.args.words.now i 0)) c.new.ensures
 
-pub returns-else-by-ne1-clause-products : goal.returns-else-by-ne1-clause-products
-returns-else-by-ne1-clause-products g c i l =
-    once c.args.by (get_or c.args.words.now i 0) (omega (arith, c.if-by-ne1.false)) (omega (arith, c.type_inv.words i))
+pub returns-else-not-once-clause-products : goal.returns-else-not-once-clause-products
+returns-else-not-once-clause-products g c i l =
+    once c.args.by (get_or c.args.words.now i 0) (c.requires c.if-not-once.false) (omega (arith, c.type_inv.words i))
