@@ -1,6 +1,6 @@
 -- The address of a link, as it is spelled: a host, a colon and a port. This project's own.
-use Rattle.std.specs.Prelude.{ℕ, ◌+◌, ◌-◌, ◌*◌, ◌^◌, ◌&&◌, ◌==◌, nat_le, nat_lt, Bool, true, false, List, [], ◌∷◌, length, Option, None, Some, if◌then◌else◌}
-use Rattle.std.specs.List.{list_all}
+use Rattle.std.specs.Prelude.{ℕ, ◌&&◌, ◌==◌, nat_le, nat_lt, Bool, false, List, [], ◌∷◌, length, Option, None, Some, if◌then◌else◌}
+use Rattle.decimal_digits.specs.Digits.{number_up_to}
 
 -- a byte before what is cut
 abbrev pub behind_byte : ℕ → List ℕ → Option (List ℕ × List ℕ) → Option (List ℕ × List ℕ)
@@ -12,19 +12,6 @@ abbrev pub cut_at_last_colon : List ℕ → Option (List ℕ × List ℕ)
 cut_at_last_colon [] = None
 cut_at_last_colon (c ∷ rest) = behind_byte c rest (cut_at_last_colon rest)
 
--- a decimal digit
-abbrev pub is_digit : ℕ → Bool
-is_digit c = nat_le 48 c && nat_le c 57
-
--- the number of decimal digits behind others
-abbrev pub value_from : ℕ → List ℕ → ℕ
-value_from value [] = value
-value_from value (c ∷ digits) = value_from (10 * value + (c - 48)) digits
-
--- the number of 16 bits that these bytes are, where they are digits
-abbrev pub number_of : List ℕ → Option ℕ
-number_of digits = if list_all is_digit digits && nat_lt (value_from 0 digits) (2 ^ 16) then Some (value_from 0 digits) else None
-
 -- it is there, and no less than this
 abbrev pub is_from : ℕ → Option ℕ → Bool
 is_from least None = false
@@ -33,8 +20,8 @@ is_from least (Some number) = nat_le least number
 -- a decimal number up to 65,535 without leading zeros, and no less than the least one
 abbrev pub is_port : ℕ → List ℕ → Bool
 is_port least [] = false
-is_port least (c ∷ []) = is_from least (number_of (c ∷ []))
-is_port least (c ∷ d ∷ digits) = if c == 48 then false else is_from least (number_of (c ∷ d ∷ digits))
+is_port least (c ∷ []) = is_from least (number_up_to 65535 (c ∷ []))
+is_port least (c ∷ d ∷ digits) = if c == 48 then false else is_from least (number_up_to 65535 (c ∷ d ∷ digits))
 
 abbrev pub are_host_and_port : ℕ → Option (List ℕ × List ℕ) → Bool
 are_host_and_port least None = false

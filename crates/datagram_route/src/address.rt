@@ -1,6 +1,12 @@
 //! The address of a link, as it is spelled: a host, a colon and a port.
-ghost use Rattle.std.specs.Prelude.{◌≡◌, ◌+◌, ◌-◌, ◌*◌, ◌^◌, ◌&&◌, Some, None, nat_lt, option_map, if◌then◌else◌};
-ghost use Rattle.datagram_route.specs.Address.{cut_at_last_colon, is_digit, is_from, number_of, is_port, is_address};
+ghost use Rattle.std.specs.Prelude.{◌≡◌, option_map};
+ghost use Rattle.decimal_digits.specs.Digits.{number_up_to};
+ghost use Rattle.datagram_route.specs.Address.{cut_at_last_colon, is_from, is_port, is_address};
+
+use decimal_digits::read_number;
+
+/// The greatest port.
+const GREATEST_PORT: u32 = 65_535;
 
 /// Whether a text is a host that is not empty, a colon, which is the text's last, and a port: a decimal number without leading
 /// zeros from `least` to 65,535.
@@ -39,32 +45,10 @@ fn is_port_from(digits: &[u8], least: u16) -> bool
 
 /// Whether these bytes are a number of 16 bits in decimal digits, and no less than `least`.
 fn is_number_from(digits: &[u8], least: u16) -> bool
-    ensures { result ≡ is_from least (number_of digits.now) }
+    ensures { result ≡ is_from least (number_up_to 65535 digits.now) }
 {
-    match read_number(digits) {
-        Some(number) => number >= least,
+    match read_number(digits, GREATEST_PORT) {
+        Some(number) => number >= u32::from(least),
         None => false,
-    }
-}
-
-/// The number of 16 bits that these bytes are in decimal digits.
-fn read_number(digits: &[u8]) -> Option<u16>
-    ensures { result ≡ number_of digits.now }
-{
-    let mut value = 0;
-    for digit in digits {
-        value = with_digit(value, *digit)?;
-    }
-    Some(value)
-}
-
-/// The value with one more decimal digit behind it, up to 65,535.
-fn with_digit(value: u16, digit: u8) -> Option<u16>
-    ensures { result ≡ (if is_digit digit && nat_lt (10 * value + (digit - 48)) (2 ^ 16) then Some
-        (10 * value + (digit - 48)) else None) }
-{
-    match digit {
-        b'0'..=b'9' => value.checked_mul(10)?.checked_add(u16::from(digit - b'0')),
-        _ => None,
     }
 }

@@ -1,12 +1,11 @@
 -- The parts of a plan file: lines, words and numbers.
-use Rattle.std.proofs.Common.{◌≡◌, ◌≢◌, ℕ, ◌+◌, ◌-◌, ◌*◌, ◌^◌, ◌<◌, ◌≤◌, List, [], ◌∷◌, ◌++◌, length, refl, sym, ap, ◌∙◌, subst, true, false, inl, inr, arith}
-use Rattle.std.specs.Prelude.{Option, Some, None, Result, Ok, Err, MatchOption, is_some, option_map, ◌==◌, ◌&&◌, nat_lt, if◌then◌else◌}
-use Rattle.std.specs.List.{list_all}
+use Rattle.std.proofs.Common.{◌≡◌, ◌≢◌, ℕ, ◌+◌, ◌<◌, List, [], ◌∷◌, ◌++◌, length, refl, sym, ap, ◌∙◌, subst, true, inl, inr, arith}
+use Rattle.std.specs.Prelude.{Option, Some, None, Result, Ok, Err, MatchOption, is_some, option_map, ◌==◌}
 use Rattle.std.proofs.lemmas.Bool.{cases_Bool}
 use Rattle.plan_text.specs.declared.plan_file.Repeat.{Repeat}
 use Rattle.plan_text.specs.declared.plan_file.PlanFault.{PlanFault}
 use Rattle.plan_text.specs.declared.plan_file.PlanFault.TheVariants.{Text, NoMemory}
-use Rattle.plan_text.specs.PlanFile.{split_from, split_at, without_empty_end, lines_of, is_digit, value_from, value_of, repeat_in, repeats_in, with_line, behind_lists, lists_from, lists_of, IsRefused}
+use Rattle.plan_text.specs.PlanFile.{split_from, split_at, without_empty_end, lines_of, repeat_in, repeats_in, with_line, behind_lists, lists_from, lists_of, IsRefused}
 
 -- the repeats that were read, and those of the words ahead
 abbrev pub repeats_ahead : List Repeat → Option (List ℕ) → Option (List Repeat)
@@ -16,11 +15,6 @@ repeats_ahead list (Some words) = option_map (λ later. list ++ later) (repeats_
 abbrev pub size_ahead : Option (List ℕ) → ℕ
 size_ahead None = 0
 size_ahead (Some words) = length words + 1
-
--- a digit more is no less
-pub value_grows : (value : ℕ) (digits : List ℕ) → value ≤ value_from value digits
-value_grows value [] = omega arith
-value_grows value (c ∷ digits) = omega (arith, value_grows (10 * value + (c - 48)) digits)
 
 -- there is a first part
 pub parts_some : (mark : ℕ) (part bytes : List ℕ) → (first : List ℕ) × (rest : List (List ℕ)) × (split_from mark part bytes ≡ first ∷ rest)
@@ -61,28 +55,6 @@ at_some o x P Q is so = subst (λ p. MatchOption p P Q) is so
 pub of_some : {A : Type 0} (o : Option A) (P : Type 0) (Q : A → Type 0) → is_some o ≡ true → MatchOption o P Q → (x : A) × Q x
 of_some None P Q is so = grind (arith, is)
 of_some (Some x) P Q is so = (x, so)
-
-no_digits : (digits : List ℕ) → list_all is_digit digits ≡ false → None ≡ value_of digits
-no_digits digits other = grind (arith, other)
-
-too_many : (digits : List ℕ) → 2 ^ 32 ≤ value_from 0 digits → None ≡ value_of digits
-too_many digits large =
-    elim (cases_Bool (list_all is_digit digits)) [
-      | inl e ↦ grind (arith, e, large)
-      | inr e ↦ no_digits digits e
-    ]
-
--- a byte that ends the number: no digit, or one too many
-pub refused_digit : (digits : List ℕ) (value d : ℕ) (rest : List ℕ) → list_all is_digit digits ≡ list_all is_digit (d ∷ rest) → value_from 0 digits ≡ value_from value (d ∷ rest)
-    → None ≡ (if is_digit d && nat_lt (10 * value + (d - 48)) (2 ^ 32) then Some (10 * value + (d - 48)) else None) → None ≡ value_of digits
-refused_digit digits value d rest digit whole refused =
-    elim (cases_Bool (is_digit d)) [
-      | inl e ↦ (
-          let large : 2 ^ 32 ≤ 10 * value + (d - 48) = grind (arith, e, refused) in
-          too_many digits (omega (arith, large, whole, value_grows (10 * value + (d - 48)) rest))
-          )
-      | inr e ↦ no_digits digits (digit ∙ grind (arith, e))
-    ]
 
 behind_none : (r : Result (List (List Repeat)) ℕ) → r ≡ behind_lists [] r
 behind_none (Ok lists) = refl

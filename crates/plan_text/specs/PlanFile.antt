@@ -1,7 +1,8 @@
 -- The plan file that `check` reads: lines, of which those that begin with `lengths` list stripe lengths. This project's
 -- own format.
-use Rattle.std.specs.Prelude.{◌≡◌, ⊤, ℕ, ◌+◌, ◌-◌, ◌*◌, ◌^◌, ◌&&◌, ◌==◌, nat_le, nat_lt, nat_eq, Bool, if◌then◌else◌, List, [], ◌∷◌, ◌++◌, drop, Option, None, Some, option_map, Result, Ok, Err, codes}
-use Rattle.std.specs.List.{starts_with, list_all}
+use Rattle.std.specs.Prelude.{◌≡◌, ⊤, ℕ, ◌+◌, ◌==◌, nat_eq, Bool, if◌then◌else◌, List, [], ◌∷◌, ◌++◌, drop, Option, None, Some, option_map, Result, Ok, Err, codes}
+use Rattle.std.specs.List.{starts_with}
+use Rattle.decimal_digits.specs.Digits.{number_up_to}
 use Rattle.plan_text.specs.declared.plan_file.Repeat.{Repeat}
 use Rattle.plan_text.specs.declared.plan_file.PlanFault.{PlanFault}
 use Rattle.plan_text.specs.declared.plan_file.PlanFault.TheVariants.{Text, NoMemory}
@@ -24,22 +25,10 @@ without_empty_end (part ∷ parts) = part ∷ without_empty_end parts
 abbrev pub lines_of : List ℕ → List (List ℕ)
 lines_of bytes = without_empty_end (split_at 10 bytes)
 
-abbrev pub is_digit : ℕ → Bool
-is_digit c = nat_le 48 c && nat_le c 57
-
--- the number of decimal digits behind others
-abbrev pub value_from : ℕ → List ℕ → ℕ
-value_from value [] = value
-value_from value (c ∷ digits) = value_from (10 * value + (c - 48)) digits
-
--- the number that these bytes are, where they are digits and it is at most 4,294,967,295
-abbrev pub value_of : List ℕ → Option ℕ
-value_of digits = if list_all is_digit digits && nat_lt (value_from 0 digits) (2 ^ 32) then Some (value_from 0 digits) else None
-
 -- a number from 1 to 4,294,967,295 without a leading zero
 abbrev pub number_of : List ℕ → Option ℕ
 number_of [] = None
-number_of (c ∷ digits) = if c == 48 then None else value_of (c ∷ digits)
+number_of (c ∷ digits) = if c == 48 then None else number_up_to 4294967295 (c ∷ digits)
 
 abbrev pub repeat_of : Option ℕ → Option ℕ → Option Repeat
 repeat_of None times = None

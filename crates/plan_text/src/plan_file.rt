@@ -1,7 +1,8 @@
 //! The plan file, which lists the stripe lengths of each group.
 ghost use Rattle.std.specs.Prelude.{◌≡◌, ◌≢◌, ℕ, ◌+◌, ◌-◌, ◌*◌, ◌^◌, ◌<◌, ◌&&◌, if◌then◌else◌, nat_lt, List, [], ◌∷◌, length, map, Some, None, Ok, Err, Result, MatchOption, IfOk, IfErr, IfSome, OnOk, option_map};
-ghost use Rattle.plan_text.specs.PlanFile.{split_at, lines_of, lists_of, is_digit, value_of, number_of, repeat_in, repeats_in, behind_lengths, with_line, behind_lists, IsRefused};
+ghost use Rattle.plan_text.specs.PlanFile.{split_at, lines_of, lists_of, number_of, repeat_in, repeats_in, behind_lengths, with_line, behind_lists, IsRefused};
 
+use decimal_digits::read_number;
 use pet_base::NoMemory;
 use std::alloc::{AllocFailed, Global};
 
@@ -136,40 +137,18 @@ fn read_repeat(word: &[u8]) -> Option<Repeat>
         return None;
     }
     Some(Repeat {
-        length: read_number(size)?,
-        times: read_number(times)?,
+        length: read_positive(size)?,
+        times: read_positive(times)?,
     })
 }
 
 /// The number from 1 to 4,294,967,295 that these digits are, without a leading zero.
-fn read_number(digits: &[u8]) -> Option<u32>
+fn read_positive(digits: &[u8]) -> Option<u32>
     ensures { result ≡ number_of digits.now }
 {
     match digits {
         [] | [b'0', ..] => None,
-        _ => read_digits(digits),
-    }
-}
-
-/// The number up to 4,294,967,295 that these digits are.
-fn read_digits(digits: &[u8]) -> Option<u32>
-    ensures { result ≡ value_of digits.now }
-{
-    let mut value = 0;
-    for digit in digits {
-        value = with_digit(value, *digit)?;
-    }
-    Some(value)
-}
-
-/// The value with one more decimal digit behind it, up to 4,294,967,295.
-fn with_digit(value: u32, digit: u8) -> Option<u32>
-    ensures { result ≡ (if is_digit digit && nat_lt (10 * value + (digit - 48)) (2 ^ 32) then Some
-        (10 * value + (digit - 48)) else None) }
-{
-    match digit {
-        b'0'..=b'9' => value.checked_mul(10)?.checked_add(u32::from(digit - b'0')),
-        _ => None,
+        _ => read_number(digits, u32::MAX),
     }
 }
 

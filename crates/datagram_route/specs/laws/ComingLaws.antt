@@ -1,5 +1,5 @@
 -- Laws of the datagrams that come on a way, for the proofs of callers.
-use Rattle.std.proofs.Common.{◌≡◌, ℕ, List, [], ◌∷◌, ◌++◌, take, length, Option, None, Some, refl, sym, ap, ◌∙◌, append_assoc}
+use Rattle.std.proofs.Common.{◌≡◌, ℕ, List, [], ◌∷◌, ◌++◌, take, Option, None, Some, refl, sym, ap, ◌∙◌, append_assoc}
 use Rattle.std.proofs.lemmas.List.{append-nil}
 use Rattle.std.specs.Prelude.{option_map, IfSome, Result, Ok, Err, IfOk}
 use Rattle.pet_base.specs.Entries.{datagrams, first_entry, TakesEntry}

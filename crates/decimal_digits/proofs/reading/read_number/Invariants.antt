@@ -1,11 +1,11 @@
-use Rattle.std.proofs.Common.{◌≡◌, ◌<◌, ◌^◌, drop}
+use Rattle.std.proofs.Common.{◌≡◌, ◌≤◌, drop}
 use Rattle.std.specs.List.{list_all}
-use Rattle.datagram_route.specs.Address.{is_digit, value_from}
-use Rattle.datagram_route.proofs.address.read_number.Given as goal
+use Rattle.decimal_digits.specs.Digits.{is_digit, value_from}
+use Rattle.decimal_digits.proofs.reading.read_number.Given as goal
 
 abbrev pub invariant-loop-digit : goal.invariant-loop-digit
 invariant-loop-digit l = record {
   digits : list_all is_digit l.digits ≡ list_all is_digit (drop l.digit-index l.digits);
   value : value_from 0 l.digits ≡ value_from l.value (drop l.digit-index l.digits);
-  few : l.value < 2 ^ 16;
+  few : l.value ≤ l.most;
 }
