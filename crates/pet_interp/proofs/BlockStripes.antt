@@ -1,9 +1,9 @@
 -- The stripes of one block.
-use Rattle.std.proofs.Common.{◌≡◌, ℕ, zero, suc, ◌+◌, ◌*◌, ◌/◌, ◌%◌, ◌<◌, ◌≤◌, Bool, true, false, List, [], ◌∷◌, ◌++◌, All, length, get_or, drop, map, refl, sym, ap, ap₂, ◌∙◌, arith, cond}
+use Rattle.std.proofs.Common.{◌≡◌, ℕ, zero, suc, ◌+◌, ◌*◌, ◌/◌, ◌%◌, ◌<◌, ◌≤◌, Bool, true, false, List, [], ◌∷◌, ◌++◌, All, length, get_or, drop, map, refl, sym, ap, ap₂, ◌∙◌, arith, cond, subst}
 use Rattle.std.specs.Prelude.{nat_lt}
 use Rattle.std.proofs.lemmas.Bool.{lt-ltb, le-ltb, cond-true, cond-false}
 use Rattle.std.proofs.lemmas.List.{length-map, get_or-map, get_or_default, length-take-le, length-drop, ext_get_or}
-use Rattle.std.proofs.lemmas.List.Elements.{All-take, All-drop}
+use Rattle.std.proofs.lemmas.List.Elements.{All-take, All-drop, All-same}
 use Rattle.std.proofs.lemmas.List.Sums.{sum_by-cons, sum_by-append}
 use Rattle.pet_field.specs.Field.{Operations}
 use Rattle.pet_rows.specs.Columns.{column, block_columns}
@@ -14,7 +14,7 @@ use native.Mathlib.Nat.{mul_comm}
 use Rattle.std.proofs.Math.Nat.{div-lt_iff_lt-mul}
 use Rattle.std.proofs.lemmas.Nat.{div-add-mod'}
 use Rattle.pet_interp.specs.Progressive.{longer_than}
-use Rattle.pet_interp.specs.Blocks.{stripes_of}
+use Rattle.pet_interp.specs.Blocks.{HeldBlock, stripes_of}
 use Rattle.pet_interp.specs.Lifted.{begun, begun_all, grown}
 use Rattle.pet_interp.proofs.Columns.{more_rows, rows_le, place_below}
 
@@ -130,3 +130,32 @@ turned_elements P d w (suc k) rows new long whole h is n e l =
     let lc : c < w = (div-lt_iff_lt-mul {k = suc k} {x = n} {y = w} (omega arith)).1 (omega (arith, long, mul_comm (suc k) w)) in
     let read : get_or new n e ≡ get_or rows (j * w + c) d = get_or_default new n e d l ∙ ap (λ i. get_or new i d) at ∙ is c j lc lj in
     rw read (h (j * w + c) d (rw whole (place_below j (suc k) w c lj lc)))
+
+-- ---- a block that is seen as its stripes
+
+-- in which new places have come
+pub each_new : {E : Type 0} (P : E → Type 0) (d : E) (b : Bool) (w k : ℕ) (places new : List E) → places ≡ new → length new ≡ k * w → All P new
+    → All (λ s. (length s ≡ k) × All P s) (stripes_of d b w k places)
+each_new P d b w k places new kept long elements = stripes_each P d b w k places (ap length kept ∙ long) (All-same P places new kept elements)
+
+pub waits_here : {E : Type 0} (met : ℕ) (block seen : HeldBlock E) → block ≡ seen → seen.waits ≡ nat_lt met seen.size → met < block.size → block.waits ≡ true
+waits_here met block seen is waits longer =
+    ap (λ v. v.waits) is ∙ waits ∙ ap (λ v. nat_lt met v.size) (sym is) ∙ lt-ltb met block.size longer
+
+-- a block of these places
+abbrev block_of : {E : Type 0} → E → Bool → ℕ → ℕ → List E → HeldBlock E
+block_of d b w k places = record { size = k; waits = b; stripes = stripes_of d b w k places }
+
+pub count_seen : {E : Type 0} (d : E) (b : Bool) (w k : ℕ) (places : List E) (seen : HeldBlock E) → block_of d b w k places ≡ seen → length seen.stripes ≡ w
+count_seen d b w k places seen is = ap (λ v. length v.stripes) (sym is) ∙ length-stripes d b w k places
+
+pub each_seen : {E : Type 0} (P : E → Type 0) (d : E) (b : Bool) (w k : ℕ) (places : List E) (seen : HeldBlock E) → block_of d b w k places ≡ seen → length places ≡ k * w → All P places
+    → All (λ s. (length s ≡ seen.size) × All P s) seen.stripes
+each_seen P d b w k places seen is whole elements = subst (λ v. All (λ s. (length s ≡ v.size) × All P s) v.stripes) is (stripes_each P d b w k places whole elements)
+
+pub longer_seen : {E : Type 0} (P : E → Type 0) (d : E) (b : Bool) (w k : ℕ) (places : List E) (seen : HeldBlock E) → block_of d b w k places ≡ seen → length places ≡ k * w → All P places
+    → (met : ℕ) → met < k → longer_than met (map length seen.stripes) ≡ w
+longer_seen P d b w k places seen is whole elements met longer =
+    ap (λ v. longer_than met (map length v.stripes)) (sym is)
+    ∙ longer_all met k (stripes_of d b w k places) (All P) longer (stripes_each P d b w k places whole elements)
+    ∙ length-stripes d b w k places

@@ -3,7 +3,9 @@ use Rattle.std.proofs.Common.{◌≡◌, ℕ, zero, suc, ◌+◌, ◌-◌, ◌*�
 use Rattle.std.specs.Prelude.{nat_lt}
 use Rattle.std.proofs.lemmas.Bool.{cases_lt, lt-ltb, le-ltb, cond-true, cond-false}
 use Rattle.std.proofs.lemmas.Grind.{flat_map-append}
-use Rattle.std.proofs.lemmas.List.{length-append, map-append, take_more, take_more_set, drop-set-lt, drop-drop, append-nil, get_or-drop, get_or-append_right, drop-take, length-take-le, length-drop}
+use Rattle.std.proofs.lemmas.List.Elements.{All-set}
+use Rattle.std.proofs.lemmas.List.Folds.{length-flat_map-take}
+use Rattle.std.proofs.lemmas.List.{length-append, map-append, take_more, take_more_set, drop-set-lt, drop-drop, append-nil, get_or-drop, get_or_default, get_or-append_right, drop-take, length-take-le, length-drop}
 use Rattle.pet_field.specs.Field.{Operations}
 use Rattle.pet_poly.specs.Value.{value}
 use Rattle.pet_poly.specs.Rows.{words}
@@ -15,9 +17,9 @@ use Rattle.pet_interp.specs.Blocks.{HeldBlock, IsBlock, stripes_in, no_block}
 use Rattle.pet_interp.specs.Lifted.{factor, lifted, lifted_all, begun, begun_all, grown, grown_to}
 use Rattle.pet_interp.proofs.BlockStripes.{longer_append}
 use Rattle.pet_interp.proofs.Columns.{rows_le, parts, scaled_high, scaled_front}
-use Rattle.pet_interp.proofs.Lifted.{lifted_yes, lifted_no}
+use Rattle.pet_interp.proofs.Lifted.{cost_more, lifted_yes, lifted_no}
 
-pub kept : {E : Type 0} (P : E → Type 0) (met room : ℕ) (old new : HeldBlock E) → IsBlock P met room old → new.size ≡ old.size → new.waits ≡ old.waits
+kept : {E : Type 0} (P : E → Type 0) (met room : ℕ) (old new : HeldBlock E) → IsBlock P met room old → new.size ≡ old.size → new.waits ≡ old.waits
     → length new.stripes ≡ length old.stripes → All (λ s. (length s ≡ new.size) × All P s) new.stripes → IsBlock P met room new
 kept P met room old new h size waits count each =
     record {
@@ -25,6 +27,11 @@ kept P met room old new h size waits count each =
       waits = waits ∙ h.waits ∙ ap (nat_lt met) (sym size);
       fits = rw (ap₂ ◌*◌ size count) h.fits;
     }
+
+pub blocks_kept : {E : Type 0} (P : E → Type 0) (met room : ℕ) (bs : List (HeldBlock E)) (i : ℕ) (b new : HeldBlock E) → All (IsBlock P met room) bs → i < length bs
+    → new.size ≡ (get_or bs i b).size → new.waits ≡ (get_or bs i b).waits → length new.stripes ≡ length (get_or bs i b).stripes
+    → All (λ s. (length s ≡ new.size) × All P s) new.stripes → All (IsBlock P met room) (set bs i new)
+blocks_kept P met room bs i b new h l size waits count each = All-set (IsBlock P met room) bs i new (kept P met room (get_or bs i b) new (h i b l) size waits count each) h
 
 -- the stripes of one block more
 pub stripes_more : {E : Type 0} (bs : List (HeldBlock E)) (i : ℕ) → i < length bs → stripes_in (take (i + 1) bs) ≡ stripes_in (take i bs) ++ (get_or bs i no_block).stripes
@@ -36,10 +43,14 @@ stripes_more_set bs i new l = ap stripes_in (take_more_set bs i new l) ∙ flat_
 pub rest_more : {A : Type 0} (xs ys : List A) (i : ℕ) (v : A) → drop i xs ≡ drop i ys → drop (i + 1) (set xs i v) ≡ drop (i + 1) ys
 rest_more xs ys i v e = drop-set-lt (i + 1) xs i v (omega arith) ∙ sym (drop-drop 1 i xs) ∙ ap (drop 1) e ∙ drop-drop 1 i ys
 
-pub first_of_rest : {A : Type 0} (xs ys : List A) (i : ℕ) (d : A) → drop i xs ≡ drop i ys → get_or xs i d ≡ get_or ys i d
+first_of_rest : {A : Type 0} (xs ys : List A) (i : ℕ) (d : A) → drop i xs ≡ drop i ys → get_or xs i d ≡ get_or ys i d
 first_of_rest xs ys i d e =
     let z : i + 0 ≡ i = omega arith in
     ap (λ n. get_or xs n d) (sym z) ∙ sym (get_or-drop i xs 0 d) ∙ ap (λ t. get_or t 0 d) e ∙ get_or-drop i ys 0 d ∙ ap (λ n. get_or ys n d) z
+
+-- a block that the pass has not reached
+pub block_ahead : {A : Type 0} (now old : List A) (i : ℕ) (b d : A) → i < length now → drop i now ≡ drop i old → get_or now i b ≡ get_or old i d
+block_ahead now old i b d l rest = get_or_default now i b d l ∙ first_of_rest now old i d rest
 
 -- ---- the first pass
 
@@ -181,11 +192,19 @@ passes_lift_all o low x i (s ∷ ss) (y ∷ ys) e = ap₂ ◌∷◌ (passes_lift
 
 -- ---- steps
 
-pub longer_more_block : {E : Type 0} (r : ℕ) (bs : List (HeldBlock E)) (i : ℕ) → i < length bs
+longer_more_block : {E : Type 0} (r : ℕ) (bs : List (HeldBlock E)) (i : ℕ) → i < length bs
     → longer_than r (map length (stripes_in (take (i + 1) bs))) ≡ longer_than r (map length (stripes_in (take i bs))) + longer_than r (map length (get_or bs i no_block).stripes)
 longer_more_block r bs i l =
     ap (λ t. longer_than r (map length t)) (stripes_more bs i l) ∙ ap (longer_than r) (map-append length (stripes_in (take i bs)) (get_or bs i no_block).stripes)
     ∙ longer_append r (map length (stripes_in (take i bs))) (map length (get_or bs i no_block).stripes)
+
+pub cost_block : {E : Type 0} (met k : ℕ) (now old : List (HeldBlock E)) (i : ℕ) (b : HeldBlock E) (m0 m1 m2 : ℕ) → i < length old → get_or now i b ≡ get_or old i no_block
+    → m1 ≤ m0 + longer_than met (map length (stripes_in (take i old))) * k → m2 ≤ m1 + longer_than met (map length (get_or now i b).stripes) * k
+    → m2 ≤ m0 + longer_than met (map length (stripes_in (take (i + 1) old))) * k
+cost_block met k now old i b m0 m1 m2 l same before more =
+    cost_more m0 m1 m2 (longer_than met (map length (stripes_in (take i old)))) (longer_than met (map length (get_or now i b).stripes)) (longer_than met (map length (stripes_in (take (i + 1) old)))) k
+    before more
+    (longer_more_block met old i l ∙ ap (λ v. longer_than met (map length (stripes_in (take i old))) + longer_than met (map length v.stripes)) (sym same))
 
 pub cost_part : (m0 m1 m2 q q' from n n' : ℕ) → m1 ≤ m0 + q * from → m2 ≤ m1 + q' * n' → q' ≡ q → n' ≡ n → m2 ≤ m0 + q * (from + n)
 cost_part m0 m1 m2 q q' from n n' a b e f =
@@ -211,10 +230,18 @@ begun_more o met x i spelt w bytes ss ts =
     ∙ ap (begun_all o met x i (ss ++ ts)) (words_append spelt w (length ss) (length ts) bytes)
     ∙ begun_append o met x i ss ts (words spelt w (length ss) bytes) (words spelt w (length ts) (drop (length ss * w) bytes)) (length-words spelt w (length ss) bytes)
 
-pub values_room : (n w all size at wide size' len : ℕ) → n + w ≤ all → at ≡ n * size → wide ≡ w → size' ≡ size → len ≡ all * size → at + wide * size' ≤ len
+values_room : (n w all size at wide size' len : ℕ) → n + w ≤ all → at ≡ n * size → wide ≡ w → size' ≡ size → len ≡ all * size → at + wide * size' ≤ len
 values_room n w all size at wide size' len l a b c d =
     let e : wide * size' ≡ w * size = ap₂ ◌*◌ b c in
     omega (arith, e, parts n w size, rows_le (n + w) all size l)
+
+-- the values of the block that comes next
+pub values_ahead : {E : Type 0} (now old : List (HeldBlock E)) (i : ℕ) (b : HeldBlock E) (size at wide size' len : ℕ) → i < length old → length now ≡ length old → drop i now ≡ drop i old
+    → at ≡ length (stripes_in (take i old)) * size → wide ≡ length (get_or now i b).stripes → size' ≡ size → len ≡ length (stripes_in old) * size → at + wide * size' ≤ len
+values_ahead now old i b size at wide size' len l long rest a wide_is size_is len_is =
+    let same = block_ahead now old i b no_block (omega (arith, long)) rest in
+    values_room (length (stripes_in (take i old))) (length (get_or old i no_block).stripes) (length (stripes_in old)) size at wide size' len (length-flat_map-take (λ v. v.stripes) old i no_block l)
+    a (wide_is ∙ ap (λ v. length v.stripes) same) size_is len_is
 
 pub turned : {E : Type 0} (P : E → Type 0) (before met room : ℕ) (old new : HeldBlock E) → IsBlock P before room old → new.size ≡ old.size → new.waits ≡ nat_lt met old.size
     → new.stripes ≡ old.stripes → IsBlock P met room new

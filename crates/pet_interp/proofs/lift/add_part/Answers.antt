@@ -1,11 +1,8 @@
-use Rattle.std.proofs.Common.{◌≡◌, ◌∙◌, ◌+◌, ◌<◌, ◌++◌, length, map, get_or, take, ap, ap₂, sym, arith}
-use Rattle.std.proofs.lemmas.List.{length-set, length-map, map-append, get_or_default}
-use Rattle.std.proofs.lemmas.List.Elements.{All-set}
-use Rattle.pet_interp.specs.Progressive.{longer_than}
-use Rattle.pet_interp.specs.Blocks.{HeldBlock, IsBlock, stripes_in, no_block}
+use Rattle.std.proofs.Common.{◌≡◌, ◌∙◌, ◌<◌, ◌++◌, length, map, get_or, take, ap, ap₂, sym, arith}
+use Rattle.std.proofs.lemmas.List.{length-set, length-map, map-append}
+use Rattle.pet_interp.specs.Blocks.{HeldBlock, stripes_in, no_block}
 use Rattle.pet_interp.specs.Lifted.{grown}
-use Rattle.pet_interp.proofs.Lifted.{cost_more}
-use Rattle.pet_interp.proofs.Passes.{kept, stripes_more, stripes_more_set, rest_more, first_of_rest, longer_more_block}
+use Rattle.pet_interp.proofs.Passes.{blocks_kept, block_ahead, cost_block, stripes_more, stripes_more_set, rest_more}
 use Rattle.pet_interp.proofs.lift.add_part.Goals as goal
 
 pub add_multiples-requires-clause-waits : goal.add_multiples-requires-clause-waits
@@ -25,21 +22,15 @@ loop-i-preserved g c =
     let G = grown g.F.Field.coding.ops met c.args.from (map g.F.Rows.element_of c.args.factors.now) in
     let few0 : i < length old = c.loop-i-test.true in
     let few : i < length now = omega (arith, inv.long) in
-    let same : get_or now i b ≡ get_or old i no_block = get_or_default now i b no_block few ∙ first_of_rest now old i no_block inv.rest in
+    let same = block_ahead now old i b no_block few inv.rest in
     let count : length new.stripes ≡ length (get_or now i b).stripes = ap length did.stripes ∙ length-map (get_or now i b).stripes G in
     record {
       long = length-set now i new ∙ inv.long;
-      blocks =
-          λ room h.
-          All-set (IsBlock P met room) now i new (kept P met room (get_or now i b) new (inv.blocks room h i b few) did.size did.waits count did.each) (inv.blocks room h);
+      blocks = λ room h. blocks_kept P met room now i b new (inv.blocks room h) few did.size did.waits count did.each;
       done =
           stripes_more_set now i new few
           ∙ ap₂ ◌++◌ inv.done (did.stripes ∙ ap (λ (v : HeldBlock g.row.F-Elem.Denot). map G v.stripes) same)
           ∙ sym (map-append G (stripes_in (take i old)) (get_or old i no_block).stripes) ∙ ap (map G) (sym (stripes_more old i few0));
       rest = rest_more now old i new inv.rest;
-      cost =
-          cost_more c.args.steps.now c.loop-i.steps c.add_multiples.new.steps (longer_than met (map length (stripes_in (take i old)))) (longer_than met (map length (get_or now i b).stripes))
-          (longer_than met (map length (stripes_in (take (i + 1) old)))) (length c.args.factors.now) inv.cost did.cost
-          (longer_more_block met old i few0
-          ∙ ap (λ (v : HeldBlock g.row.F-Elem.Denot). longer_than met (map length (stripes_in (take i old))) + longer_than met (map length v.stripes)) (sym same));
+      cost = cost_block met (length c.args.factors.now) now old i b c.args.steps.now c.loop-i.steps c.add_multiples.new.steps few0 same inv.cost did.cost;
     }

@@ -1,27 +1,19 @@
 use Rattle.std.proofs.Common.{◌≡◌, ◌∙◌, ◌+◌, ◌-◌, ◌<◌, ◌++◌, All, [], ◌∷◌, length, get_or, set, take, ap, ap₂, sym, arith, subst}
-use Rattle.std.proofs.lemmas.List.{length-set, get_or_default, take_more_set}
+use Rattle.std.proofs.lemmas.List.{length-set, take_more_set}
 use Rattle.std.proofs.lemmas.List.Elements.{All-push, All-same}
 use Rattle.pet_interp.specs.Blocks.{HeldBlock, IsBlock, no_block}
-use Rattle.pet_interp.proofs.Passes.{turned, stripes_more, stripes_more_set, rest_more, first_of_rest}
+use Rattle.pet_interp.proofs.Passes.{turned, block_ahead, stripes_more, stripes_more_set, rest_more}
 use Rattle.pet_interp.proofs.lift.turn_back.Goals as goal
 
 pub turn_back-requires-clause-waits : goal.turn_back-requires-clause-waits
 turn_back-requires-clause-waits g c =
-    let old = c.args.blocks.now in
-    let now = c.loop-i.blocks in
-    let i = c.loop-i.i in
-    let b = c.index-blocks-i.result in
-    let same : get_or now i b ≡ get_or old i no_block = get_or_default now i b no_block (omega (arith, c.loop-i.invariant.long)) ∙ first_of_rest now old i no_block c.loop-i.invariant.rest in
-    rw same (c.requires.blocks i no_block c.loop-i-test.true).waits
+    rw (block_ahead c.loop-i.blocks c.args.blocks.now c.loop-i.i c.index-blocks-i.result no_block (omega (arith, c.loop-i.invariant.long)) c.loop-i.invariant.rest)
+    (c.requires.blocks c.loop-i.i no_block c.loop-i-test.true).waits
 
 pub turn_back-requires-clause-room : goal.turn_back-requires-clause-room
 turn_back-requires-clause-room g c =
-    let old = c.args.blocks.now in
-    let now = c.loop-i.blocks in
-    let i = c.loop-i.i in
-    let b = c.index-blocks-i.result in
-    let same : get_or now i b ≡ get_or old i no_block = get_or_default now i b no_block (omega (arith, c.loop-i.invariant.long)) ∙ first_of_rest now old i no_block c.loop-i.invariant.rest in
-    rw same (rw c.loop-i.invariant.room (c.requires.blocks i no_block c.loop-i-test.true).fits)
+    rw (block_ahead c.loop-i.blocks c.args.blocks.now c.loop-i.i c.index-blocks-i.result no_block (omega (arith, c.loop-i.invariant.long)) c.loop-i.invariant.rest)
+    (rw c.loop-i.invariant.room (c.requires.blocks c.loop-i.i no_block c.loop-i-test.true).fits)
 
 pub loop-i-preserved : goal.loop-i-preserved
 loop-i-preserved g c =
@@ -36,7 +28,7 @@ loop-i-preserved g c =
     let did = c.turn_back.ensures in
     let few0 : i < length old = c.loop-i-test.true in
     let few : i < length now = omega (arith, inv.long) in
-    let same : get_or now i b ≡ get_or old i no_block = get_or_default now i b no_block few ∙ first_of_rest now old i no_block inv.rest in
+    let same = block_ahead now old i b no_block few inv.rest in
     let room : length c.turn_back.new.spare ≡ length c.loop-i.spare = c.turn_back.auto.spare in
     let was : IsBlock P (met - 1) (length c.loop-i.spare) (get_or now i b) =
     rw same (subst (λ n. IsBlock P (met - 1) n (get_or old i no_block)) (sym inv.room) (c.requires.blocks i no_block few0)) in

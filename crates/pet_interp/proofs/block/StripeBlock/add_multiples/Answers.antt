@@ -1,25 +1,19 @@
 use Rattle.std.proofs.Common.{◌≡◌, ◌∙◌, ◌*◌, true, All, length, map, ap, sym, arith, subst}
-use Rattle.std.specs.Prelude.{nat_lt}
 use Rattle.std.specs.Vec.{with_items}
-use Rattle.std.proofs.lemmas.Bool.{lt-ltb}
 use Rattle.std.proofs.lemmas.List.{with_items_is}
-use Rattle.std.proofs.lemmas.List.Elements.{All-same}
 use Rattle.pet_rows.specs.Columns.{block_columns}
-use Rattle.pet_interp.specs.Progressive.{longer_than}
 use Rattle.pet_interp.specs.Blocks.{HeldBlock, stripes_of}
 use Rattle.pet_interp.specs.Lifted.{grown}
-use Rattle.pet_interp.proofs.BlockStripes.{length-stripes, stripes_each, stripes_waiting, columns_grown, grown_none, longer_all}
+use Rattle.pet_interp.proofs.BlockStripes.{stripes_each, stripes_waiting, columns_grown, grown_none, each_new, waits_here, each_seen, longer_seen}
 use Rattle.pet_interp.proofs.block.StripeBlock.add_multiples.Goals as goal
 
 pub returns-then-met-self-clause-each : goal.returns-then-met-self-clause-each
 returns-then-met-self-clause-each g c =
     let F = g.F.Field in
     let b = c.self.inside in
-    let new = c.add_rows.new.rows in
-    let kept = with_items_is b.places new (c.add_rows.auto.rows ∙ c.deref_mut.ensures.len) in
-    let long = ap length kept ∙ c.add_rows.auto.rows ∙ ap length c.deref_mut.ensures.value ∙ c.self.invariant.whole in
-    stripes_each F.is_element F.coding.ops.nought b.waits b.width b.size (with_items b.places new).items long
-    (All-same F.is_element _ new kept c.add_rows.ensures.elements)
+    let kept = with_items_is b.places c.add_rows.new.rows (c.add_rows.auto.rows ∙ c.deref_mut.ensures.len) in
+    each_new F.is_element F.coding.ops.nought b.waits b.width b.size (with_items b.places c.add_rows.new.rows).items c.add_rows.new.rows kept
+    (c.add_rows.auto.rows ∙ ap length c.deref_mut.ensures.value ∙ c.self.invariant.whole) c.add_rows.ensures.elements
 
 pub returns-then-met-self-clause-stripes : goal.returns-then-met-self-clause-stripes
 returns-then-met-self-clause-stripes g c =
@@ -29,9 +23,7 @@ returns-then-met-self-clause-stripes g c =
     let new = c.add_rows.new.rows in
     let kept = with_items_is b.places new (c.add_rows.auto.rows ∙ c.deref_mut.ensures.len) in
     let G = grown F.coding.ops c.args.met c.args.from (map g.F.Rows.element_of c.args.factors.now) in
-    let waits : b.waits ≡ true =
-    ap (λ (v : HeldBlock g.row.F-Elem.Denot). v.waits) c.self.view_is ∙ c.requires.waits
-    ∙ ap (λ (v : HeldBlock g.row.F-Elem.Denot). nat_lt c.args.met v.size) (sym c.self.view_is) ∙ lt-ltb c.args.met b.size c.if-met-self.true in
+    let waits : b.waits ≡ true = waits_here c.args.met _ _ c.self.view_is c.requires.waits c.if-met-self.true in
     ap (stripes_of z b.waits b.width b.size) kept ∙ stripes_waiting z b.waits b.width b.size new waits
     ∙ columns_grown G z b.width b.size c.deref_mut.result.now new c.add_rows.ensures.columns
     ∙ ap (λ t. map G (block_columns z b.width b.size t)) c.deref_mut.ensures.value
@@ -41,21 +33,15 @@ returns-then-met-self-clause-stripes g c =
 pub returns-then-met-self-clause-cost : goal.returns-then-met-self-clause-cost
 returns-then-met-self-clause-cost g c =
     let F = g.F.Field in
-    let z = F.coding.ops.nought in
     let b = c.self.inside in
-    let each = stripes_each F.is_element z b.waits b.width b.size b.places.items c.self.invariant.whole c.self.invariant.elements in
-    let count : longer_than c.args.met (map length c.args.self.now.stripes) ≡ b.width =
-    ap (λ (v : HeldBlock g.row.F-Elem.Denot). longer_than c.args.met (map length v.stripes)) (sym c.self.view_is)
-    ∙ longer_all c.args.met b.size (stripes_of z b.waits b.width b.size b.places.items) (All F.is_element) c.if-met-self.true each
-    ∙ length-stripes z b.waits b.width b.size b.places.items in
+    let count = longer_seen F.is_element F.coding.ops.nought b.waits b.width b.size b.places.items _ c.self.view_is c.self.invariant.whole c.self.invariant.elements c.args.met c.if-met-self.true in
     omega (arith, ap (λ n. n * length c.args.factors.now) count, c.add_rows.ensures.cost)
 
 pub returns-else-met-self-clause-each : goal.returns-else-met-self-clause-each
 returns-else-met-self-clause-each g c =
     let F = g.F.Field in
     let b = c.self.inside in
-    subst (λ (v : HeldBlock g.row.F-Elem.Denot). All (λ s. (length s ≡ v.size) × All F.is_element s) v.stripes) c.self.view_is
-    (stripes_each F.is_element F.coding.ops.nought b.waits b.width b.size b.places.items c.self.invariant.whole c.self.invariant.elements)
+    each_seen F.is_element F.coding.ops.nought b.waits b.width b.size b.places.items _ c.self.view_is c.self.invariant.whole c.self.invariant.elements
 
 pub returns-else-met-self-clause-stripes : goal.returns-else-met-self-clause-stripes
 returns-else-met-self-clause-stripes g c =

@@ -1,35 +1,28 @@
-use Rattle.std.proofs.Common.{◌≡◌, ◌∙◌, ◌+◌, ◌*◌, true, All, length, map, ap, sym, arith, subst}
-use Rattle.std.specs.Prelude.{nat_lt}
+use Rattle.std.proofs.Common.{◌≡◌, ◌∙◌, ◌+◌, ◌*◌, true, All, length, ap, sym, arith, subst}
 use Rattle.std.specs.Vec.{with_items}
-use Rattle.std.proofs.lemmas.Bool.{lt-ltb}
 use Rattle.std.proofs.lemmas.List.{with_items_is}
-use Rattle.std.proofs.lemmas.List.Elements.{All-same}
 use Rattle.pet_rows.specs.Columns.{block_columns}
-use Rattle.pet_interp.specs.Progressive.{longer_than}
 use Rattle.pet_interp.specs.Blocks.{HeldBlock, stripes_of}
 use Rattle.pet_interp.specs.Lifted.{begun_all}
 use Rattle.pet_poly.specs.Rows.{words}
 use Rattle.pet_poly.specs.laws.RowLaws.{length-words}
-use Rattle.pet_interp.proofs.BlockStripes.{length-stripes, stripes_each, stripes_waiting, columns_begun, begun_none, longer_all}
+use Rattle.pet_interp.proofs.BlockStripes.{stripes_each, stripes_waiting, columns_begun, begun_none, each_new, waits_here, count_seen, each_seen, longer_seen}
 use Rattle.pet_interp.proofs.block.StripeBlock.begin.Goals as goal
 
 pub begin_row-requires-clause-values : goal.begin_row-requires-clause-values
 begin_row-requires-clause-values g c =
     let F = g.F.Field in
     let b = c.self.inside in
-    let count : length c.args.self.now.stripes ≡ b.width =
-    ap (λ (v : HeldBlock g.row.F-Elem.Denot). length v.stripes) (sym c.self.view_is) ∙ length-stripes F.coding.ops.nought b.waits b.width b.size b.places.items in
+    let count = count_seen F.coding.ops.nought b.waits b.width b.size b.places.items c.args.self.now c.self.view_is in
     c.requires.width ∙ ap (λ n. n * F.coding.width) count
 
 pub returns-then-met-self-clause-each : goal.returns-then-met-self-clause-each
 returns-then-met-self-clause-each g c =
     let F = g.F.Field in
     let b = c.self.inside in
-    let new = c.begin_row.new.rows in
-    let kept = with_items_is b.places new (c.begin_row.auto.rows ∙ c.deref_mut.ensures.len) in
-    let long = ap length kept ∙ c.begin_row.auto.rows ∙ ap length c.deref_mut.ensures.value ∙ c.self.invariant.whole in
-    stripes_each F.is_element F.coding.ops.nought b.waits b.width b.size (with_items b.places new).items long
-    (All-same F.is_element _ new kept c.begin_row.ensures.elements)
+    let kept = with_items_is b.places c.begin_row.new.rows (c.begin_row.auto.rows ∙ c.deref_mut.ensures.len) in
+    each_new F.is_element F.coding.ops.nought b.waits b.width b.size (with_items b.places c.begin_row.new.rows).items c.begin_row.new.rows kept
+    (c.begin_row.auto.rows ∙ ap length c.deref_mut.ensures.value ∙ c.self.invariant.whole) c.begin_row.ensures.elements
 
 pub returns-then-met-self-clause-stripes : goal.returns-then-met-self-clause-stripes
 returns-then-met-self-clause-stripes g c =
@@ -42,11 +35,8 @@ returns-then-met-self-clause-stripes g c =
     let x = g.F.Rows.element_of c.args.x.now in
     let i = g.F.Rows.element_of c.args.inverse.now in
     let ys = words F.coding.spelt F.coding.width b.width c.args.values.now in
-    let count : b.width ≡ length c.args.self.now.stripes =
-    sym (length-stripes z b.waits b.width b.size b.places.items) ∙ ap (λ (v : HeldBlock g.row.F-Elem.Denot). length v.stripes) c.self.view_is in
-    let waits : b.waits ≡ true =
-    ap (λ (v : HeldBlock g.row.F-Elem.Denot). v.waits) c.self.view_is ∙ c.requires.waits
-    ∙ ap (λ (v : HeldBlock g.row.F-Elem.Denot). nat_lt c.args.met v.size) (sym c.self.view_is) ∙ lt-ltb c.args.met b.size c.if-met-self.true in
+    let count = sym (count_seen z b.waits b.width b.size b.places.items c.args.self.now c.self.view_is) in
+    let waits : b.waits ≡ true = waits_here c.args.met _ _ c.self.view_is c.requires.waits c.if-met-self.true in
     ap (stripes_of z b.waits b.width b.size) kept ∙ stripes_waiting z b.waits b.width b.size new waits
     ∙ columns_begun o b.width b.size c.args.met x i c.deref_mut.result.now new ys (length-words F.coding.spelt F.coding.width b.width c.args.values.now) c.begin_row.ensures.columns
     ∙ ap (λ t. begun_all o c.args.met x i (block_columns z b.width b.size t) ys) c.deref_mut.ensures.value
@@ -57,21 +47,15 @@ returns-then-met-self-clause-stripes g c =
 pub returns-then-met-self-clause-cost : goal.returns-then-met-self-clause-cost
 returns-then-met-self-clause-cost g c =
     let F = g.F.Field in
-    let z = F.coding.ops.nought in
     let b = c.self.inside in
-    let each = stripes_each F.is_element z b.waits b.width b.size b.places.items c.self.invariant.whole c.self.invariant.elements in
-    let count : longer_than c.args.met (map length c.args.self.now.stripes) ≡ b.width =
-    ap (λ (v : HeldBlock g.row.F-Elem.Denot). longer_than c.args.met (map length v.stripes)) (sym c.self.view_is)
-    ∙ longer_all c.args.met b.size (stripes_of z b.waits b.width b.size b.places.items) (All F.is_element) c.if-met-self.true each
-    ∙ length-stripes z b.waits b.width b.size b.places.items in
+    let count = longer_seen F.is_element F.coding.ops.nought b.waits b.width b.size b.places.items _ c.self.view_is c.self.invariant.whole c.self.invariant.elements c.args.met c.if-met-self.true in
     omega (arith, ap (λ n. n * (c.args.met + 1)) count, c.begin_row.ensures.cost)
 
 pub returns-else-met-self-clause-each : goal.returns-else-met-self-clause-each
 returns-else-met-self-clause-each g c =
     let F = g.F.Field in
     let b = c.self.inside in
-    subst (λ (v : HeldBlock g.row.F-Elem.Denot). All (λ s. (length s ≡ v.size) × All F.is_element s) v.stripes) c.self.view_is
-    (stripes_each F.is_element F.coding.ops.nought b.waits b.width b.size b.places.items c.self.invariant.whole c.self.invariant.elements)
+    each_seen F.is_element F.coding.ops.nought b.waits b.width b.size b.places.items _ c.self.view_is c.self.invariant.whole c.self.invariant.elements
 
 pub returns-else-met-self-clause-stripes : goal.returns-else-met-self-clause-stripes
 returns-else-met-self-clause-stripes g c =

@@ -10,7 +10,9 @@ use Rattle.pet_interp.specs.Progressive.{Held, StandsFor}
 use Rattle.pet_interp.specs.Blocks.{IsBlock, stripes_in}
 use Rattle.pet_interp.proofs.Grown.{longest_same}
 use Rattle.pet_interp.proofs.Added.{weight_of, stands_added}
-use Rattle.pet_interp.proofs.Along.{lifted_along, moved_along, same_along, lengths_along}
+use Rattle.pet_interp.proofs.Along.{HaveMet, met_along, moved_along}
+use Rattle.pet_interp.proofs.progress.Progress.add.Given as given
+use Rattle.pet_interp.proofs.progress.Progress.add.Goals.{After-self-6-1}
 use Rattle.pet_interp.proofs.progress.Progress.add.Goals as goal
 
 pub advance-requires-clause-blocks : goal.advance-requires-clause-blocks
@@ -38,70 +40,52 @@ turn_back-requires-clause-blocks g c =
     subst (λ n. All (IsBlock P n (length c.deref_mut-5.result.now)) c.deref_mut-4.result.now) (sym one)
     (subst (λ n. All (IsBlock P s.met n) c.deref_mut-4.result.now) (sym (ap length c.deref_mut-5.ensures.value)) after)
 
+-- the blocks that `advance` and `turn_back` leave
+blocks_left : (g : given.Over) (c : After-self-6-1 g) → (with_items (with_items c.self.inside.blocks c.advance.new.blocks) c.turn_back.new.blocks).items ≡ c.turn_back.new.blocks
+blocks_left g c = with_items_is (with_items c.self.inside.blocks c.advance.new.blocks) c.turn_back.new.blocks (c.turn_back.auto.blocks ∙ c.deref_mut-4.ensures.len)
+
+-- and the product
+product_left : (g : given.Over) (c : After-self-6-1 g) → (with_items c.self.inside.product c.advance.new.product).items ≡ c.advance.new.product
+product_left g c = with_items_is c.self.inside.product c.advance.new.product (c.advance.auto.product ∙ c.deref_mut-2.ensures.len)
+
+-- their stripes have met one more point
+met_one : (g : given.Over) (c : After-self-6-1 g) → let F = g.F.Field in let s = c.self.inside in
+    HaveMet F.is_element F.coding.ops s.met (length s.product.items) (take s.met s.product.items) c.args.x (words F.coding.spelt F.coding.width (length c.args.self.now.stripes) c.args.values.now)
+    (stripes_in s.blocks.items) (stripes_in (with_items (with_items s.blocks c.advance.new.blocks) c.turn_back.new.blocks).items)
+met_one g c =
+    let F = g.F.Field in
+    let s = c.self.inside in
+    let kept = with_items_is s.blocks c.advance.new.blocks (c.advance.auto.blocks ∙ c.deref_mut.ensures.len) in
+    let is : length (stripes_in s.blocks.items) ≡ length c.args.self.now.stripes = ap (λ (v : Held g.row.F-Elem.Denot). length v.stripes) c.self.view_is in
+    met_along F.is_element F.coding.ops s.met F.coding.width (length c.args.self.now.stripes) F.coding.spelt c.args.values.now c.args.x c.deref_mut.result.now s.blocks.items
+    c.deref_mut-2.result.now s.product.items (stripes_in c.advance.new.blocks) (stripes_in (with_items (with_items s.blocks c.advance.new.blocks) c.turn_back.new.blocks).items)
+    c.deref_mut.ensures.value c.deref_mut-2.ensures.value (ap stripes_in (blocks_left g c) ∙ c.turn_back.ensures.stripes ∙ ap stripes_in (c.deref_mut-4.ensures.value ∙ kept)) (sym is)
+    c.advance.ensures.lifted (λ l. (c.advance.ensures.same l).0)
+
 pub invariant_of-self : goal.invariant_of-self
 invariant_of-self g c =
-    let F = g.F.Field in
-    let P = F.is_element in
-    let o = F.coding.ops in
+    let P = g.F.Field.is_element in
     let s = c.self.inside in
     let met = s.met in
-    let product = s.product.items in
+    let left = (goal.at.invariant_of-self g c).After-self-6-1 in
     let final_blocks = (with_items (with_items s.blocks c.advance.new.blocks) c.turn_back.new.blocks).items in
     let final_product = (with_items s.product c.advance.new.product).items in
-    let kept1 = with_items_is s.blocks c.advance.new.blocks (c.advance.auto.blocks ∙ c.deref_mut.ensures.len) in
-    let kept2 : final_product ≡ c.advance.new.product = with_items_is s.product c.advance.new.product (c.advance.auto.product ∙ c.deref_mut-2.ensures.len) in
-    let kept4 : final_blocks ≡ c.turn_back.new.blocks = with_items_is (with_items s.blocks c.advance.new.blocks) c.turn_back.new.blocks (c.turn_back.auto.blocks ∙ c.deref_mut-4.ensures.len) in
-    let stripes : stripes_in final_blocks ≡ stripes_in c.advance.new.blocks =
-    ap stripes_in kept4 ∙ c.turn_back.ensures.stripes ∙ ap stripes_in (c.deref_mut-4.ensures.value ∙ kept1) in
-    let n = length c.args.self.now.stripes in
-    let is : length (stripes_in s.blocks.items) ≡ n = ap (λ (v : Held g.row.F-Elem.Denot). length v.stripes) c.self.view_is in
-    let ys = words F.coding.spelt F.coding.width n c.args.values.now in
-    let lifts = lifted_along P o met F.coding.width n F.coding.spelt c.args.values.now c.args.x c.deref_mut.result.now s.blocks.items c.deref_mut-2.result.now product
-    (stripes_in c.advance.new.blocks) (stripes_in final_blocks) c.deref_mut.ensures.value c.deref_mut-2.ensures.value stripes (sym is) c.advance.ensures.lifted in
-    let stays = same_along met c.deref_mut.result.now s.blocks.items c.deref_mut-2.result.now product (stripes_in c.advance.new.blocks) (stripes_in final_blocks)
-    c.deref_mut.ensures.value c.deref_mut-2.ensures.value stripes (λ l. (c.advance.ensures.same l).0) in
-    let lengths : map length (stripes_in final_blocks) ≡ map length (stripes_in s.blocks.items) =
-    lengths_along P o met (length product) (take met product) c.args.x ys (stripes_in s.blocks.items) (stripes_in final_blocks) lifts stays in
     let final_factors = (with_items s.factors c.advance.new.factors).items in
-    let final_spare = (with_items s.spare c.turn_back.new.spare).items in
     let kept3 : final_factors ≡ c.advance.new.factors = with_items_is s.factors c.advance.new.factors (c.advance.auto.factors ∙ c.deref_mut-3.ensures.len) in
-    let kept5 : final_spare ≡ c.turn_back.new.spare = with_items_is s.spare c.turn_back.new.spare (c.turn_back.auto.spare ∙ c.deref_mut-5.ensures.len) in
-    let same2 : length final_product ≡ length product = ap length kept2 ∙ c.advance.auto.product ∙ ap length c.deref_mut-2.ensures.value in
+    let kept5 : (with_items s.spare c.turn_back.new.spare).items ≡ c.turn_back.new.spare = with_items_is s.spare c.turn_back.new.spare (c.turn_back.auto.spare ∙ c.deref_mut-5.ensures.len) in
+    let same2 : length final_product ≡ length s.product.items = ap length (product_left g left) ∙ c.advance.auto.product ∙ ap length c.deref_mut-2.ensures.value in
     let same3 : length final_factors ≡ length s.factors.items = ap length kept3 ∙ c.advance.auto.factors ∙ ap length c.deref_mut-3.ensures.value in
     record {
       each =
           subst (λ k. All (IsBlock P (met + 1) k) final_blocks) (sym (ap length kept5))
-          (All-same (IsBlock P (met + 1) (length c.turn_back.new.spare)) final_blocks c.turn_back.new.blocks kept4 c.turn_back.ensures.blocks);
-      products = All-same P final_product c.advance.new.product kept2 c.advance.ensures.products;
-      longest = longest_same (stripes_in s.blocks.items) (stripes_in final_blocks) (length product) (length final_product) lengths same2 c.self.invariant.longest;
+          (All-same (IsBlock P (met + 1) (length c.turn_back.new.spare)) final_blocks c.turn_back.new.blocks (blocks_left g left) c.turn_back.ensures.blocks);
+      products = All-same P final_product c.advance.new.product (product_left g left) c.advance.ensures.products;
+      longest = longest_same (stripes_in s.blocks.items) (stripes_in final_blocks) (length s.product.items) (length final_product) (met_one g left).lengths same2 c.self.invariant.longest;
       some = λ l. rw same3 (c.self.invariant.some (omega (arith, same2)));
     }
 
 pub returns-clause-lengths : goal.returns-clause-lengths
-returns-clause-lengths g c =
-    let F = g.F.Field in
-    let P = F.is_element in
-    let o = F.coding.ops in
-    let s = c.self.inside in
-    let met = s.met in
-    let product = s.product.items in
-    let final_blocks = (with_items (with_items s.blocks c.advance.new.blocks) c.turn_back.new.blocks).items in
-    let final_product = (with_items s.product c.advance.new.product).items in
-    let kept1 = with_items_is s.blocks c.advance.new.blocks (c.advance.auto.blocks ∙ c.deref_mut.ensures.len) in
-    let kept2 : final_product ≡ c.advance.new.product = with_items_is s.product c.advance.new.product (c.advance.auto.product ∙ c.deref_mut-2.ensures.len) in
-    let kept4 : final_blocks ≡ c.turn_back.new.blocks = with_items_is (with_items s.blocks c.advance.new.blocks) c.turn_back.new.blocks (c.turn_back.auto.blocks ∙ c.deref_mut-4.ensures.len) in
-    let stripes : stripes_in final_blocks ≡ stripes_in c.advance.new.blocks =
-    ap stripes_in kept4 ∙ c.turn_back.ensures.stripes ∙ ap stripes_in (c.deref_mut-4.ensures.value ∙ kept1) in
-    let n = length c.args.self.now.stripes in
-    let is : length (stripes_in s.blocks.items) ≡ n = ap (λ (v : Held g.row.F-Elem.Denot). length v.stripes) c.self.view_is in
-    let ys = words F.coding.spelt F.coding.width n c.args.values.now in
-    let lifts = lifted_along P o met F.coding.width n F.coding.spelt c.args.values.now c.args.x c.deref_mut.result.now s.blocks.items c.deref_mut-2.result.now product
-    (stripes_in c.advance.new.blocks) (stripes_in final_blocks) c.deref_mut.ensures.value c.deref_mut-2.ensures.value stripes (sym is) c.advance.ensures.lifted in
-    let stays = same_along met c.deref_mut.result.now s.blocks.items c.deref_mut-2.result.now product (stripes_in c.advance.new.blocks) (stripes_in final_blocks)
-    c.deref_mut.ensures.value c.deref_mut-2.ensures.value stripes (λ l. (c.advance.ensures.same l).0) in
-    let lengths : map length (stripes_in final_blocks) ≡ map length (stripes_in s.blocks.items) =
-    lengths_along P o met (length product) (take met product) c.args.x ys (stripes_in s.blocks.items) (stripes_in final_blocks) lifts stays in
-    lengths ∙ ap (λ (v : Held g.row.F-Elem.Denot). map length v.stripes) c.self.view_is
+returns-clause-lengths g c = (met_one g (goal.at.returns-clause-lengths g c).After-self-6-1).lengths ∙ ap (λ (v : Held g.row.F-Elem.Denot). map length v.stripes) c.self.view_is
 
 pub returns-clause-stands : goal.returns-clause-stands
 returns-clause-stands g c points st ne =
@@ -111,26 +95,18 @@ returns-clause-stands g c points st ne =
     let s = c.self.inside in
     let met = s.met in
     let product = s.product.items in
+    let n = length c.args.self.now.stripes in
+    let left = (goal.at.returns-clause-stands g c).After-self-6-1 in
+    let one = met_one g left in
     let final_blocks = (with_items (with_items s.blocks c.advance.new.blocks) c.turn_back.new.blocks).items in
     let final_product = (with_items s.product c.advance.new.product).items in
-    let kept1 = with_items_is s.blocks c.advance.new.blocks (c.advance.auto.blocks ∙ c.deref_mut.ensures.len) in
-    let kept2 : final_product ≡ c.advance.new.product = with_items_is s.product c.advance.new.product (c.advance.auto.product ∙ c.deref_mut-2.ensures.len) in
-    let kept4 : final_blocks ≡ c.turn_back.new.blocks = with_items_is (with_items s.blocks c.advance.new.blocks) c.turn_back.new.blocks (c.turn_back.auto.blocks ∙ c.deref_mut-4.ensures.len) in
-    let stripes : stripes_in final_blocks ≡ stripes_in c.advance.new.blocks =
-    ap stripes_in kept4 ∙ c.turn_back.ensures.stripes ∙ ap stripes_in (c.deref_mut-4.ensures.value ∙ kept1) in
-    let n = length c.args.self.now.stripes in
     let is : length (stripes_in s.blocks.items) ≡ n = ap (λ (v : Held g.row.F-Elem.Denot). length v.stripes) c.self.view_is in
-    let ys = words F.coding.spelt F.coding.width n c.args.values.now in
-    let lifts = lifted_along P o met F.coding.width n F.coding.spelt c.args.values.now c.args.x c.deref_mut.result.now s.blocks.items c.deref_mut-2.result.now product
-    (stripes_in c.advance.new.blocks) (stripes_in final_blocks) c.deref_mut.ensures.value c.deref_mut-2.ensures.value stripes (sym is) c.advance.ensures.lifted in
-    let stays = same_along met c.deref_mut.result.now s.blocks.items c.deref_mut-2.result.now product (stripes_in c.advance.new.blocks) (stripes_in final_blocks)
-    c.deref_mut.ensures.value c.deref_mut-2.ensures.value stripes (λ l. (c.advance.ensures.same l).0) in
     let held : Held g.row.F-Elem.Denot = record { met = met; stripes = stripes_in s.blocks.items; product = take met product } in
     let after : Held g.row.F-Elem.Denot = record { met = met + 1; stripes = stripes_in final_blocks; product = take (met + 1) final_product } in
     let bytes = All-from_get_or (λ b. b < 256) c.args.values.now 0 (λ k l. omega (arith, c.type_inv.values k)) in
     let moved : met < length product → final_product ≡ linear_product o c.args.x (take met product) ++ drop (met + 1) product =
-    moved_along o met c.args.x c.deref_mut-2.result.now product c.advance.new.product final_product c.deref_mut-2.ensures.value kept2 c.advance.ensures.product in
-    stands_added P o g.met.F.Field.lawful.field held points (subst (λ h. StandsFor P o h points) (sym c.self.view_is) st) c.args.x c.requires.point ne ys
-    (length-words F.coding.spelt F.coding.width n c.args.values.now ∙ sym is)
+    moved_along o met c.args.x c.deref_mut-2.result.now product c.advance.new.product final_product c.deref_mut-2.ensures.value (product_left g left) c.advance.ensures.product in
+    stands_added P o g.met.F.Field.lawful.field held points (subst (λ h. StandsFor P o h points) (sym c.self.view_is) st) c.args.x c.requires.point ne
+    (words F.coding.spelt F.coding.width n c.args.values.now) (length-words F.coding.spelt F.coding.width n c.args.values.now ∙ sym is)
     (words_are P F.coding.width F.coding.spelt F.coding.spelling g.met.F.Field.lawful.spellings n c.args.values.now c.requires.width bytes) after (length product) c.self.invariant.longest refl
-    lifts (λ l. linear_front o c.args.x product final_product met l (moved l)) stays
+    one.lifts (λ l. linear_front o c.args.x product final_product met l (moved l)) one.stays
