@@ -60,7 +60,7 @@ module _ (old mid new : Routes) (stream priority : List ℕ) (source : Source) (
   packets to = packets_file to s.priority_bytes s.stream_bytes
 
   -- what is left of the session that was read
-  pub left_of : (way : Way) → SessionLeft source marks stream way mid new → LeavesFront stream priority way old new
+  left_of : (way : Way) → SessionLeft source marks stream way mid new → LeavesFront stream priority way old new
   left_of (OnFile to) left = by (left s.priority_bytes s.stream_bytes first there)
     where
       by : Wrote [] None mid.place new.place ⊎ Wrote [] (Some (packets to)) mid.place new.place → LeavesFront stream priority (OnFile to) old new
@@ -78,7 +78,7 @@ module _ (old mid new : Routes) (stream priority : List ℕ) (source : Source) (
       )
 
   -- all of it was sent
-  pub sent_of : (way : Way) → SessionSent source marks stream way mid new → HasPackets old s way new
+  sent_of : (way : Way) → SessionSent source marks stream way mid new → HasPackets old s way new
   sent_of (OnFile to) sent = sent s.priority_bytes s.stream_bytes first there ∙ ap (option_map (with_files (packets to ∷ []))) same
   sent_of (OnLink address) sent = (
     subst (λ (l : LinkSeen). LinkSentAll address s.priority_bytes s.stream_bytes old.place.files l new.link) link
@@ -109,7 +109,7 @@ module _ (old mid new : Routes) (stream priority : List ℕ) (source : Source) (
   may_blame (OnLink address) blame read = inr (read, s.priority_bytes, s.priority_file, s.session.priority_read)
 
   -- why the sending stopped
-  pub stops_of : (way : Way) → old.place.faults ≤ mid.place.faults → (f : SendFault) → SessionStops source marks stream way mid new f → IsSendFault old new stream priority way f
+  stops_of : (way : Way) → old.place.faults ≤ mid.place.faults → (f : SendFault) → SessionStops source marks stream way mid new f → IsSendFault old new stream priority way f
   unfolding least_of
   stops_of way later (fault.Stopped stop.NoMemory) stops = tt
   stops_of way later (fault.Stopped stop.Place) stops = HadFault-since old.place mid.place new.place _ _ later (may_blame way) stops
@@ -126,9 +126,20 @@ module _ (old mid new : Routes) (stream priority : List ℕ) (source : Source) (
         sent = subst (λ (l : LinkSeen). HasSentBefore s.priority_bytes s.stream_bytes stops.1.before way l new.link) link told.1;
       }
 
-  -- how many steps it may have counted
-  pub costs_of : (before after : ℕ) → after ≤ before + sum_by words_cost source.tables.items → Costs stream priority old.place before after
-  costs_of before after few = inr (s, subst (λ (ts : List Sizes). after ≤ before + sum_by words_cost ts) first.tables few)
+-- the same of the way that `send` was asked for, which the first reading hands on
+module _ (old mid new : Routes) {stream priority : List ℕ} {source : Source} {marks : List GroupMark} (read : IsReadFrom old.place stream priority source marks) (same : mid.place.files ≡ old.place.files) (link : mid.link ≡ old.link) {way asked : Way} (is : way ≡ asked) where
+  pub left_to : SessionLeft source marks stream way mid new → LeavesFront stream priority asked old new
+  left_to left = subst (λ (w : Way). LeavesFront stream priority w old new) is (left_of old mid new stream priority source marks read.session read.first same link way left)
+
+  pub sent_to : SessionSent source marks stream way mid new → HasPackets old read.session asked new
+  sent_to sent = subst (λ (w : Way). HasPackets old read.session w new) is (sent_of old mid new stream priority source marks read.session read.first same link way sent)
+
+  pub stops_to : old.place.faults ≤ mid.place.faults → (f : SendFault) → SessionStops source marks stream way mid new f → IsSendFault old new stream priority asked f
+  stops_to later f stops = subst (λ (w : Way). IsSendFault old new stream priority w f) is (stops_of old mid new stream priority source marks read.session read.first same link way later f stops)
+
+-- how many steps it may have counted
+pub costs_to : {old : Seen} {stream priority : List ℕ} {source : Source} {marks : List GroupMark} → IsReadFrom old stream priority source marks → (before after : ℕ) → after ≤ before + sum_by words_cost source.tables.items → Costs stream priority old before after
+costs_to read before after few = inr (read.session, subst (λ (ts : List Sizes). after ≤ before + sum_by words_cost ts) read.first.tables few)
 
 -- nothing is printed of a session that was sent, where no memory is found for the line
 pub sent_left : (source : Source) (marks : List GroupMark) (stream : List ℕ) (way : Way) (old new : Routes) → SessionSent source marks stream way old new → SessionLeft source marks stream way old new

@@ -1,10 +1,10 @@
-use Rattle.std.proofs.Common.{◌≡◌, ◌∙◌, ap, subst, refl}
+use Rattle.std.proofs.Common.{◌∙◌, ap, subst, refl}
 use Rattle.pet_base.specs.laws.Through.{on_any_err}
 use Rattle.datagram_route.specs.Sending.{routes}
 use Rattle.datagram_route.specs.Way.{Way, way_of}
-use Rattle.command_send.proofs.SessionRead.{line_of_pass, sent_of, sent_left, left_of, stops_of, costs_of, cause_on, keeps_same, leaves_nothing}
+use Rattle.command_send.proofs.SessionRead.{line_of_pass, left_to, sent_to, stops_to, costs_to, sent_left, cause_on, keeps_same, leaves_nothing}
 use Rattle.command_send.specs.SendParts.{IsSendFault, SessionStops}
-use Rattle.command_send.specs.Sends.{HasPackets, KeepsLink, LeavesFront}
+use Rattle.command_send.specs.Sends.{KeepsLink}
 use Rattle.command_send.proofs.session.sent_line.Goals as goal
 
 pub returns-in_err-found-clause-left : goal.returns-in_err-found-clause-left
@@ -20,12 +20,7 @@ returns-in_err-send_session-clause-left g c =
     let old = routes g.P.Place g.K.Link c.args.place.now c.args.link.now in
     let mid = routes g.P.Place g.K.Link c.read_first.new.place c.args.link.now in
     let new = routes g.P.Place g.K.Link c.send_session.new.place c.send_session.new.link in
-    let found = c.in_ok-found.found in
-    let read = c.in_ok-found.ensures.read in
-    let way = way_of found.to in
-    let same : way ≡ way_of c.args.to = ap way_of c.in_ok-found.ensures.to in
-    on_any_err c.from_residual-in_err-send_session.result
-    (subst (λ (w : Way). LeavesFront c.args.stream.now c.args.priority.now w old new) same (left_of old mid new c.args.stream.now c.args.priority.now found.source found.marks.items read.session read.first c.read_first.ensures.others.files refl way c.in_err-send_session.ensures.left))
+    on_any_err c.from_residual-in_err-send_session.result (left_to old mid new c.in_ok-found.ensures.read c.read_first.ensures.others.files refl (ap way_of c.in_ok-found.ensures.to) c.in_err-send_session.ensures.left)
 
 pub returns-in_err-send_session-clause-link : goal.returns-in_err-send_session-clause-link
 returns-in_err-send_session-clause-link g c =
@@ -37,24 +32,12 @@ returns-in_err-send_session-clause-cause g c =
     let mid = routes g.P.Place g.K.Link c.read_first.new.place c.args.link.now in
     let new = routes g.P.Place g.K.Link c.send_session.new.place c.send_session.new.link in
     let found = c.in_ok-found.found in
-    let read = c.in_ok-found.ensures.read in
-    let way = way_of found.to in
-    let same : way ≡ way_of c.args.to = ap way_of c.in_ok-found.ensures.to in
-    cause_on (SessionStops found.source found.marks.items c.args.stream.now way mid new) (IsSendFault old new c.args.stream.now c.args.priority.now (way_of c.args.to)) c.from_residual-in_err-send_session.result c.in_err-send_session.field-0.0 c.from_residual-in_err-send_session.ensures.1
-    (λ stops. subst (λ (w : Way). IsSendFault old new c.args.stream.now c.args.priority.now w c.in_err-send_session.field-0.0) same
-    (stops_of old mid new c.args.stream.now c.args.priority.now found.source found.marks.items read.session read.first c.read_first.ensures.others.files refl way c.read_first.ensures.later c.in_err-send_session.field-0.0 stops))
+    cause_on (SessionStops found.source found.marks.items c.args.stream.now (way_of found.to) mid new) (IsSendFault old new c.args.stream.now c.args.priority.now (way_of c.args.to)) c.from_residual-in_err-send_session.result c.in_err-send_session.field-0.0 c.from_residual-in_err-send_session.ensures.1
+    (stops_to old mid new c.in_ok-found.ensures.read c.read_first.ensures.others.files refl (ap way_of c.in_ok-found.ensures.to) c.read_first.ensures.later c.in_err-send_session.field-0.0)
     c.in_err-send_session.ensures.cause
 
 pub returns-in_err-send_session-clause-costs : goal.returns-in_err-send_session-clause-costs
-returns-in_err-send_session-clause-costs g c =
-    let old = routes g.P.Place g.K.Link c.args.place.now c.args.link.now in
-    let mid = routes g.P.Place g.K.Link c.read_first.new.place c.args.link.now in
-    let new = routes g.P.Place g.K.Link c.send_session.new.place c.send_session.new.link in
-    let found = c.in_ok-found.found in
-    let read = c.in_ok-found.ensures.read in
-    let way = way_of found.to in
-    let same : way ≡ way_of c.args.to = ap way_of c.in_ok-found.ensures.to in
-    costs_of old mid new c.args.stream.now c.args.priority.now found.source found.marks.items read.session read.first c.read_first.ensures.others.files refl c.args.steps.now c.send_session.new.steps c.send_session.ensures.cost
+returns-in_err-send_session-clause-costs g c = costs_to c.in_ok-found.ensures.read c.args.steps.now c.send_session.new.steps c.send_session.ensures.cost
 
 pub returns-in_err-line_of-clause-left : goal.returns-in_err-line_of-clause-left
 returns-in_err-line_of-clause-left g c =
@@ -62,27 +45,15 @@ returns-in_err-line_of-clause-left g c =
     let mid = routes g.P.Place g.K.Link c.read_first.new.place c.args.link.now in
     let new = routes g.P.Place g.K.Link c.send_session.new.place c.send_session.new.link in
     let found = c.in_ok-found.found in
-    let read = c.in_ok-found.ensures.read in
-    let way = way_of found.to in
-    let same : way ≡ way_of c.args.to = ap way_of c.in_ok-found.ensures.to in
     on_any_err c.from_residual-in_err-line_of.result
-    (subst (λ (w : Way). LeavesFront c.args.stream.now c.args.priority.now w old new) same
-    (left_of old mid new c.args.stream.now c.args.priority.now found.source found.marks.items read.session read.first c.read_first.ensures.others.files refl way (sent_left found.source found.marks.items c.args.stream.now way mid new c.in_ok-send_session.ensures.sent)))
+    (left_to old mid new c.in_ok-found.ensures.read c.read_first.ensures.others.files refl (ap way_of c.in_ok-found.ensures.to) (sent_left found.source found.marks.items c.args.stream.now (way_of found.to) mid new c.in_ok-send_session.ensures.sent))
 
 pub returns-in_err-line_of-clause-link : goal.returns-in_err-line_of-clause-link
 returns-in_err-line_of-clause-link g c =
     subst (λ (w : Way). KeepsLink w (g.K.Link.seen c.args.link.now) (g.K.Link.seen c.send_session.new.link)) (ap way_of c.in_ok-found.ensures.to) c.send_session.ensures.link
 
 pub returns-in_err-line_of-clause-costs : goal.returns-in_err-line_of-clause-costs
-returns-in_err-line_of-clause-costs g c =
-    let old = routes g.P.Place g.K.Link c.args.place.now c.args.link.now in
-    let mid = routes g.P.Place g.K.Link c.read_first.new.place c.args.link.now in
-    let new = routes g.P.Place g.K.Link c.send_session.new.place c.send_session.new.link in
-    let found = c.in_ok-found.found in
-    let read = c.in_ok-found.ensures.read in
-    let way = way_of found.to in
-    let same : way ≡ way_of c.args.to = ap way_of c.in_ok-found.ensures.to in
-    costs_of old mid new c.args.stream.now c.args.priority.now found.source found.marks.items read.session read.first c.read_first.ensures.others.files refl c.args.steps.now c.send_session.new.steps c.send_session.ensures.cost
+returns-in_err-line_of-clause-costs g c = costs_to c.in_ok-found.ensures.read c.args.steps.now c.send_session.new.steps c.send_session.ensures.cost
 
 pub returns-clause-line : goal.returns-clause-line
 returns-clause-line g c =
@@ -90,12 +61,9 @@ returns-clause-line g c =
     let mid = routes g.P.Place g.K.Link c.read_first.new.place c.args.link.now in
     let new = routes g.P.Place g.K.Link c.send_session.new.place c.send_session.new.link in
     let found = c.in_ok-found.found in
-    let read = c.in_ok-found.ensures.read in
-    let way = way_of found.to in
-    let same : way ≡ way_of c.args.to = ap way_of c.in_ok-found.ensures.to in
-    let sent = sent_of old mid new c.args.stream.now c.args.priority.now found.source found.marks.items read.session read.first c.read_first.ensures.others.files refl way c.in_ok-send_session.ensures.sent in (
+    let read = c.in_ok-found.ensures.read in (
       read.session,
-      subst (λ (w : Way). HasPackets old read.session w new) same sent,
+      sent_to old mid new c.in_ok-found.ensures.read c.read_first.ensures.others.files refl (ap way_of c.in_ok-found.ensures.to) c.in_ok-send_session.ensures.sent,
       c.in_ok-line_of.ensures ∙ line_of_pass read.session.priority_bytes read.session.stream_bytes found.source found.marks.items read.first,
     )
 
@@ -104,12 +72,4 @@ returns-clause-link g c =
     subst (λ (w : Way). KeepsLink w (g.K.Link.seen c.args.link.now) (g.K.Link.seen c.send_session.new.link)) (ap way_of c.in_ok-found.ensures.to) c.send_session.ensures.link
 
 pub returns-clause-costs : goal.returns-clause-costs
-returns-clause-costs g c =
-    let old = routes g.P.Place g.K.Link c.args.place.now c.args.link.now in
-    let mid = routes g.P.Place g.K.Link c.read_first.new.place c.args.link.now in
-    let new = routes g.P.Place g.K.Link c.send_session.new.place c.send_session.new.link in
-    let found = c.in_ok-found.found in
-    let read = c.in_ok-found.ensures.read in
-    let way = way_of found.to in
-    let same : way ≡ way_of c.args.to = ap way_of c.in_ok-found.ensures.to in
-    costs_of old mid new c.args.stream.now c.args.priority.now found.source found.marks.items read.session read.first c.read_first.ensures.others.files refl c.args.steps.now c.send_session.new.steps c.send_session.ensures.cost
+returns-clause-costs g c = costs_to c.in_ok-found.ensures.read c.args.steps.now c.send_session.new.steps c.send_session.ensures.cost
