@@ -1,5 +1,6 @@
 pub mod EntryLaws
 pub mod FoundEntries
+pub mod ToldLaws
 pub mod FramesLaws
 pub mod FramesInOrder
 pub mod KeptSetLaws

@@ -23,7 +23,7 @@ use Rattle.kept_sets.specs.Union.{join_slots, is_new, new_numbers}
 use Rattle.pet_receive.specs.Joining.{with_slot, with_theirs, IsFillable, IsFilledTo, HasFilled, IsReadyAt, CanJoin, JoinsOne, JoinsAll}
 use Rattle.kept_sets.specs.laws.EntryLaws.{lookup_here, lookup_other, set_is_insert}
 use Rattle.kept_sets.specs.laws.LayerSetLaws.{filter_more}
-use Rattle.kept_sets.specs.laws.JoinedGroups.{slot_join}
+use Rattle.kept_sets.specs.laws.JoinedGroups.{length_join, slot_join}
 
 -- a payload that is kept has the length of the group's payloads
 pub payload_long : (p : Packets) → IsPackets p → (number : ℕ) (payload : List ℕ) → Some payload ≡ slot_at p number → length payload ≡ payload_length_of p.header.table.layers
@@ -42,12 +42,6 @@ steps_more before lengths many =
     let f : ℕ → ℕ = λ r. step_bound r lengths in
     ap (sum_by f) (range_next before many)
     ∙ omega (arith, sum_by-append f (range_with_len before many) ((before + many) ∷ []), sum_by-cons f (before + many) [])
-
-length_join : (xs ys : List (Option (List ℕ))) → length xs ≡ length ys → length (join_slots xs ys) ≡ length xs
-unfolding join_slots
-length_join [] ys e = sym e
-length_join (x ∷ xs) [] e = refl
-length_join (x ∷ xs) (y ∷ ys) e = omega (arith, length_join xs ys (omega arith))
 
 -- ---- one number more
 

@@ -24,18 +24,8 @@ use Rattle.kept_sets.specs.Verdicts.{tells_other_count, clashes, is_too_much, ne
 use Rattle.pet_receive.specs.Arrivals.{GroupState, ReceiverState, Order, HoldsAfter, HasKept, kept_set, state_of, numbers_of}
 use Rattle.pet_receive.specs.Receiving.{IsReceiver, IsReadyFor, HasGrown, verdict_at, verdict_in, verdict_new}
 use Rattle.kept_sets.specs.laws.EntryLaws.{lookup_here, lookup_other, lookup_values, insert_values, all_found}
+use Rattle.kept_sets.specs.laws.ToldLaws.{open_tells}
 use Rattle.kept_sets.specs.laws.KeptSetLaws.{IsKeepable, keepable, keep_sound, open_here, header_with, cost_opened, cost_same}
-
--- ---- the number of groups that the first open group tells
-
-first_tells : (set : KeptSet) → IsKeptSet set → (group : ℕ) (p : Packets) → open_group set group ≡ Some p → (es : List (ℕ × Packets)) → set.groups ≡ es → option_map (λ e. e.1.header.groups) (slice_get es 0) ≡ Some p.header.groups
-first_tells set sound group p opened [] is = let no : None ≡ Some p = sym (ap (lookup (is_at (nat_cmp group))) is) ∙ opened in absurd (cc)
-first_tells set sound group p opened (e ∷ es) is =
-    let first : open_group set e.0 ≡ Some e.1 = subst (λ (xs : List (ℕ × Packets)). lookup (is_at (nat_cmp e.0)) xs ≡ Some e.1) (sym is) (all_found (e ∷ es) (subst (λ (xs : List (ℕ × Packets)). IsStrictlySortedBy nat_cmp (keys_of xs)) is sound.rising) 0 e (omega arith)) in
-    ap Some (sound.one_count e.0 group e.1 p first opened)
-
-pub tells : (set : KeptSet) → IsKeptSet set → (group : ℕ) (p : Packets) → open_group set group ≡ Some p → told_by set ≡ Some p.header.groups
-tells set sound group p opened = first_tells set sound group p opened set.groups refl
 
 any_by : {A : Type 0} (test : A → Bool) (x : A) (xs : List A) (b : Bool) → All (λ t. test t ≡ b) (x ∷ xs) → list_any test (x ∷ xs) ≡ b
 any_by test x xs true h = ap (λ a. a || list_any test xs) (All-head (λ t. test t ≡ true) x xs h)
@@ -203,7 +193,7 @@ module _ {E : Type 0} (P : E → Type 0) (count : ℕ) (c : Coding E) (r : Recei
     told_after : Some f.groups ≡ told_by (kept_set after_it)
     told_after =
         let here : open_group (kept_set after_it) f.group ≡ Some (group_with (kept_set r) f) = ap (λ s. open_group s f.group) set_after ∙ open_here (kept_set r) f in
-        sym (tells (kept_set after_it) sound_after f.group (group_with (kept_set r) f) here ∙ ap Some (ap (λ (t : Header). t.groups) (header_with (kept_set r) h.set f frame k)))
+        sym (open_tells (kept_set after_it) sound_after f.group (group_with (kept_set r) f) here ∙ ap Some (ap (λ (t : Header). t.groups) (header_with (kept_set r) h.set f frame k)))
 
     cost_by : (t : Option (GroupState E)) → state_of r f.group ≡ t → cost + cond (is_none t) (cost_of f.packets f.layers) 0 ≡ cost_kept (kept_set after_it)
     cost_by None is = ap (λ n. n + cost_of f.packets f.layers) h.cost_is ∙ sym (ap cost_kept set_after ∙ cost_opened (kept_set r) h.set f frame k (found_in r f.group ∙ ap (option_map (λ (t : GroupState E). t.packets)) is))

@@ -1,6 +1,6 @@
 -- The sums over the open groups of a kept set, and when a set is complete.
 use Rattle.std.specs.Prelude.{is_some, count_by, sum_by, nat_le, option_map, IsSome, IfSome, MatchOption, IsTrue, nat_eq}
-use Rattle.std.proofs.Common.{◌≡◌, ◌↔◌, ℕ, suc, ◌+◌, ◌*◌, ◌^◌, ◌<◌, ◌≤◌, eqb, cond, Bool, true, false, List, [], ◌∷◌, length, All, Option, None, Some, nat_cmp, get_or, map, refl, sym, ap, ◌∙◌, arith, subst, inl, inr}
+use Rattle.std.proofs.Common.{◌≡◌, ◌↔◌, ℕ, ◌+◌, ◌*◌, ◌^◌, ◌<◌, ◌≤◌, eqb, cond, Bool, true, false, List, [], ◌∷◌, length, All, Option, None, Some, nat_cmp, get_or, map, refl, sym, ap, ◌∙◌, arith, subst, inl, inr}
 use Rattle.std.specs.List.{range_with_len, list_any, slice_get}
 use Rattle.std.specs.Ordering.{eq_by_cmp}
 use Rattle.std.specs.Cmp.{nat_eq_equiv}
@@ -27,7 +27,7 @@ use Rattle.pet_receive.specs.ShownBytes.{IsShownIn, IsComplete, shown_in, groups
 use Rattle.pet_receive.specs.Receiving.{is_whole, whole_in}
 use Rattle.kept_sets.specs.laws.EntryLaws.{all_found, rises_insert, sum_insert}
 use Rattle.kept_sets.specs.laws.LayerSetLaws.{range_more}
-use Rattle.pet_receive.proofs.Received.{tells}
+use Rattle.kept_sets.specs.laws.ToldLaws.{first_some, none_open, open_tells}
 
 -- ---- counting
 
@@ -67,13 +67,6 @@ sum_is f es = sum_states f es
 
 -- ---- the frames of an open group
 
-kept_one : {A : Type 0} (xs : List (Option A)) → 0 < count_by is_some xs → (i : ℕ) × (x : A) × (get_or xs i None ≡ Some x)
-kept_one [] l = absurd (omega arith)
-kept_one (Some x ∷ xs) l = (0, x, refl)
-kept_one {A} (None ∷ xs) l =
-    let rest = kept_one xs (omega (arith, sum_by-cons (λ (t : Option A). cond (is_some t) 1 0) None xs)) in
-    (suc rest.0, rest.1, rest.2)
-
 -- what an open group keeps to
 pub record IsLimited (n group : ℕ) (p : Packets) : Type 0 where
   pub below : group < n
@@ -85,9 +78,9 @@ module _ (set : KeptSet) (sound : IsKeptSet set) (n : ℕ) (told : told_by set �
   limited : (group : ℕ) (p : Packets) → open_group set group ≡ Some p → IsLimited n group p
   limited group p opened =
       let g = sound.groups group p opened in
-      let one = kept_one p.slots g.some in
+      let one = first_some p.slots g.some in
       let frame = g.frames one.0 one.1 one.2 in
-      let same : p.header.groups ≡ n = same_Some p.header.groups n (sym (tells set sound group p opened) ∙ told) in
+      let same : p.header.groups ≡ n = same_Some p.header.groups n (sym (open_tells set sound group p opened) ∙ told) in
       record {
         below = omega (arith, frame.group, g.same_group, same);
         few = omega (arith, frame.few_groups, same);
@@ -206,10 +199,6 @@ complete_is set sound n total told is =
       λ yes. c.0 (sym (is ∙ whole_sum set.groups) ∙ exact_unsigned_eq total n yes),
       λ whole. eq-eqb total n (is ∙ whole_sum set.groups ∙ c.1 whole),
     )
-
-none_open : (es : List (ℕ × Packets)) → option_map (λ (e : ℕ × Packets). e.1.header.groups) (slice_get es 0) ≡ None → es ≡ []
-none_open [] e = refl
-none_open (x ∷ es) e = absurd (cc)
 
 pub not_complete : (set : KeptSet) → told_by set ≡ None → IsTrue false ↔ IsComplete set
 not_complete set told = (λ no. absurd (cc), λ c. absurd (omega (arith, c.some, ap length (none_open set.groups told))))

@@ -1,6 +1,6 @@
 -- Laws of two kept sets that can be joined, for callers: what it tells that no frame of the one clashes with the other.
-use Rattle.std.specs.Prelude.{IfSome, is_some, not, count_by, option_map, option_and_then}
-use Rattle.std.proofs.Common.{◌≡◌, ℕ, ◌<◌, ◌==◌, cond, Bool, true, false, ◌||◌, List, [], ◌∷◌, suc, length, All, get_or, Option, None, Some, nat_cmp, refl, sym, ap, ap₂, ◌∙◌, arith, subst, inl, inr}
+use Rattle.std.specs.Prelude.{IfSome, not, option_map, option_and_then}
+use Rattle.std.proofs.Common.{◌≡◌, ℕ, ◌<◌, ◌==◌, cond, Bool, true, false, ◌||◌, List, [], ◌∷◌, length, All, get_or, Option, None, Some, nat_cmp, refl, sym, ap, ap₂, ◌∙◌, arith, subst, inl, inr}
 use Rattle.std.specs.Str.{bytes_eq}
 use Rattle.std.specs.List.{find, flat_map, filter_map, cons_option, range_with_len}
 use Rattle.std.specs.Option.{option_map_or, option_or}
@@ -10,7 +10,6 @@ use Rattle.std.proofs.lemmas.List.{get_or_past}
 use Rattle.std.proofs.lemmas.List.Elements.{All-nil, All-cons, All-head, All-tail}
 use Rattle.std.proofs.lemmas.List.Folds.{find-append, list_any_none}
 use Rattle.std.proofs.lemmas.List.FromFn.{length-range_with_len, get_or-range_with_len}
-use Rattle.std.proofs.lemmas.List.Sums.{sum_by-cons}
 use Rattle.std.proofs.lemmas.Map.Entries.{All-lookup}
 use Rattle.std.proofs.lemmas.Slice.Eq.{bytes_eq-Decides}
 use Rattle.stripe_plan.specs.Same.{same_table}
@@ -19,6 +18,7 @@ use Rattle.packet_frame.specs.Frame.{Fields}
 use Rattle.packet_frame.specs.View.{fields_with}
 use Rattle.packet_set.specs.Packets.{Packets, slot_at, count_in}
 use Rattle.kept_sets.specs.KeptSet.{KeptSet, IsKeptSet, open_group, payload_of, header_of}
+use Rattle.kept_sets.specs.laws.ToldLaws.{first_some}
 use Rattle.kept_sets.specs.Verdicts.{clashes, tells_other_count, tells_other_table, tells_other_payload}
 use Rattle.kept_sets.specs.Union.{frames_in_group, frames_in}
 use Rattle.kept_sets.specs.laws.EntryLaws.{all_found}
@@ -115,16 +115,9 @@ pass_frames test set sound each =
     none_in_all test (λ (e : ℕ × Packets). frames_in_group e.1) set.groups
     (λ k d l. passes_group test (get_or set.groups k d).1 (each (get_or set.groups k d).0 (get_or set.groups k d).1 (all_found set.groups sound.rising k d l)))
 
-kept_slot : {A : Type 0} (xs : List (Option A)) → 0 < count_by is_some xs → (i : ℕ) × (x : A) × (get_or xs i None ≡ Some x)
-kept_slot [] l = absurd (omega arith)
-kept_slot (Some x ∷ xs) l = (0, x, refl)
-kept_slot {A} (None ∷ xs) l =
-    let rest = kept_slot xs (omega (arith, sum_by-cons (λ (t : Option A). cond (is_some t) 1 0) None xs)) in
-    (suc rest.0, rest.1, rest.2)
-
 -- of an open group some frame is kept
 pub some_frame : (p : Packets) → 0 < count_in p → (i : ℕ) × (payload : List ℕ) × (slot_at p i ≡ Some payload)
-some_frame p l = kept_slot p.slots l
+some_frame p l = first_some p.slots l
 
 -- ---- sets that agree
 

@@ -1,12 +1,9 @@
 -- Laws of the frames of a kept set, for callers: group by group and number by number, how many they are, and that they
 -- are frames.
 use Rattle.std.specs.Prelude.{option_map, option_and_then, is_some, count_by, sum_by, Contains}
-use Rattle.std.proofs.Common.{◌≡◌, ℕ, ◌+◌, ◌<◌, zero, suc, cond, List, [], ◌∷◌, ◌++◌, length, get_or, All, Option, None, Some, nat_cmp, refl, sym, ap, ◌∙◌, arith, subst, inl, inr}
+use Rattle.std.proofs.Common.{◌≡◌, ℕ, ◌+◌, ◌<◌, zero, suc, cond, List, [], ◌∷◌, ◌++◌, length, get_or, All, Option, None, Some, refl, sym, ap, ◌∙◌, arith, subst, inl, inr}
 use Rattle.std.specs.Option.{option_map_or}
-use Rattle.std.specs.List.{slice_get, flat_map, filter_map, cons_option, range_with_len}
-use Rattle.std.specs.List.Sorted.{IsStrictlySortedBy}
-use Rattle.std.specs.Map.{lookup, keys_of}
-use Rattle.std.specs.BTreeMap.{is_at}
+use Rattle.std.specs.List.{flat_map, filter_map, cons_option, range_with_len}
 use Rattle.std.proofs.lemmas.Bool.{cases_lt}
 use Rattle.std.proofs.lemmas.List.{append-nil, get_or_past}
 use Rattle.std.proofs.lemmas.List.Concat.{length-flat_map, flat_map-append}
@@ -22,6 +19,7 @@ use Rattle.kept_sets.specs.Union.{frames_in, frames_in_group}
 use Rattle.kept_sets.specs.laws.EntryLaws.{all_found}
 use Rattle.kept_sets.specs.laws.FoundEntries.{frames_found}
 use Rattle.kept_sets.specs.laws.LayerSetLaws.{range_more}
+use Rattle.kept_sets.specs.laws.ToldLaws.{first_some, none_open, open_tells}
 
 -- ---- by group
 
@@ -31,37 +29,18 @@ frames_of set group = option_map_or frames_in_group (open_group set group) []
 
 -- ---- what a kept set tells of its groups
 
-first_one : {A : Type 0} (xs : List (Option A)) → 0 < count_by is_some xs → (i : ℕ) × (x : A) × (get_or xs i None ≡ Some x)
-first_one [] l = absurd (omega arith)
-first_one (Some x ∷ xs) l = (0, x, refl)
-first_one {A} (None ∷ xs) l =
-    let rest = first_one xs (omega (arith, sum_by-cons (λ (t : Option A). cond (is_some t) 1 0) None xs)) in
-    (suc rest.0, rest.1, rest.2)
-
-first_tells : (set : KeptSet) → IsKeptSet set → (group : ℕ) (p : Packets) → open_group set group ≡ Some p → (es : List (ℕ × Packets)) → set.groups ≡ es
-    → option_map (λ e. e.1.header.groups) (slice_get es 0) ≡ Some p.header.groups
-first_tells set sound group p opened [] is = let no : None ≡ Some p = sym (ap (lookup (is_at (nat_cmp group))) is) ∙ opened in absurd (cc)
-first_tells set sound group p opened (e ∷ es) is =
-    let first : open_group set e.0 ≡ Some e.1 =
-    subst (λ (xs : List (ℕ × Packets)). lookup (is_at (nat_cmp e.0)) xs ≡ Some e.1) (sym is) (all_found (e ∷ es) (subst (λ (xs : List (ℕ × Packets)). IsStrictlySortedBy nat_cmp (keys_of xs)) is sound.rising) 0 e (omega arith)) in
-    ap Some (sound.one_count e.0 group e.1 p first opened)
-
 -- a group that is open is one of those that are told
 pub below_told : (set : KeptSet) → IsKeptSet set → (n : ℕ) → told_by set ≡ Some n → (group : ℕ) (p : Packets) → open_group set group ≡ Some p → group < n
 below_told set sound n told group p opened =
     let g = sound.groups group p opened in
-    let one = first_one p.slots g.some in
+    let one = first_some p.slots g.some in
     let frame = g.frames one.0 one.1 one.2 in
-    let same : p.header.groups ≡ n = same_Some p.header.groups n (sym (first_tells set sound group p opened set.groups refl) ∙ told) in
+    let same : p.header.groups ≡ n = same_Some p.header.groups n (sym (open_tells set sound group p opened) ∙ told) in
     omega (arith, frame.group, g.same_group, same)
 
 -- the frames that are kept, looked up group by group
 pub frames_told : (set : KeptSet) → IsKeptSet set → (n : ℕ) → told_by set ≡ Some n → frames_in set ≡ flat_map (frames_of set) (range_with_len 0 n)
 frames_told set sound n told = frames_found set n sound.rising (λ group p opened. below_told set sound n told group p opened)
-
-none_open : (es : List (ℕ × Packets)) → option_map (λ (e : ℕ × Packets). e.1.header.groups) (slice_get es 0) ≡ None → es ≡ []
-none_open [] e = refl
-none_open (x ∷ es) e = absurd (cc)
 
 -- where no number of groups is told there are none
 pub no_frames : (set : KeptSet) → told_by set ≡ None → frames_in set ≡ []
@@ -175,7 +154,7 @@ pub in_frames : (set : KeptSet) → IsKeptSet set → (group number : ℕ) (p : 
     → Contains (frames_in set) (fields_with p.header number payload)
 in_frames set sound group number p payload opened is =
     let f = fields_with p.header number payload in
-    let told = first_tells set sound group p opened set.groups refl in
+    let told = open_tells set sound group p opened in
     let here : Contains (frames_in_group p) f =
     in_kept (frame_at p) f 0 (length p.slots) number (inside_slots p.slots number payload is) (ap (frame_at p) (omega arith) ∙ ap (option_map (fields_with p.header number)) is) in
     let group_is : Contains (frames_of set (0 + group)) f = subst (λ k. Contains (frames_of set k) f) (omega arith) (subst (λ o. Contains (option_map_or frames_in_group o []) f) (sym opened) here) in

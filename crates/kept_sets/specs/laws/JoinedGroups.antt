@@ -1,5 +1,5 @@
 -- Laws of groups that are joined, for callers: what is found in them, that they rise, and what they sum to.
-use Rattle.std.proofs.Common.{◌≡◌, ◌≢◌, ℕ, ◌+◌, ◌<◌, cond, List, [], ◌∷◌, zero, suc, get_or, Option, None, Some, Less, nat_cmp, sum_by, is_eq, refl, sym, ap, ap₂, ◌∙◌, arith, inl, inr}
+use Rattle.std.proofs.Common.{◌≡◌, ◌≢◌, ℕ, ◌+◌, ◌<◌, cond, List, [], ◌∷◌, zero, suc, length, get_or, Option, None, Some, Less, nat_cmp, sum_by, is_eq, refl, sym, ap, ap₂, ◌∙◌, arith, inl, inr}
 use Rattle.std.specs.List.{AllByRecursion}
 use Rattle.std.specs.Option.{option_or}
 use Rattle.std.specs.Cmp.{nat_cmp_total, eq_by_cmp_equiv}
@@ -113,3 +113,10 @@ module _ (f : Packets → ℕ) (more : Option Packets → Packets → ℕ) (law 
       let one : Packets = join_group (found mine e.0) e.1 in
       let after = insert_entry nat_cmp mine e.0 one in
       omega (arith, sum_join after rest (rises_insert mine e.0 one s) (rises_later e rest t), sum_insert f mine e.0 one s, law (found mine e.0) e.1, added_apart mine e.0 one rest (sorted_head nat_cmp e.0 (keys_of rest) t), added_cons mine e rest)
+
+-- as many slots as each of the two has
+pub length_join : (xs ys : List (Option (List ℕ))) → length xs ≡ length ys → length (join_slots xs ys) ≡ length xs
+unfolding join_slots
+length_join [] ys e = sym e
+length_join (x ∷ xs) [] e = refl
+length_join (x ∷ xs) (y ∷ ys) e = omega (arith, length_join xs ys (omega arith))

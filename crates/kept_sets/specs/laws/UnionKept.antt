@@ -10,9 +10,10 @@ use Rattle.packet_frame.specs.View.{fields_with}
 use Rattle.packet_frame.specs.declared.frame.Header.{Header}
 use Rattle.packet_set.specs.Packets.{Packets, slot_at}
 use Rattle.kept_sets.specs.KeptSet.{KeptSet, IsKeptSet, IsKeptGroup, open_group, cost_kept, told_by}
-use Rattle.kept_sets.specs.Union.{join_slots, join_group, join_groups, union}
-use Rattle.kept_sets.specs.laws.JoinedGroups.{slot_join, join_open, rises_join, found_first}
+use Rattle.kept_sets.specs.Union.{join_group, join_groups, union}
+use Rattle.kept_sets.specs.laws.JoinedGroups.{length_join, slot_join, join_open, rises_join, found_first}
 use Rattle.kept_sets.specs.laws.FitLaws.{Agrees}
+use Rattle.kept_sets.specs.laws.ToldLaws.{open_tells}
 use Rattle.kept_sets.specs.laws.UnionSound.{union_open, count_join}
 
 same_parts : (h k : Header) → h.session ≡ k.session → h.groups ≡ k.groups → h.group ≡ k.group → h.table ≡ k.table → h ≡ k
@@ -21,22 +22,6 @@ same_parts h k s n g t =
     ∙ ap (λ x. record { session = k.session; groups = x; group = h.group; table = h.table }) n
     ∙ ap (λ x. record { session = k.session; groups = k.groups; group = x; table = h.table }) g
     ∙ ap (λ x. record { session = k.session; groups = k.groups; group = k.group; table = x }) t
-
-length_join : (xs ys : List (Option (List ℕ))) → length xs ≡ length ys → length (join_slots xs ys) ≡ length xs
-unfolding join_slots
-length_join [] ys e = sym e
-length_join (x ∷ xs) [] e = refl
-length_join (x ∷ xs) (y ∷ ys) e = omega (arith, length_join xs ys (omega arith))
-
--- the number of groups that the first open group tells, which each other tells too
-first_tells : (set : KeptSet) → IsKeptSet set → (group : ℕ) (p : Packets) → open_group set group ≡ Some p → (es : List (ℕ × Packets)) → set.groups ≡ es → option_map (λ e. e.1.header.groups) (slice_get es 0) ≡ Some p.header.groups
-first_tells set sound group p opened [] is = let no : None ≡ Some p = sym (ap (lookup (is_at (nat_cmp group))) is) ∙ opened in absurd (cc)
-first_tells set sound group p opened (e ∷ es) is =
-    let first : open_group set e.0 ≡ Some e.1 = ap (lookup (is_at (nat_cmp e.0))) is ∙ found_first e es in
-    ap Some (sound.one_count e.0 group e.1 p first opened)
-
-pub open_tells : (set : KeptSet) → IsKeptSet set → (group : ℕ) (p : Packets) → open_group set group ≡ Some p → told_by set ≡ Some p.header.groups
-open_tells set sound group p opened = first_tells set sound group p opened set.groups refl
 
 module _ (a b : KeptSet) (kept : IsKeptSet a) (other : IsKeptSet b) (agrees : Agrees a b) where
   -- groups that are open in both have one header
