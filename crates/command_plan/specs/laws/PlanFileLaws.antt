@@ -20,7 +20,7 @@ use Rattle.stripe_plan.proofs.PlanLemmas.{plan_ends_plan}
 use Rattle.plan_cert.specs.Certificates.{IsCertificate, starts_of}
 use Rattle.plan_cert.specs.laws.CertificateLaws.{plan_certificate, plan_sum}
 use Rattle.stream_session.specs.Accepted.{IsAcceptedSession}
-use Rattle.stream_session.specs.laws.FitLaws.{tables_stand}
+use Rattle.stream_session.specs.laws.FitLaws.{IsWithinBounds, tables_stand}
 use Rattle.stream_session.specs.Number.{session_number}
 use Rattle.stream_session.specs.laws.SessionOfLaws.{accepted_lawful}
 use Rattle.stream_session.specs.laws.SessionLaws.{number_short, tables_few, tables_some, AreNamed, layers_named}
@@ -67,20 +67,17 @@ list_least layers needed = record {
   certificate = subst (IsCertificate (needs_of layers)) (sym (ap (starts_by 0) (lengths_again layers) ∙ plan_starts layers needed)) (plan_certificate layers needed);
 }
 
-abbrev Stands : Sizes → Type 0
-Stands table = IsTable table.packets table.layers
-
-each_least : (tables : List Sizes) → All Stands tables → (group : ℕ) → group < length tables → IsLeastAt tables (plan_lists tables) group
+each_least : (tables : List Sizes) → All IsWithinBounds tables → (group : ℕ) → group < length tables → IsLeastAt tables (plan_lists tables) group
 each_least [] stand group lt = absurd (omega (arith, lt))
 each_least (table ∷ tables) stand zero lt =
-    let own : IsTable table.packets table.layers = All-head Stands table tables stand in
+    let own : IsTable table.packets table.layers = All-head IsWithinBounds table tables stand in
     record { table = table; list = list_of table.layers; table_there = refl; list_there = refl; least = list_least table.layers own.needed }
 each_least (table ∷ tables) stand (suc group) lt =
-    let later = each_least tables (All-tail Stands table tables stand) group (omega (arith, lt)) in
+    let later = each_least tables (All-tail IsWithinBounds table tables stand) group (omega (arith, lt)) in
     record { table = later.table; list = later.list; table_there = later.table_there; list_there = later.list_there; least = later.least }
 
 -- so for each group
-lists_least : (tables : List Sizes) → All Stands tables → AreLeast tables (plan_lists tables)
+lists_least : (tables : List Sizes) → All IsWithinBounds tables → AreLeast tables (plan_lists tables)
 lists_least tables stand = record { many = length-map tables (λ table. list_of table.layers); each = each_least tables stand }
 
 -- A plan text as a plan file: it is short enough, and lists a certificate for each group.
@@ -96,7 +93,7 @@ read_again p b accepted =
     let rules : Priorities = priorities_of p in
     let tables : List Sizes = tables_in p b in
     let named : AreNamed rules.layers = layers_named p accepted.priority_read in
-    let stand : All Stands tables = tables_stand rules (pieces_of b) lawful named.few accepted.fits in
+    let stand : All IsWithinBounds tables = tables_stand rules (pieces_of b) lawful named.few accepted.fits in
     let few = tables_few rules (pieces_of b) accepted.fits in
     let packets = (packets-in_range rules lawful).1 in
     let layers : 0 < length rules.layers = omega (arith, layer_of-within rules lawful Head) in
