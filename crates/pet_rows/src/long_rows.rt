@@ -1,6 +1,7 @@
 //! Rows of any length of the field of 65,536 elements, by one factor.
 ghost use Rattle.std.specs.Prelude.{◌≡◌, ℕ, ◌+◌, ◌<◌, ◌≤◌, length, slice_index, bit_xor};
 ghost use Rattle.pet_field.specs.Gf16.{gf16};
+ghost use Rattle.pet_rows.specs.declared.blocks.TheConstants.{MAX_WIDTH};
 
 use crate::blocks::MAX_WIDTH;
 use crate::count::count_steps;
@@ -73,45 +74,45 @@ pub fn butterfly_row<L: Ledger>(
     }
 }
 
-/// Multiplies 32 elements from `at` on, as far as there are elements.
+/// Multiplies `MAX_WIDTH` elements from `at` on, as far as there are elements.
 #[inline(always)]
 fn multiply_at(by: &Products, row: &mut [u16], at: usize)
     requires { at ≤ length row.old }
-    ensures inside { (c : ℕ) → c < 32 → at + c < length row.old → slice_index row.new (at + c)
+    ensures inside { (c : ℕ) → c < MAX_WIDTH → at + c < length row.old → slice_index row.new (at + c)
         ≡ gf16.times by.now.factor (slice_index row.old (at + c)) }
     ensures before { (i : ℕ) → i < at → slice_index row.new i ≡ slice_index row.old i }
-    ensures behind { (i : ℕ) → at + 32 ≤ i → slice_index row.new i ≡ slice_index row.old i }
+    ensures behind { (i : ℕ) → at + MAX_WIDTH ≤ i → slice_index row.new i ≡ slice_index row.old i }
 {
     store(by.times(load(row, at)), row, at);
 }
 
-/// Adds the multiples of 32 elements from `at` on, as far as there are elements.
+/// Adds the multiples of `MAX_WIDTH` elements from `at` on, as far as there are elements.
 #[inline(always)]
 fn add_multiple_at(by: &Products, other: &[u16], into: &mut [u16], at: usize)
     requires same { length into.old ≡ length other.now }
     requires place { at ≤ length other.now }
-    ensures inside { (c : ℕ) → c < 32 → at + c < length other.now → slice_index into.new (at + c)
+    ensures inside { (c : ℕ) → c < MAX_WIDTH → at + c < length other.now → slice_index into.new (at + c)
         ≡ bit_xor (slice_index into.old (at + c)) (gf16.times by.now.factor (slice_index other.now (at + c))) }
     ensures before { (i : ℕ) → i < at → slice_index into.new i ≡ slice_index into.old i }
-    ensures behind { (i : ℕ) → at + 32 ≤ i → slice_index into.new i ≡ slice_index into.old i }
+    ensures behind { (i : ℕ) → at + MAX_WIDTH ≤ i → slice_index into.new i ≡ slice_index into.old i }
 {
     let products = by.times(load(other, at));
     store(load(into, at) ^ products, into, at);
 }
 
-/// The same of 32 elements from `at` on, as far as there are elements, with the sums added to the other row.
+/// The same of `MAX_WIDTH` elements from `at` on, as far as there are elements, with the sums added to the other row.
 #[inline(always)]
 fn butterfly_at(by: &Products, low: &mut [u16], high: &mut [u16], at: usize)
     requires same { length low.old ≡ length high.old }
     requires place { at ≤ length high.old }
-    ensures low { (c : ℕ) → c < 32 → at + c < length high.old → slice_index low.new (at + c)
+    ensures low { (c : ℕ) → c < MAX_WIDTH → at + c < length high.old → slice_index low.new (at + c)
         ≡ bit_xor (slice_index low.old (at + c)) (gf16.times by.now.factor (slice_index high.old (at + c))) }
-    ensures high { (c : ℕ) → c < 32 → at + c < length high.old → slice_index high.new (at + c)
+    ensures high { (c : ℕ) → c < MAX_WIDTH → at + c < length high.old → slice_index high.new (at + c)
         ≡ bit_xor (slice_index high.old (at + c)) (slice_index low.new (at + c)) }
     ensures before_low { (i : ℕ) → i < at → slice_index low.new i ≡ slice_index low.old i }
     ensures before_high { (i : ℕ) → i < at → slice_index high.new i ≡ slice_index high.old i }
-    ensures behind_low { (i : ℕ) → at + 32 ≤ i → slice_index low.new i ≡ slice_index low.old i }
-    ensures behind_high { (i : ℕ) → at + 32 ≤ i → slice_index high.new i ≡ slice_index high.old i }
+    ensures behind_low { (i : ℕ) → at + MAX_WIDTH ≤ i → slice_index low.new i ≡ slice_index low.old i }
+    ensures behind_high { (i : ℕ) → at + MAX_WIDTH ≤ i → slice_index high.new i ≡ slice_index high.old i }
 {
     let from = load(high, at);
     let sum = load(low, at) ^ by.times(from);
