@@ -71,6 +71,7 @@ digit x zero b h g = ap (T x) (zero-mul b) ∙ times-zero (λ a. a < 65536) gf16
 digit x (suc zero) b h g = ap (T x) (one-mul b) ∙ sym (one-mul (T x b))
 digit x (suc (suc d)) b h g = absurd (omega arith)
 
+-- two parts that share no bit
 pub apart : (k hi lo : ℕ) → lo < 2 ^ k → bit_xor lo (hi * 2 ^ k) ≡ hi * 2 ^ k + lo
 apart k hi lo h = xor_comm lo (hi * 2 ^ k) ∙ xor_shifted hi k lo h
 

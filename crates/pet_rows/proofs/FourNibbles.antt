@@ -2,27 +2,17 @@
 use lib.Lanes.{zip2, Each1}
 use Rattle.pet_rows.proofs.LaneMaps.{map_each, map_all}
 use Rattle.std.proofs.lemmas.Simd.{zip2_of_maps, Each1-weaker}
-use Rattle.std.proofs.Common.{map, ◌≡◌, ℕ, ◌+◌, ◌*◌, ◌/◌, ◌%◌, ◌<◌, ◌^◌, List, [], get_or, bit_xor, sym, ap, ap₂, ◌∙◌, arith}
-use Rattle.std.proofs.lemmas.Nat.{xor_mod, xor_shr, xor_lt, xor_comm}
-use lib.Bits.{xor_shifted}
+use Rattle.std.proofs.Common.{map, ◌≡◌, ℕ, ◌*◌, ◌/◌, ◌%◌, ◌<◌, ◌^◌, List, [], get_or, bit_xor, sym, ap, ap₂, ◌∙◌, arith}
+use Rattle.std.proofs.lemmas.Nat.{xor_mod, xor_shr, xor_lt}
 use Rattle.pet_field.specs.BinaryField.{times}
 use Rattle.pet_field.specs.laws.Gf16Laws.{gf16_modulus}
-use Rattle.pet_field.specs.laws.ResidueLaws.{times_xor, times_below}
+use Rattle.pet_field.specs.laws.ResidueLaws.{times_below}
 use Rattle.pet_rows.specs.Lanes.{at_nibbles}
 use Rattle.pet_rows.specs.Nibbles.{AreProducts}
-
-abbrev T : ℕ → ℕ → ℕ
-T x a = times 16 0x1100B x a
-
-linear : (x a b : ℕ) → x < 65536 → a < 65536 → b < 65536 → T x (bit_xor a b) ≡ bit_xor (T x a) (T x b)
-linear x a b h g k = times_xor 16 0x1100B gf16_modulus.some gf16_modulus.degree x a b h g k
+use Rattle.pet_rows.proofs.Doubling.{T, linear, apart}
 
 pub below : (x a : ℕ) → x < 65536 → a < 65536 → T x a < 65536
 below x a h g = times_below 16 0x1100B gf16_modulus.some gf16_modulus.degree x a h g
-
--- two parts that share no bit
-apart : (k hi lo : ℕ) → lo < 2 ^ k → bit_xor lo (hi * 2 ^ k) ≡ hi * 2 ^ k + lo
-apart k hi lo h = xor_comm lo (hi * 2 ^ k) ∙ xor_shifted hi k lo h
 
 four : (a : ℕ) → a < 65536 → bit_xor (bit_xor (bit_xor (a % 256 % 16 * 1) (a % 256 / 16 * 16)) (a / 256 % 16 * 256)) (a / 256 / 16 * 4096) ≡ a
 four a h =
