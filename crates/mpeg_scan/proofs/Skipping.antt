@@ -1,8 +1,6 @@
 -- A run of bytes that end nothing is read at once, as if byte by byte.
-use Rattle.std.proofs.Common.{◌≡◌, ◌≢◌, ℕ, suc, ◌+◌, ◌-◌, ◌<◌, ◌≤◌, Bool, true, false, List, [], ◌∷◌, ◌++◌, length, take, drop, get_or, refl, sym, ◌∙◌, ap, subst, arith, inl, inr, append_assoc, length-append}
-use Rattle.std.specs.Bool.{MatchBool}
+use Rattle.std.proofs.Common.{◌≡◌, ◌≢◌, ℕ, suc, ◌+◌, ◌-◌, ◌<◌, ◌≤◌, List, [], ◌∷◌, ◌++◌, length, take, drop, get_or, refl, sym, ◌∙◌, ap, subst, arith, inl, inr, append_assoc, length-append}
 use Rattle.std.proofs.lemmas.List.{append-nil, get_or-append-add, get_or-take, length-take-le}
-use Rattle.std.proofs.lemmas.Bool.{both_ways}
 use Rattle.mpeg_scan.specs.declared.piece.Piece.{Piece}
 use Rattle.mpeg_scan.specs.declared.scanner.Scanner.{Scanner}
 use Rattle.mpeg_scan.specs.declared.refusal.Scan.TheVariants.{TooLong}
@@ -13,7 +11,7 @@ use Rattle.mpeg_scan.specs.Pieces.{pieces_of, pieces_from}
 use Rattle.mpeg_scan.proofs.LastBytes.{at_back}
 use Rattle.mpeg_scan.proofs.Deciding.{decides_too_long}
 use Rattle.mpeg_scan.proofs.Reading.{CodeFields, TypeFields, none_in_piece_by, in_piece}
-use Rattle.mpeg_scan.proofs.Stepping.{plain}
+use Rattle.mpeg_scan.proofs.Stepping.{plain, at_true}
 use Rattle.mpeg_scan.proofs.Feeding.{cut_here, cut_at}
 use Rattle.mpeg_scan.proofs.Stopping.{stopped_by, stopped_more}
 
@@ -91,10 +89,6 @@ back_of_run s run j one le =
     sym (get_or-append-add s run (length run - j) 0)
     ∙ (ap (λ l. get_or l (length s + (length run - j)) 0) (sym (append-nil (s ++ run)))
     ∙ at_back (s ++ run) [] (length s + (length run - j)) j (omega (arith, length-append s run)) one)
-
-at_true : (o : Bool) (P Q : Type 0) → o ≡ true → P → MatchBool o P Q
-at_true true P Q e p = p
-at_true false P Q e p = absurd (both_ways false refl e)
 
 pub skips : (c d : Scanner) (run : List ℕ) → IsQuiet c run → 5 ≤ length run → c.at + length run ≤ max_stream → Skips c d run → (s : List ℕ) (p : List Piece) → HasRead c s p → HasRead d (s ++ run) p
 skips c d run quiet five fits skip s p r =

@@ -31,7 +31,7 @@ goes : (c m d : Scanner) (x : ℕ) (s : List ℕ) (old given : List Piece) → D
 goes c m d x s old given decides k a r place =
     read_more c m d s x old given r (decides s old r) a k.at k.refused k.back1 k.back2 k.back3 k.back4 place
 
-at_true : (o : Bool) (P Q : Type 0) → o ≡ true → P → MatchBool o P Q
+pub at_true : (o : Bool) (P Q : Type 0) → o ≡ true → P → MatchBool o P Q
 at_true true P Q e p = p
 at_true false P Q e p = absurd (both_ways false refl e)
 
