@@ -16,7 +16,7 @@ use Rattle.std.proofs.lemmas.Nat.{div-add-mod'}
 use Rattle.pet_interp.specs.Progressive.{longer_than}
 use Rattle.pet_interp.specs.Blocks.{HeldBlock, stripes_of}
 use Rattle.pet_interp.specs.Lifted.{begun, begun_all, grown}
-use Rattle.pet_interp.proofs.Columns.{more_rows, rows_le, place_below}
+use Rattle.pet_rows.specs.laws.PlaceLaws.{more_rows, rows_le, place_below}
 
 -- ---- lists of stripes
 

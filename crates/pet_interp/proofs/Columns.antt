@@ -1,9 +1,8 @@
 -- The columns of a block's rows, when rows are written.
-use Rattle.std.proofs.Common.{◌≡◌, ℕ, zero, suc, ◌+◌, ◌-◌, ◌*◌, ◌<◌, ◌≤◌, inl, inr, List, [], ◌∷◌, ◌++◌, All, length, get_or, set, take, drop, refl, sym, ap, ap₂, ◌∙◌, arith, append_assoc}
+use Rattle.std.proofs.Common.{◌≡◌, ℕ, zero, suc, ◌+◌, ◌-◌, ◌*◌, ◌<◌, ◌≤◌, inl, inr, List, [], ◌∷◌, ◌++◌, All, length, get_or, take, drop, refl, sym, ap, ap₂, ◌∙◌, arith, append_assoc}
 use Rattle.std.specs.Prelude.{nat_lt}
 use Rattle.std.proofs.lemmas.Bool.{cases_lt, lt-ltb, cond-true}
-use Rattle.std.proofs.lemmas.List.{get_or_append_left, get_or-set_same, get_or-set_other, get_or-append_right, length-take-le, length-drop, length-append, drop-append-le, take-append-drop, take_at, drop_at, drop_all, append-nil, ext_get_or}
-use Rattle.std.proofs.lemmas.Nat.{mul-le}
+use Rattle.std.proofs.lemmas.List.{get_or_append_left, get_or-append_right, length-take-le, length-drop, length-append, drop-append-le, take-append-drop, take_at, drop_at, drop_all, append-nil, ext_get_or}
 use borrow.Rule.Slice.PartMut.{put_mid}
 use Rattle.pet_field.specs.Field.{Operations, IsField}
 use Rattle.pet_poly.specs.Value.{value}
@@ -11,16 +10,8 @@ use Rattle.pet_poly.specs.InPlace.{scaled_sum}
 use Rattle.pet_poly.specs.laws.InPlaceLaws as I
 use Rattle.pet_rows.specs.Columns.{column}
 use Rattle.pet_rows.specs.laws.ColumnLaws.{length-column, column_at}
+use Rattle.pet_rows.specs.laws.PlaceLaws.{more_rows, rows_le}
 use Rattle.pet_interp.specs.Lifted.{begun, grown}
-
-pub place_below : (i j w c : ℕ) → i < j → c < w → i * w + c < j * w
-place_below i j w c l m = omega (arith, mul-le (suc i) w j w l (omega arith))
-
-pub more_rows : (j w : ℕ) → (j + 1) * w ≡ j * w + w
-more_rows j w = omega arith
-
-pub rows_le : (j k w : ℕ) → j ≤ k → j * w ≤ k * w
-rows_le j k w l = mul-le j w k w l (omega arith)
 
 pub parts : (a b w : ℕ) → (a + b) * w ≡ a * w + b * w
 parts a b w = omega arith
@@ -185,14 +176,3 @@ pub put_end : {E : Type 0} (a k : ℕ) (xs ys : List E) → k ≡ length xs - a 
 put_end a k xs ys e =
     let none : drop k (drop a xs) ≡ [] = drop_all k (drop a xs) (omega (arith, e, length-drop a xs)) in
     ap (λ t. take a xs ++ (ys ++ t)) none ∙ ap (λ t. take a xs ++ t) (append-nil ys)
-
--- a list that is filled from the front
-pub filled : {E : Type 0} (F : ℕ → E) (d : E) (xs : List E) (n : ℕ) (v : E) → n < length xs → ((k : ℕ) → k < n → get_or xs k d ≡ F k) → v ≡ F n
-    → (k : ℕ) → k < n + 1 → get_or (set xs n v) k d ≡ F k
-filled F d xs n v l h e k g =
-    elim (cases_lt k n) [
-      | inl m ↦ get_or-set_other xs n k v d (λ q. absurd (omega arith)) ∙ h k m
-      | inr m ↦
-          let q : k ≡ n = omega arith in
-          ap (λ i. get_or (set xs n v) i d) q ∙ get_or-set_same xs n v d l ∙ e ∙ ap F (sym q)
-    ]

@@ -16,7 +16,8 @@ use Rattle.pet_interp.specs.Progressive.{longer_than}
 use Rattle.pet_interp.specs.Blocks.{HeldBlock, IsBlock, stripes_in, no_block}
 use Rattle.pet_interp.specs.Lifted.{factor, lifted, lifted_all, begun, begun_all, grown, grown_to}
 use Rattle.pet_interp.proofs.BlockStripes.{longer_append}
-use Rattle.pet_interp.proofs.Columns.{rows_le, parts, scaled_high, scaled_front}
+use Rattle.pet_rows.specs.laws.PlaceLaws.{rows_le}
+use Rattle.pet_interp.proofs.Columns.{parts, scaled_high, scaled_front}
 use Rattle.pet_interp.proofs.Lifted.{cost_more, lifted_yes, lifted_no}
 
 kept : {E : Type 0} (P : E → Type 0) (met room : ℕ) (old new : HeldBlock E) → IsBlock P met room old → new.size ≡ old.size → new.waits ≡ old.waits

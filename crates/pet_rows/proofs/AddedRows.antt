@@ -5,7 +5,7 @@ use Rattle.std.proofs.lemmas.Bool.{cases_lt}
 use Rattle.std.proofs.lemmas.List.{get_or-take, get_or-drop, length-take-le, length-drop}
 use Rattle.pet_field.specs.Field.{Operations}
 use Rattle.pet_poly.specs.InPlace.{scaled_sum}
-use Rattle.pet_rows.proofs.RowPlaces.{place_below, more_rows}
+use Rattle.pet_rows.specs.laws.PlaceLaws.{place_below, more_rows}
 use Rattle.pet_rows.proofs.Parts.{part_before, part_inside, part_behind, scaled_entry}
 
 -- row j, from `at` on, of rows that were `old` at first; `factor` is that of each row

@@ -1,8 +1,7 @@
 -- The plain loop over the rows of a column.
-use Rattle.std.proofs.Common.{◌≡◌, ℕ, suc, ◌+◌, ◌-◌, ◌*◌, ◌<◌, ◌≤◌, inl, inr, List, ◌∷◌, All, length, get_or, set, drop, sym, ap, ap₂, ◌∙◌, arith}
+use Rattle.std.proofs.Common.{◌≡◌, ℕ, suc, ◌+◌, ◌-◌, ◌*◌, ◌<◌, ◌≤◌, List, ◌∷◌, All, length, get_or, drop, sym, ap, ap₂, ◌∙◌, arith}
 use Rattle.std.proofs.Math.Seq.{drop-cons}
-use Rattle.std.proofs.lemmas.Bool.{cases_lt}
-use Rattle.std.proofs.lemmas.List.{drop_all, get_or_default, get_or-set_same, get_or-set_other}
+use Rattle.std.proofs.lemmas.List.{drop_all, get_or_default}
 use Rattle.std.proofs.lemmas.List.Elements.{recursion_from_All, All-drop}
 use Rattle.pet_field.specs.Field.{Operations, IsField}
 use Rattle.pet_poly.specs.Value.{value}
@@ -38,17 +37,7 @@ module _ {E : Type 0} (P : E → Type 0) (o : Operations E) (f : IsField P o) (r
   pub done : (j : ℕ) (v : E) → j ≡ 0 → v ≡ horner_from o o.nought (drop j (column o.nought w k c rows)) x → v ≡ value o (column o.nought w k c rows) x
   done j v e is = is ∙ ap (λ i. horner_from o o.nought (drop i (column o.nought w k c rows)) x) e ∙ value_by_horner P o f (column o.nought w k c rows) x elements hx
 
--- ---- a list that is filled from the front
-
-pub filled : {E : Type 0} (F : ℕ → E) (d : E) (xs : List E) (n : ℕ) (v : E) → n < length xs → ((k : ℕ) → k < n → get_or xs k d ≡ F k) → v ≡ F n
-    → (k : ℕ) → k < n + 1 → get_or (set xs n v) k d ≡ F k
-filled F d xs n v l h e k g =
-    elim (cases_lt k n) [
-      | inl m ↦ get_or-set_other xs n k v d (λ q. absurd (omega arith)) ∙ h k m
-      | inr m ↦
-          let q : k ≡ n = omega arith in
-          ap (λ i. get_or (set xs n v) i d) q ∙ get_or-set_same xs n v d l ∙ e ∙ ap F (sym q)
-    ]
+-- ---- the elements of a list
 
 pub all_from : {E : Type 0} (P : E → Type 0) (d : E) (xs : List E) → ((c : ℕ) → c < length xs → P (get_or xs c d)) → All P xs
 all_from P d xs h i e l = rw (get_or_default xs i e d l) (h i l)

@@ -12,7 +12,7 @@ use Rattle.pet_rows.specs.laws.ColumnLaws.{block_columns_take, columns_are_strip
 use Rattle.pet_rows.specs.laws.BlockLaws.{stripes_cons}
 use Rattle.pet_rows.specs.Blocks.{size_of, stripes_of, columns_of}
 use Rattle.pet_rows.specs.Stripes.{cut}
-use Rattle.pet_rows.proofs.RowPlaces.{place_below}
+use Rattle.pet_rows.specs.laws.PlaceLaws.{place_below}
 use Rattle.pet_rows.proofs.FirstBlocks.{b0, room_size, more_columns}
 
 -- ---- one element of a column

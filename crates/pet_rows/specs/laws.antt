@@ -1,3 +1,4 @@
 pub mod ColumnLaws
 pub mod StripeLaws
 pub mod BlockLaws
+pub mod PlaceLaws

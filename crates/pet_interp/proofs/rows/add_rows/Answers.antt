@@ -2,7 +2,8 @@ use Rattle.std.proofs.Common.{◌≡◌, ◌+◌, ◌-◌, ◌*◌, ◌<◌, ◌
 use Rattle.std.proofs.lemmas.List.{length-map, length-take-le, length-drop, get_or-take, take_all}
 use Rattle.std.proofs.lemmas.List.Elements.{All-append, All-take, All-drop, All-same}
 use Rattle.pet_rows.specs.Columns.{column}
-use Rattle.pet_interp.proofs.Columns.{rows_le, more_rows, parts, put_end, back, grown_column}
+use Rattle.pet_rows.specs.laws.PlaceLaws.{rows_le, more_rows}
+use Rattle.pet_interp.proofs.Columns.{parts, put_end, back, grown_column}
 use native.Mathlib.Nat.{mul_comm}
 use Rattle.pet_interp.proofs.rows.add_rows.Goals as goal
 

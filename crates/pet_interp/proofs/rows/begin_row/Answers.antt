@@ -4,7 +4,8 @@ use Rattle.std.proofs.lemmas.List.Elements.{All-append, All-drop, All-take, All-
 use Rattle.pet_poly.specs.Rows.{words}
 use Rattle.pet_poly.specs.Value.{value}
 use Rattle.pet_rows.specs.Columns.{column}
-use Rattle.pet_interp.proofs.Columns.{rows_le, more_rows, begun_column}
+use Rattle.pet_rows.specs.laws.PlaceLaws.{rows_le, more_rows}
+use Rattle.pet_interp.proofs.Columns.{begun_column}
 use Rattle.pet_interp.proofs.rows.begin_row.Goals as goal
 
 pub returns-clause-columns : goal.returns-clause-columns

@@ -3,7 +3,7 @@ use Rattle.std.proofs.lemmas.List.{length-set, get_or-set_other, get_or_default}
 use Rattle.std.proofs.lemmas.List.Elements.{All-set}
 use Rattle.pet_poly.specs.Rows.{words}
 use Rattle.pet_poly.specs.laws.RowLaws.{word_at}
-use Rattle.pet_interp.proofs.Columns.{more_rows, filled}
+use Rattle.pet_rows.specs.laws.PlaceLaws.{more_rows, filled}
 use Rattle.pet_interp.proofs.rows.subtract.Goals as goal
 
 pub loop-c-preserved : goal.loop-c-preserved

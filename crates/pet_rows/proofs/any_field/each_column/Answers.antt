@@ -3,8 +3,9 @@ use native.Mathlib.Nat.{mul_comm}
 use Rattle.std.proofs.lemmas.List.{length-set}
 use Rattle.pet_poly.specs.Value.{value}
 use Rattle.pet_rows.specs.Columns.{column}
-use Rattle.pet_rows.proofs.RowPlaces.{more_rows}
-use Rattle.pet_rows.proofs.AnyField.{filled, all_from}
+use Rattle.pet_rows.specs.laws.PlaceLaws.{more_rows}
+use Rattle.pet_rows.specs.laws.PlaceLaws.{filled}
+use Rattle.pet_rows.proofs.AnyField.{all_from}
 use Rattle.pet_poly.specs.laws.HornerLaws.{value_is}
 use Rattle.pet_rows.specs.laws.ColumnLaws.{column_elements}
 use Rattle.pet_rows.proofs.any_field.each_column.Goals as goal

@@ -5,7 +5,7 @@ use Rattle.pet_rows.specs.declared.products.Products.{Products}
 use Rattle.pet_rows.specs.Factors.{factors_of}
 use Rattle.pet_rows.proofs.AddedRows.{sums_more, rest_more}
 use Rattle.pet_rows.proofs.Parts.{part_length}
-use Rattle.pet_rows.proofs.RowPlaces.{more_rows, rows_le}
+use Rattle.pet_rows.specs.laws.PlaceLaws.{more_rows, rows_le}
 use Rattle.pet_rows.proofs.gf16_tables.add_each.Goals as goal
 
 pub loop-j-preserved : goal.loop-j-preserved

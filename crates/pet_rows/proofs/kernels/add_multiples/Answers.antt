@@ -8,7 +8,7 @@ use Rattle.pet_field.specs.Gf16.{gf16}
 use Rattle.pet_field.specs.laws.Gf16Laws.{gf16_field}
 use Rattle.pet_field.specs.laws.FieldLaws.{times-zero}
 use Rattle.std.proofs.lemmas.Simd.{Each1-from_get_or}
-use Rattle.pet_rows.proofs.RowPlaces.{place_below, more_rows, rows_le}
+use Rattle.pet_rows.specs.laws.PlaceLaws.{place_below, more_rows, rows_le}
 use Rattle.pet_rows.proofs.kernels.add_multiples.Goals as goal
 
 pub add_times-requires : goal.add_times-requires

@@ -1,7 +1,7 @@
 use Rattle.std.proofs.Common.{◌≡◌, ◌+◌, ◌*◌, ◌<◌, length, ◌∙◌, arith, rules}
 use Rattle.std.proofs.lemmas.List.{length-set}
 use Rattle.pet_rows.proofs.LayingOut.{written_more, others_same}
-use Rattle.pet_rows.proofs.RowPlaces.{place_below}
+use Rattle.pet_rows.specs.laws.PlaceLaws.{place_below}
 use Rattle.pet_rows.proofs.laid.scatter.Goals as goal
 
 pub offset_bounds-into-j : goal.offset_bounds-into-j

@@ -2,7 +2,7 @@ use Rattle.std.proofs.Common.{◌≡◌, ◌+◌, ◌-◌, ◌*◌, ◌≤◌, i
 use native.Mathlib.Nat.{mul_comm}
 use Rattle.std.proofs.lemmas.Bool.{cases_lt}
 use Rattle.std.proofs.lemmas.List.{get_or-take, get_or-drop, length-take-le, length-drop}
-use Rattle.pet_rows.proofs.RowPlaces.{more_rows, rows_le}
+use Rattle.pet_rows.specs.laws.PlaceLaws.{more_rows, rows_le}
 use Rattle.pet_rows.proofs.laid.transpose.Goals as goal
 
 pub loop-c-preserved : goal.loop-c-preserved

@@ -1,7 +1,7 @@
 use Rattle.std.proofs.Common.{◌≡◌, ℕ, ◌+◌, ◌-◌, ◌*◌, ◌≤◌, length, map, get_or, drop, ap, sym, ◌∙◌, arith}
 use Rattle.std.proofs.lemmas.List.{get_or-map, length-map, length-take-le, length-drop}
 use Rattle.pet_rows.proofs.AddedRows.{sums_more, rest_more}
-use Rattle.pet_rows.proofs.RowPlaces.{more_rows, rows_le}
+use Rattle.pet_rows.specs.laws.PlaceLaws.{more_rows, rows_le}
 use Rattle.pet_rows.proofs.Parts.{part_length, part_elements}
 use Rattle.std.proofs.lemmas.List.Elements.{All-take, All-drop}
 use Rattle.pet_rows.proofs.rows.Rows.add_products.Goals as goal

@@ -1,6 +1,7 @@
 use Rattle.std.proofs.Common.{◌≡◌, ◌<◌, length, get_or, ap, ◌∙◌, arith}
 use Rattle.std.proofs.lemmas.List.{length-set, get_or-set_other, get_or_default}
-use Rattle.pet_rows.proofs.AnyField.{filled, all_from}
+use Rattle.pet_rows.specs.laws.PlaceLaws.{filled}
+use Rattle.pet_rows.proofs.AnyField.{all_from}
 use Rattle.pet_rows.proofs.rows.Rows.scale.Goals as goal
 
 pub loop-c-preserved : goal.loop-c-preserved
