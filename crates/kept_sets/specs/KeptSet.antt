@@ -9,7 +9,7 @@ use Rattle.packet_frame.specs.Frame.{Fields, IsFrame}
 use Rattle.packet_frame.specs.View.{fields_with}
 use Rattle.packet_frame.specs.declared.frame.Header.{Header}
 use Rattle.packet_set.specs.Packets.{Packets, slot_at, with_packet, no_packets, count_in}
-use Rattle.pet_encode.specs.Session.{cost_of}
+use Rattle.stripe_plan.specs.Sizes.{cost_of}
 
 pub record KeptSet : Type 0 where
   -- the session number whose frames are kept

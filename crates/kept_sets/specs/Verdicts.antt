@@ -8,7 +8,7 @@ use Rattle.stripe_plan.specs.Layers.{count_of}
 use Rattle.stripe_plan.specs.Same.{same_table}
 use Rattle.packet_frame.specs.Frame.{Fields}
 use Rattle.packet_frame.specs.Refusals.{fields_of, first_fault}
-use Rattle.pet_encode.specs.Session.{cost_of}
+use Rattle.stripe_plan.specs.Sizes.{cost_of}
 use Rattle.kept_sets.specs.declared.verdict.Verdict.{Verdict}
 use Rattle.kept_sets.specs.declared.verdict.Verdict.TheVariants.{Damaged, Foreign, Clash, Repeated, Full, Kept}
 use Rattle.kept_sets.specs.declared.verdict.LayerSet.{LayerSet}

@@ -1,6 +1,6 @@
 //! The cost of a group.
 ghost use Rattle.std.specs.Prelude.{◌≡◌, ◌*◌, ◌<◌, ◌≤◌};
-ghost use Rattle.pet_encode.specs.Session.{cost_of};
+ghost use Rattle.stripe_plan.specs.Sizes.{cost_of};
 
 use pet_base::{MAX_DATAGRAM, MAX_PACKETS};
 use stripe_plan::{Table, datagram_length};

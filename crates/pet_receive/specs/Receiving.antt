@@ -9,7 +9,7 @@ use Rattle.pet_field.specs.Field.{Coding}
 use Rattle.stripe_plan.specs.Same.{same_table}
 use Rattle.packet_frame.specs.Frame.{Fields}
 use Rattle.packet_set.specs.Packets.{Packets, slot_at, with_packet, count_in, no_packets}
-use Rattle.pet_encode.specs.Session.{cost_of}
+use Rattle.stripe_plan.specs.Sizes.{cost_of}
 use Rattle.kept_sets.specs.declared.verdict.Verdict.{Verdict}
 use Rattle.kept_sets.specs.declared.verdict.Verdict.TheVariants.{Clash, Repeated, Full, Kept}
 use Rattle.kept_sets.specs.KeptSet.{IsKeptSet, cost_kept, told_by, header_of}

@@ -2,13 +2,12 @@
 use Rattle.std.specs.Prelude.{◌≡◌, ◌≢◌, ◌≤◌, ◌⊎◌, ◌+◌, nat_lt, if◌then◌else◌, ℕ, List, [], ◌∷◌, ◌++◌, length, map, Option, Some, None, position, is_some, true}
 use Rattle.pet_base.specs.declared.limits.TheConstants.{MAX_LAYERS}
 use Rattle.mpeg_scan.specs.declared.piece.Piece.{Piece}
-use Rattle.stripe_plan.specs.Sizes.{Sizes}
+use Rattle.stripe_plan.specs.Sizes.{Sizes, cost_of}
 use Rattle.priority_file.specs.Priority.{Priorities, is_priority}
 use Rattle.layer_split.specs.declared.fault.SplitFault.{SplitFault}
 use Rattle.layer_split.specs.declared.fault.SplitFault.TheVariants.{NoMemory}
 use Rattle.layer_split.specs.Layers.{Cut}
 use Rattle.layer_split.specs.Splitting.{HasAdded}
-use Rattle.pet_encode.specs.Session.{cost_of}
 use Rattle.stream_session.specs.declared.fault.SessionFault.{SessionFault}
 use Rattle.stream_session.specs.declared.group_tables.GroupTables.{GroupTables}
 use Rattle.stream_session.specs.declared.needs.LayerNeeds.{LayerNeeds}

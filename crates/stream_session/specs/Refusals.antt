@@ -2,7 +2,7 @@
 use Rattle.std.specs.Prelude.{ℕ, ◌+◌, nat_lt, Bool, if◌then◌else◌, List, [], ◌∷◌, length, map, Option, None, Some, option_map, position}
 use Rattle.pet_base.specs.declared.limits.TheConstants.{MAX_DATAGRAM, MAX_SESSION}
 use Rattle.mpeg_scan.specs.declared.piece.Piece.{Piece}
-use Rattle.stripe_plan.specs.Sizes.{datagram_length_of}
+use Rattle.stripe_plan.specs.Sizes.{datagram_length_of, cost_of}
 use Rattle.priority_file.specs.Priority.{Priorities, layer_of}
 use Rattle.layer_split.specs.declared.fault.SplitFault.{SplitFault}
 use Rattle.layer_split.specs.declared.fault.SplitFault.TheVariants as split
@@ -10,7 +10,6 @@ use Rattle.layer_split.specs.Groups.{groups_of}
 use Rattle.layer_split.specs.Layers.{Cut}
 use Rattle.layer_split.specs.Faults.{fault_of}
 use Rattle.layer_split.specs.Splitting.{cuts_of}
-use Rattle.pet_encode.specs.Session.{cost_of}
 use Rattle.stream_session.specs.declared.fault.SessionFault.{SessionFault}
 use Rattle.stream_session.specs.declared.fault.SessionFault.TheVariants.{GroupTooLong, TooManyGroups, TooWide, TooLarge, NoMemory}
 use Rattle.stream_session.specs.Tables.{sizes_of}

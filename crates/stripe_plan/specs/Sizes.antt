@@ -23,6 +23,10 @@ length_over bare layers = bare + LAYER_LENGTH * length layers + 2 * length (plan
 abbrev pub datagram_length_of : List LayerSize → ℕ
 datagram_length_of layers = length_over BOUNDS.bare layers
 
+-- the cost of a group: the bytes of its packets all together
+abbrev pub cost_of : ℕ → List LayerSize → ℕ
+cost_of packets layers = packets * datagram_length_of layers
+
 -- what bounds the tables of a format is small enough to be reckoned with
 pub record AreBounds (b : Bounds) : Type 0 where
   pub layers : b.layers ≤ MAX_LAYERS

@@ -21,7 +21,7 @@ use Rattle.packet_frame.specs.declared.fault.FrameFault.{FrameFault}
 use Rattle.packet_frame.specs.View.{fields_with}
 use Rattle.packet_frame.specs.declared.frame.Header.{Header}
 use Rattle.packet_set.specs.Packets.{Packets, slot_at, with_packet, count_in, no_packets}
-use Rattle.pet_encode.specs.Session.{cost_of}
+use Rattle.stripe_plan.specs.Sizes.{cost_of}
 use Rattle.kept_sets.specs.declared.verdict.Verdict.{Verdict}
 use Rattle.kept_sets.specs.declared.verdict.Verdict.TheVariants.{Damaged, Foreign, Clash, Repeated, Full, Kept}
 use Rattle.kept_sets.specs.declared.verdict.LayerSet.{LayerSet}

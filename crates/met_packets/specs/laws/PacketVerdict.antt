@@ -14,10 +14,10 @@ use Rattle.std.proofs.lemmas.Option.{same_Some}
 use Rattle.packet_frame.specs.Frame.{Fields}
 use Rattle.packet_frame.specs.declared.frame.Header.{Header}
 use Rattle.packet_set.specs.Packets.{Packets, slot_at, no_packets}
-use Rattle.stripe_plan.specs.Sizes.{Sizes}
+use Rattle.stripe_plan.specs.Sizes.{Sizes, cost_of}
 use Rattle.stripe_plan.specs.Same.{same_table}
 use Rattle.stripe_plan.specs.laws.SameLaws.{same_table_laws}
-use Rattle.pet_encode.specs.Session.{Session, SessionGroup, Fits, cost_of}
+use Rattle.pet_encode.specs.Session.{Session, SessionGroup, Fits}
 use Rattle.kept_sets.specs.declared.verdict.Verdict.TheVariants.{Foreign, Clash, Repeated, Full, Kept}
 use Rattle.kept_sets.specs.KeptSet.{KeptSet, open_group, payload_of, header_of, group_with, keep, cost_in, cost_kept}
 use Rattle.kept_sets.specs.Verdicts.{tells_other_count, tells_other_table, tells_other_payload, clashes, is_too_much, newly_shown, layer_set, frame_verdict}

@@ -17,7 +17,7 @@ use Rattle.packet_frame.specs.Frame.{Fields}
 use Rattle.packet_frame.specs.View.{fields_with}
 use Rattle.packet_frame.specs.declared.frame.Header.{Header}
 use Rattle.packet_set.specs.Packets.{Packets, slot_at, with_packet, no_packets}
-use Rattle.pet_encode.specs.Session.{cost_of}
+use Rattle.stripe_plan.specs.Sizes.{cost_of}
 use Rattle.kept_sets.specs.KeptSet.{KeptSet, open_group, payload_of, cost_in, cost_kept, keep}
 use Rattle.kept_sets.specs.Verdicts.{tells_other_count, tells_other_table, tells_other_payload, is_too_much, newly_shown, layer_set, frame_verdict}
 use Rattle.kept_sets.specs.declared.verdict.Verdict.TheVariants as verdict

@@ -20,7 +20,7 @@ use Rattle.mpeg_scan.specs.laws.OpenerLaws.{opener_within}
 use Rattle.mpeg_scan.specs.Pieces.{openers, pieces_of, pieces_from, pieces_at}
 use Rattle.mpeg_scan.specs.Refusals.{IsAccepted, zeros, has_head}
 use Rattle.mpeg_scan.specs.StartCodes.{is_start_code, is_opener, is_head_code, is_system_code, is_opener_code, code_at}
-use Rattle.stripe_plan.specs.Sizes.{Sizes}
+use Rattle.stripe_plan.specs.Sizes.{Sizes, cost_of}
 use Rattle.priority_file.proofs.Accepted.{accepted}
 use Rattle.priority_file.specs.Draft.{text_in}
 use Rattle.priority_file.specs.Priority.{Priorities, layer_of, is_priority}
@@ -33,7 +33,7 @@ use Rattle.layer_split.specs.Groups.{groups_of, groups_from, begins_group}
 use Rattle.layer_split.specs.Layers.{Cut, cut_of, lengths_of, layer_length, message}
 use Rattle.layer_split.specs.Runs.{runs_of}
 use Rattle.layer_split.specs.Splitting.{cuts_of}
-use Rattle.pet_encode.specs.Session.{SessionGroup, IsMessage, IsSession, IsSessionGroup, Fits, cost_of}
+use Rattle.pet_encode.specs.Session.{SessionGroup, IsMessage, IsSession, IsSessionGroup, Fits}
 use Rattle.stream_session.specs.Accepted.{IsAcceptedSession, group_of, session_of}
 use Rattle.group_cutter.specs.CutGroups.{CutGroup}
 use Rattle.stream_session.specs.laws.FitLaws.{IsWithinBounds, few_groups, tables_stand, costs_fit}
