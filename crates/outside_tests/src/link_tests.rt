@@ -6,7 +6,6 @@ use crate::room;
 use pet_base::{Failed, Got, Link};
 use pet_ends::UdpLink;
 use std::alloc::{AllocError, Global};
-use std::net::Net;
 use std::test::Fail;
 use std::time::{Duration, Instant};
 
@@ -20,11 +19,11 @@ fn long(alloc: Global, length: usize) -> Result<Vec<u8>, AllocError> {
 
 /// A link that receives at a port of this host that the system chose, and one that sends to it. None where the machine
 /// does not have this host.
-fn pair<'a, R: Net>(
-    net: &'a R,
+fn pair<'a>(
+    net: &'a HostRuntime,
     alloc: Global,
     host: &str,
-) -> Result<Option<(UdpLink<'a, R>, UdpLink<'a, R>)>, Fail> {
+) -> Result<Option<(UdpLink<'a, HostRuntime>, UdpLink<'a, HostRuntime>)>, Fail> {
     let (mut near, mut far) = (UdpLink::new(net), UdpLink::new(net));
     let Ok(port) = near.bind(&format!(in alloc; "{host}:0")?) else {
         return Ok(None);
@@ -34,9 +33,9 @@ fn pair<'a, R: Net>(
 }
 
 /// Sends the datagrams, and says whether they come in their order, byte by byte.
-fn arrive<R: Net>(
-    near: &mut UdpLink<'_, R>,
-    far: &mut UdpLink<'_, R>,
+fn arrive(
+    near: &mut UdpLink<'_, HostRuntime>,
+    far: &mut UdpLink<'_, HostRuntime>,
     datagrams: &[Vec<u8>],
     room: &mut [u8],
 ) -> bool
@@ -57,7 +56,7 @@ fn arrive<R: Net>(
 }
 
 /// Whether datagrams of several lengths arrive at a port of this host, or none where the machine does not have it.
-fn carries<R: Net>(net: &R, alloc: Global, host: &str) -> Result<Option<bool>, Fail> {
+fn carries(net: &HostRuntime, alloc: Global, host: &str) -> Result<Option<bool>, Fail> {
     let mut room = room(alloc)?;
     let datagrams = vec![in alloc;
         Vec::from_slice(alloc, b"abc")?,
