@@ -271,56 +271,67 @@ fn spaces(alloc: Global, count: usize) -> Result<Vec<u8>, AllocError> {
     Ok(bytes)
 }
 
+/// Whether a text is read as a priority of the example, with these layers of a D picture and of the first B picture.
+fn is_read_as_example(alloc: Global, text: &str) -> bool {
+    match read_priority(alloc, text.as_bytes()) {
+        Ok(priority) => {
+            is_example(&priority)
+                && priority.layer_of(Kind::D, 0) == 0
+                && priority.layer_of(Kind::B, 1) == 2
+        }
+        Err(_) => false,
+    }
+}
+
 #[test]
-fn reads_each_spelling_of_the_example_priorities(rt: HostRuntime) -> Result<(), Fail> {
-    let alloc = rt.alloc();
+fn reads_each_spelling_of_the_example_priorities(rt: HostRuntime) {
     for text in SPELLINGS {
-        let priority = match read_priority(alloc, text.as_bytes()) {
-            Ok(priority) => priority,
-            Err(_) => return Err(Fail::from(text)),
-        };
-        assert!(rt; is_example(&priority), "{text}");
-        assert_eq!(rt; priority.layer_of(Kind::D, 0), 0);
-        assert_eq!(rt; priority.layer_of(Kind::B, 1), 2);
+        assert!(rt; is_read_as_example(rt.alloc(), text), "{text}");
     }
-    Ok(())
+}
+
+/// Whether a text is read as a priority with these layers.
+fn is_read_with(alloc: Global, text: &str, layers: &[(u32, u16)]) -> bool {
+    match read_priority(alloc, text.as_bytes()) {
+        Ok(priority) => has_layers(priority.layers.as_slice(), layers),
+        Err(_) => false,
+    }
 }
 
 #[test]
-fn reads_kinds_places_and_needs(rt: HostRuntime) -> Result<(), Fail> {
-    let alloc = rt.alloc();
+fn reads_kinds_places_and_needs(rt: HostRuntime) {
     for (text, layers) in READ {
-        let priority = match read_priority(alloc, text.as_bytes()) {
-            Ok(priority) => priority,
-            Err(_) => return Err(Fail::from(text)),
-        };
-        assert!(rt; has_layers(priority.layers.as_slice(), layers), "{text}");
+        assert!(rt; is_read_with(rt.alloc(), text, layers), "{text}");
     }
-    Ok(())
+}
+
+/// The layers of the first, the second and the tenth B picture of a group, of the first P picture and of the first I picture.
+fn layers_by_place(alloc: Global, text: &str) -> Option<[u8; 5]> {
+    let priority = read_priority(alloc, text.as_bytes()).ok()?;
+    Some([
+        priority.layer_of(Kind::B, 1),
+        priority.layer_of(Kind::B, 2),
+        priority.layer_of(Kind::B, 10),
+        priority.layer_of(Kind::P, 1),
+        priority.layer_of(Kind::I, 1),
+    ])
 }
 
 #[test]
-fn gives_a_listed_place_its_layer(rt: HostRuntime) -> Result<(), Fail> {
-    let priority = match read_priority(rt.alloc(), FIRST_B_WITH_P.as_bytes()) {
-        Ok(priority) => priority,
-        Err(_) => return Err(Fail::from(FIRST_B_WITH_P)),
-    };
-    assert_eq!(rt; priority.layer_of(Kind::B, 1), 1);
-    assert_eq!(rt; priority.layer_of(Kind::B, 2), 2);
-    assert_eq!(rt; priority.layer_of(Kind::B, 10), 2);
-    assert_eq!(rt; priority.layer_of(Kind::P, 1), 1);
-    assert_eq!(rt; priority.layer_of(Kind::I, 1), 0);
+fn gives_a_listed_place_its_layer(rt: HostRuntime) {
+    let layers = layers_by_place(rt.alloc(), FIRST_B_WITH_P);
+    assert_eq!(rt; layers, Some([1, 2, 2, 1, 0]));
     let set = KindSet { bits: 16_388 };
     assert!(rt;
         set.has_place(Kind::B, 1) && !set.has_place(Kind::P, 1) && !set.has_place(Kind::B, 9)
     );
-    Ok(())
 }
 
 #[test]
 fn makes_a_priority_within_its_bounds(rt: HostRuntime) {
     for (packets, rules, is_made) in MADE {
-        assert_eq!(rt; priority_of(packets, rules).is_some(), is_made, "{packets}");
+        let is_right = priority_of(packets, rules).is_some() == is_made;
+        assert!(rt; is_right, "{packets}");
     }
 }
 
@@ -328,12 +339,9 @@ fn makes_a_priority_within_its_bounds(rt: HostRuntime) {
 fn reads_at_most_32_layers(rt: HostRuntime) -> Result<(), Fail> {
     let alloc = rt.alloc();
     let most = with_empty_layers(alloc, b"abcdefghijklmnopqrstuvwxyz01234")?;
-    assert_eq!(rt; fault_of(alloc, most.as_slice()), None);
     let more = with_empty_layers(alloc, b"abcdefghijklmnopqrstuvwxyz012345")?;
-    assert_eq!(rt;
-        fault_of(alloc, more.as_slice()),
-        Some(PriorityFault::TooManyLayers)
-    );
+    let told = [fault_of(alloc, &most), fault_of(alloc, &more)];
+    assert_eq!(rt; told, [None, Some(PriorityFault::TooManyLayers)]);
     Ok(())
 }
 
@@ -342,7 +350,8 @@ fn refuses_by_the_first_cause(rt: HostRuntime) {
     let alloc = rt.alloc();
     for rows in [REFUSED.as_slice(), REFUSED_FIRST.as_slice()] {
         for (text, fault) in rows {
-            assert_eq!(rt; fault_of(alloc, text.as_bytes()), Some(*fault), "{text}");
+            let is_right = fault_of(alloc, text.as_bytes()) == Some(*fault);
+            assert!(rt; is_right, "{text}");
         }
     }
     assert_eq!(rt; fault_of(alloc, b"# \xff\n"), Some(PriorityFault::Text));
@@ -352,14 +361,11 @@ fn refuses_by_the_first_cause(rt: HostRuntime) {
 fn refuses_a_file_past_the_limit_as_long(rt: HostRuntime) -> Result<(), Fail> {
     let alloc = rt.alloc();
     let longest = spaces(alloc, 65_536)?;
-    assert_eq!(rt;
-        fault_of(alloc, longest.as_slice()),
-        Some(PriorityFault::MissingKey)
-    );
     let longer = spaces(alloc, 65_537)?;
+    let told = [fault_of(alloc, &longest), fault_of(alloc, &longer)];
     assert_eq!(rt;
-        fault_of(alloc, longer.as_slice()),
-        Some(PriorityFault::Long)
+        told,
+        [Some(PriorityFault::MissingKey), Some(PriorityFault::Long)]
     );
     Ok(())
 }
