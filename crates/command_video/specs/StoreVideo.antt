@@ -1,21 +1,17 @@
 -- What can be shown of a store: the video of each of its groups, in order. This project's own.
-use Rattle.std.specs.Prelude.{◌≡◌, ◌⊎◌, ℕ, ◌<◌, List, [], length, map, slice_index_or, Some}
+use Rattle.std.specs.Prelude.{◌≡◌, ◌⊎◌, ℕ, ◌<◌, List, [], length, slice_index_or, Some}
 use Rattle.std.specs.List.{concat}
 use Rattle.pet_field.specs.Gf16.{gf16_coding}
 use Rattle.packet_set.specs.Packets.{Packets}
 use Rattle.kept_sets.specs.KeptSet.{KeptSet, open_group}
-use Rattle.pet_receive.specs.Arrivals.{Order, numbers_of}
+use Rattle.pet_receive.specs.Arrivals.{numbers_of}
 use Rattle.pet_receive.specs.ShownBytes.{IsShown}
-use Rattle.kept_sets.specs.Union.{frames_in}
+use Rattle.store_merge.specs.Reading.{pairs_in}
 use Rattle.reassemble.specs.Leading.{AreLeading, IsAssembled, IsUnfit}
 
--- the order in which a store has its packets: by group, then number
-abbrev pub store_order : KeptSet → Order
-store_order set = map (λ f. (f.group, f.number)) (frames_in set)
-
--- the numbers of the packets that it has of a group, in that order
+-- the numbers of the packets that a store has of a group, in its order
 abbrev pub numbers_in : KeptSet → ℕ → List ℕ
-numbers_in set group = numbers_of (store_order set) group
+numbers_in set group = numbers_of (pairs_in set) group
 
 -- The group has this video: the runs of its leading layers that are all shown, as its packets give their bytes, in the order of
 -- the stream.

@@ -8,9 +8,10 @@ ghost use Rattle.pet_receive.specs.Arrivals.{HasKept, kept_set};
 ghost use Rattle.kept_sets.specs.KeptSet.{IsKeptSet};
 ghost use Rattle.pet_receive.specs.ShownBytes.{groups_told};
 ghost use Rattle.store_merge.specs.Files.{HasStore};
+ghost use Rattle.store_merge.specs.Reading.{pairs_in};
 ghost use Rattle.command_files.specs.Outputs.{Puts};
 ghost use Rattle.command_video.specs.Ends.{IsReadEnd, IsTableEnd, IsGroupEnd, IsPutEnd};
-ghost use Rattle.command_video.specs.StoreVideo.{AreVideos, IsGroupVideo, store_order};
+ghost use Rattle.command_video.specs.StoreVideo.{AreVideos, IsGroupVideo};
 ghost use Rattle.command_video.specs.Videos.{IsCause, WritesVideo};
 
 use crate::command::VideoEnd;
@@ -70,7 +71,7 @@ fn read_receiver<'f, P: Place, L: Ledger>(
 ) -> Result<Receiver<'f, Gf16Tables>, VideoEnd>
     ensures read { IfOk result (λ r. HasStore (P.seen place.old).files store.now (kept_set r)) }
     ensures order { IfOk result (λ r. HasKept (λ a. a < 65536) gf16_coding r
-        (store_order (kept_set r))) }
+        (pairs_in (kept_set r))) }
     ensures sound { IfOk result (λ r. IsKeptSet (kept_set r)) }
     ensures end { IfErr result (IsReadEnd (P.seen place.old) (P.seen place.new) store.now) }
     ensures others { KeepsOutput (P.seen place.old) (P.seen place.new) }
@@ -93,7 +94,7 @@ fn put_groups<P: Place>(
 ) -> Result<u64, VideoEnd>
     requires output { (P.seen place.old).has_output ≡ true }
     requires order { HasKept (λ a. a < 65536) gf16_coding receiver.now
-        (store_order (kept_set receiver.now)) }
+        (pairs_in (kept_set receiver.now)) }
     requires sound { IsKeptSet (kept_set receiver.now) }
     ensures done { IfOk result (λ n. (video : List ℕ) × AreVideos (kept_set receiver.now) (groups_told (kept_set receiver.now)) video
         × Puts video (P.seen place.old) (P.seen place.new) × (n ≡ length video)) }
@@ -119,7 +120,7 @@ fn put_group_video<P: Place>(
 ) -> Result<(), VideoEnd>
     requires output { (P.seen place.old).has_output ≡ true }
     requires order { HasKept (λ a. a < 65536) gf16_coding receiver.now
-        (store_order (kept_set receiver.now)) }
+        (pairs_in (kept_set receiver.now)) }
     ensures done { OnOk result (IsGroupVideo (kept_set receiver.now) group video.new.items
         × Puts video.new.items (P.seen place.old) (P.seen place.new)) }
     ensures end { IfErr result (IsGroupEnd (HadFault (P.seen place.old) (P.seen place.new) (Blames Written (P.seen place.old).target))
@@ -139,7 +140,7 @@ fn group_video(
     video: &mut Vec<u8>,
 ) -> Result<(), VideoEnd>
     requires order { HasKept (λ a. a < 65536) gf16_coding receiver.now
-        (store_order (kept_set receiver.now)) }
+        (pairs_in (kept_set receiver.now)) }
     ensures video { OnOk result (IsGroupVideo (kept_set receiver.now) group video.new.items) }
     ensures end { IfErr result (IsTableEnd (kept_set receiver.now) group) }
 {

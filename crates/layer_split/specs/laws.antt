@@ -1,3 +1,4 @@
 pub mod RunLaws
 pub mod CutLaws
 pub mod EndedLaws
+pub mod PaddedLaws

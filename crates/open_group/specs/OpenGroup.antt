@@ -4,15 +4,11 @@ use Rattle.pet_field.specs.Field.{Coding}
 use Rattle.pet_poly.specs.Value.{AreDistinct}
 use Rattle.pet_poly.specs.Rows.{words}
 use Rattle.pet_interp.specs.Progressive.{Held, StandsFor, stripe_of, lengths_of}
-use Rattle.stripe_plan.specs.declared.layer.LayerSize.{LayerSize}
 use Rattle.stripe_plan.specs.Layers.{plan_stripes}
+pub use Rattle.stripe_plan.specs.Layers.{stripe_lengths}
 pub use Rattle.packet_set.specs.Packets.{Packets, slot_at, count_in, layers_of, no_packets}
 use Rattle.pet_encode.specs.Payload.{stripes_in}
 use Rattle.pet_encode.specs.Session.{IsMessage}
-
--- the lengths of the stripes of the plan
-abbrev pub stripe_lengths : List LayerSize → List ℕ
-stripe_lengths layers = map (λ s. s.1) (plan_stripes layers)
 
 -- the points of the packets of these numbers, each with the words of its payload
 abbrev pub points_of : {E : Type 0} → Coding E → Packets → List ℕ → List (E × List E)

@@ -1,12 +1,11 @@
 -- What the verdict of a datagram says of it as the next entry of a store, and what a receiver has kept then.
-use Rattle.std.specs.Prelude.{is_some, option_and_then, not, if◌then◌else◌}
+use Rattle.std.specs.Prelude.{is_some, not, if◌then◌else◌}
 use Rattle.std.proofs.Common.{◌≡◌, ◌≢◌, ℕ, ◌+◌, ◌≤◌, Bool, true, false, List, [], ◌∷◌, ◌++◌, map, Option, None, Some, refl, sym, ap, subst, ◌∙◌, arith}
 use Rattle.std.specs.Str.{bytes_eq}
 use Rattle.std.proofs.lemmas.List.{map-append}
 use Rattle.packet_frame.specs.Frame.{Fields, IsFrame}
 use Rattle.packet_frame.specs.Refusals.{fields_of, first_fault}
 use Rattle.packet_frame.specs.declared.fault.FrameFault.{FrameFault}
-use Rattle.packet_set.specs.Packets.{Packets, slot_at}
 use Rattle.packet_frame.specs.laws.Laws.{reads_frames}
 use Rattle.pet_field.specs.Field.{Coding}
 use Rattle.pet_interp.specs.Progressive.{step_bound}
@@ -26,13 +25,9 @@ use Rattle.store_merge.specs.declared.fault.StoreKind.TheVariants as kind
 use Rattle.store_merge.specs.Store.{store_steps}
 use Rattle.store_merge.specs.Refusals.{Last, is_above, kind_of, frame_fault}
 use Rattle.store_merge.specs.Reading.{frame_of, fault_of, fault_by, is_next, pairs_in, IsReadTo}
-use Rattle.store_merge.specs.laws.Growing.{EndsIn, comes_after}
+use Rattle.store_merge.specs.laws.Growing.{EndsIn, absent_by, comes_after}
 
 -- ---- the verdict of the next entry
-
-absent_by : (o : Option Packets) (number : ℕ) → ((p : Packets) → o ≡ Some p → slot_at p number ≡ None) → option_and_then (λ p. slot_at p number) o ≡ None
-absent_by None number none = refl
-absent_by (Some p) number none = none p refl
 
 -- what is above all that is kept is not kept
 above_absent : (set : KeptSet) (f : Fields) → IsAbove set f → payload_of set f.group f.number ≡ None

@@ -5,7 +5,6 @@ use Rattle.std.specs.Prelude.{All, ◌==◌, nat_lt}
 use Rattle.std.specs.List.{filter, flat_map, sum_by, range_with_len}
 use Rattle.std.specs.Int.{div_ceil}
 use Rattle.std.proofs.lemmas.Bool.{cond-true, cond-false, cases_Bool}
-use Rattle.std.proofs.lemmas.Bool.Decides.{nat_tests}
 use Rattle.std.proofs.lemmas.List.{append-nil, append_assoc, length-append, length-map, get_or-map, drop_at, take_at}
 use Rattle.std.proofs.lemmas.List.FromFn.{length-map-range_with_len, get_or-map-range_with_len}
 use Rattle.std.proofs.lemmas.List.Sums.{sum_by-cons}
@@ -15,6 +14,7 @@ use Rattle.layer_split.proofs.Beginning.{layer_size}
 use Rattle.layer_split.specs.declared.cut.Run.{Run}
 use Rattle.layer_split.specs.RunTable.{fits}
 use Rattle.layer_split.specs.Layers.{bytes_of_run, layer_bytes, layer_length, lengths_of, padded, message}
+use Rattle.layer_split.specs.laws.PaddedLaws.{padded_length}
 use Rattle.pet_encode.specs.Session.{length_of_layer, bytes_of_layer}
 use Rattle.open_group.specs.laws.Needs.{length_is}
 use Rattle.reassemble.specs.Video.{group_video}
@@ -26,16 +26,6 @@ padded_is : (bytes : List ℕ) → (fill : List ℕ) × (padded bytes ≡ bytes 
 padded_is bytes = elim (cases_Bool (length bytes % 2 == 1)) [
   | inl e ↦ (0 ∷ [], cond-true (length bytes % 2 == 1) (bytes ++ 0 ∷ []) bytes e)
   | inr e ↦ ([], cond-false (length bytes % 2 == 1) (bytes ++ 0 ∷ []) bytes e ∙ sym (append-nil bytes))
-]
-
-padded_length : (bytes : List ℕ) → length (padded bytes) ≡ div_ceil (length bytes) 2 * 2
-padded_length bytes = elim (cases_Bool (length bytes % 2 == 1)) [
-  | inl e ↦
-      let odd : length bytes % 2 ≡ 1 = grind (arith, nat_tests) in
-      ap length (cond-true (length bytes % 2 == 1) (bytes ++ 0 ∷ []) bytes e) ∙ length-append bytes (0 ∷ []) ∙ (omega arith)
-  | inr e ↦
-      let even : length bytes % 2 ≡ 0 = grind (arith, nat_tests) in
-      ap length (cond-false (length bytes % 2 == 1) (bytes ++ 0 ∷ []) bytes e) ∙ (omega arith)
 ]
 
 -- what stands at one of some numbers

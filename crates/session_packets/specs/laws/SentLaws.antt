@@ -39,7 +39,8 @@ entry_read d rest short =
     ∙ ap (λ (n : ℕ). Some (whole_or_damaged n (d ++ rest))) (from_be_bytes-to_be_bytes_2 (length d) short)
     ∙ ap (λ (entry : List ℕ × List ℕ). Some entry) (whole_is d rest)
 
-text_short : (f : Fields) → IsFrame f → length (text f) < 65536
+-- the length of a frame fits two bytes
+pub text_short : (f : Fields) → IsFrame f → length (text f) < 65536
 text_short f is = omega (arith, texts_have_length f is, is.table.narrow)
 
 -- the entries of frames are read as their texts, in order

@@ -62,7 +62,8 @@ kept_by true true false d layers first third e = absurd (cc)
 kept_by true false false true layers first third e = absurd (cc)
 kept_by true false false false layers first third e = refl
 
-absent_by : (o : Option Packets) (number : ℕ) → ((p : Packets) → o ≡ Some p → slot_at p number ≡ None) → option_and_then (λ p. slot_at p number) o ≡ None
+-- no slot has the number
+pub absent_by : (o : Option Packets) (number : ℕ) → ((p : Packets) → o ≡ Some p → slot_at p number ≡ None) → option_and_then (λ p. slot_at p number) o ≡ None
 absent_by None number none = refl
 absent_by (Some p) number none = none p refl
 

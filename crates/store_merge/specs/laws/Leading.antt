@@ -8,8 +8,9 @@ use Rattle.std.proofs.lemmas.List.Elements.{All-take, All-drop}
 use Rattle.packet_frame.specs.Frame.{Fields, IsFrame, text}
 use Rattle.packet_frame.specs.Refusals.{number, fields_of, first_fault}
 use Rattle.packet_frame.specs.declared.fault.FrameFault.{FrameFault}
-use Rattle.packet_frame.specs.laws.Laws.{texts_are_read, texts_have_length, reads_frames, reads_texts}
+use Rattle.packet_frame.specs.laws.Laws.{texts_are_read, reads_frames, reads_texts}
 use Rattle.session_packets.specs.Packets.{entry_text, entries_text}
+use Rattle.session_packets.specs.laws.SentLaws.{text_short}
 use Rattle.kept_sets.specs.KeptSet.{KeptSet, keep}
 use Rattle.store_merge.specs.declared.fault.StoreKind.{StoreKind}
 use Rattle.store_merge.specs.declared.fault.StoreKind.TheVariants.{Frame, Cut}
@@ -28,9 +29,6 @@ Leads set last [] target = set ≡ target
 Leads set last (f ∷ rest) target = IsFrame f × (frame_fault set last f ≡ None) × Leads (keep set f) (Some (pair_of f)) rest target
 
 -- ---- their entries are read so
-
-text_short : (f : Fields) → IsFrame f → length (text f) < 65536
-text_short f is = omega (arith, texts_have_length f is, is.table.narrow)
 
 accepted : (o : Option FrameFault) (kind : StoreKind) (rest : Option StoreKind) → o ≡ None → (if is_some o then Some kind else rest) ≡ rest
 accepted o kind rest none = ap (λ (p : Option FrameFault). if is_some p then Some kind else rest) none

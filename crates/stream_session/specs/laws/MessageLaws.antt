@@ -5,7 +5,6 @@ use Rattle.std.specs.Prelude.{◌==◌, All, get_or, if◌then◌else◌}
 use Rattle.std.specs.List.{flat_map, range_with_len}
 use Rattle.std.specs.Int.{div_ceil, to_be_bytes, w32}
 use Rattle.std.proofs.lemmas.Bool.{cond-true, cond-false, cases_Bool}
-use Rattle.std.proofs.lemmas.Bool.Decides.{nat_tests}
 use Rattle.std.proofs.lemmas.List.{length-append, length-replicate}
 use Rattle.std.proofs.lemmas.List.Elements.{All-append, All-cons, All-drop, All-head, All-nil, All-tail, All-take}
 use Rattle.stripe_plan.specs.Layers.{needs_of}
@@ -13,20 +12,10 @@ use Rattle.priority_file.specs.Priority.{Rule, Priorities}
 use Rattle.layer_split.proofs.Beginning.{layer_size}
 use Rattle.layer_split.specs.declared.cut.Run.{Run}
 use Rattle.layer_split.specs.Layers.{run_entry, run_table, runs_in, bytes_of_run, layer_bytes, layer_length, lengths_of, padded, message}
+use Rattle.layer_split.specs.laws.PaddedLaws.{padded_length}
 use Rattle.group_cutter.specs.CutGroups.{CutGroup}
 use Rattle.group_cutter.specs.laws.FittingLaws.{IsWhole}
 use Rattle.stream_session.specs.Tables.{sizes_of, sizes_with}
-
--- whole words
-padded_length : (bytes : List ℕ) → length (padded bytes) ≡ div_ceil (length bytes) 2 * 2
-padded_length bytes = elim (cases_Bool (length bytes % 2 == 1)) [
-  | inl e ↦
-      let odd : length bytes % 2 ≡ 1 = grind (arith, nat_tests) in
-      ap length (cond-true (length bytes % 2 == 1) (bytes ++ 0 ∷ []) bytes e) ∙ length-append bytes (0 ∷ []) ∙ (omega arith)
-  | inr e ↦
-      let even : length bytes % 2 ≡ 0 = grind (arith, nat_tests) in
-      ap length (cond-false (length bytes % 2 == 1) (bytes ++ 0 ∷ []) bytes e) ∙ (omega arith)
-]
 
 words_from : (s : List ℕ) (runs : List Run) → All (λ (r : Run). r.at + r.len ≤ length s) runs → (rules : List Rule) (a : ℕ)
     → length (flat_map (λ layer. padded (layer_bytes s runs layer)) (range_with_len a (length rules))) ≡ length (needs_of (sizes_with (map (layer_length runs) (range_with_len a (length rules))) rules)) * 2
