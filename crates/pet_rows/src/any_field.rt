@@ -5,6 +5,7 @@ ghost use Rattle.pet_rows.specs.Columns.{column};
 
 use pet_base::Steps;
 use pet_field::Field;
+use pet_poly::add_scaled;
 use std::sync::ledger::Ledger;
 
 /// The values at `x` of all columns of `count` rows, each as long as `into`, one after another. It counts one step for each
@@ -56,4 +57,50 @@ pub(crate) fn column_value<F: Field, L: Ledger>(
         value = f.add(f.mul(value, x, steps), rows[at + c]);
     }
     value
+}
+
+/// Multiplies each element of a row by `factor`. It counts one step for each.
+pub(crate) fn multiply_each<F: Field, L: Ledger>(
+    f: &F,
+    factor: F::Elem,
+    row: &mut [F::Elem],
+    steps: &mut Steps<L>,
+)
+    requires factor { F.is_element factor }
+    requires elements { All F.is_element row.old }
+    ensures products { (c : ℕ) → c < length row.old →
+        slice_index_or row.new c F.coding.ops.nought
+        ≡ F.coding.ops.times factor (slice_index_or row.old c F.coding.ops.nought) }
+    ensures elements { All F.is_element row.new }
+    ensures cost { steps.new ≡ steps.old + length row.old }
+{
+    for c in 0..row.len() {
+        row[c] = f.mul(factor, row[c], steps);
+    }
+}
+
+/// Adds `by` times `row` to the elements of `rows` from `at` on; the others stay. It counts one step
+/// for each element of `row`.
+pub(crate) fn add_scaled_at<F: Field, L: Ledger>(
+    f: &F,
+    by: F::Elem,
+    row: &[F::Elem],
+    rows: &mut [F::Elem],
+    at: usize,
+    steps: &mut Steps<L>,
+)
+    requires room { at + length row.now ≤ length rows.old }
+    requires factor { F.is_element by }
+    requires row { All F.is_element row.now }
+    requires elements { All F.is_element rows.old }
+    ensures sums { (c : ℕ) → c < length row.now →
+        slice_index_or rows.new (at + c) F.coding.ops.nought
+        ≡ F.coding.ops.plus (slice_index_or rows.old (at + c) F.coding.ops.nought) (F.coding.ops.times by (slice_index_or row.now c F.coding.ops.nought)) }
+    ensures before { (i : ℕ) → i < at → slice_index_or rows.new i F.coding.ops.nought ≡ slice_index_or rows.old i F.coding.ops.nought }
+    ensures behind { (i : ℕ) → at + length row.now ≤ i → slice_index_or rows.new i F.coding.ops.nought ≡ slice_index_or rows.old i F.coding.ops.nought }
+    ensures elements { All F.is_element rows.new }
+    ensures cost { steps.new ≡ steps.old + length row.now }
+{
+    let end = at + row.len();
+    add_scaled(f, &mut rows[at..end], row, by, steps);
 }

@@ -3,11 +3,10 @@ ghost use Rattle.std.specs.Prelude.{◌≡◌, ℕ, ◌+◌, ◌*◌, ◌<◌, �
 ghost use Rattle.pet_poly.specs.Value.{value};
 ghost use Rattle.pet_rows.specs.Columns.{column};
 
-use crate::any_field::each_column;
+use crate::any_field::{add_scaled_at, each_column, multiply_each};
 use crate::blocks::MAX_WIDTH;
 use pet_base::Steps;
 use pet_field::Field;
-use pet_poly::add_scaled;
 use std::sync::ledger::Ledger;
 
 /// A field that works on blocks: rows of elements, one after another, each as long, and at most 32 elements long. A
@@ -62,9 +61,7 @@ pub trait Rows: Field {
         ensures cost { steps.new ≡ steps.old + length row.old }
     {
         let factor = self.element(by);
-        for c in 0..row.len() {
-            row[c] = self.mul(factor, row[c], steps);
-        }
+        multiply_each(self, factor, row, steps);
     }
 
     /// Adds to row j of `rows` the multiple of `row` by factor j, for each factor; later rows stay. It counts one
@@ -90,10 +87,9 @@ pub trait Rows: Field {
     {
         let mut at = 0;
         for j in 0..factors.len() {
-            let end = at + row.len();
             let by = self.element(&factors[j]);
-            add_scaled(self, &mut rows[at..end], row, by, steps);
-            at = end;
+            add_scaled_at(self, by, row, rows, at, steps);
+            at += row.len();
         }
     }
 }

@@ -1,13 +1,16 @@
-use Rattle.std.proofs.Common.{◌≡◌, ℕ, ◌+◌, ◌-◌, ◌*◌, ◌≤◌, length, map, get_or, drop, ap, sym, ◌∙◌, arith}
-use Rattle.std.proofs.lemmas.List.{get_or-map, length-map, length-take-le, length-drop}
-use Rattle.pet_rows.proofs.AddedRows.{sums_more, rest_more}
-use Rattle.pet_rows.specs.laws.PlaceLaws.{more_rows, rows_le}
-use Rattle.pet_rows.proofs.Parts.{part_length, part_elements}
-use Rattle.std.proofs.lemmas.List.Elements.{All-take, All-drop}
+use Rattle.std.proofs.Common.{◌≡◌, ℕ, ◌+◌, ◌*◌, length, map, get_or, ap, sym, ◌∙◌, arith}
+use Rattle.std.proofs.lemmas.List.{get_or-map, length-map}
+use Rattle.pet_rows.proofs.AddedRows.{sums_more, rest_more, next_room, next_cost}
+use Rattle.pet_rows.specs.laws.PlaceLaws.{more_rows}
 use Rattle.pet_rows.proofs.rows.Rows.add_products.Goals as goal
 
-pub add_scaled-requires-clause-factor : goal.add_scaled-requires-clause-factor
-add_scaled-requires-clause-factor g c =
+pub add_scaled_at-requires-clause-room : goal.add_scaled_at-requires-clause-room
+add_scaled_at-requires-clause-room g c =
+    next_room c.loop-j.j (length c.args.factors.now) c.loop-j.at (length c.args.row.now) (length c.loop-j.rows) (length c.args.rows.now)
+    (omega arith) c.loop-j.invariant.place c.requires.room c.loop-j.invariant.long
+
+pub add_scaled_at-requires-clause-factor : goal.add_scaled_at-requires-clause-factor
+add_scaled_at-requires-clause-factor g c =
     let R = g.Self.Rows in
     let x = c.index-factors-j.result in
     let z = g.Self.Field.coding.ops.nought in
@@ -22,30 +25,23 @@ loop-j-preserved g c =
     let o = F.coding.ops in
     let z = F.coding.ops.nought in
     let row = c.args.row.now in
+    let old = c.args.rows.now in
     let factors = c.args.factors.now in
-    let w = length row in
     let j = c.loop-j.j in
     let at = c.loop-j.at in
     let rows = c.loop-j.rows in
-    let k = at + w - at in
     let x = c.index-factors-j.result in
     let by = c.element-by.result in
-    let new = c.add_scaled.new.into in
-    let place : at ≡ j * w = c.loop-j.invariant.place in
-    let kw : k ≡ w = omega arith in
-    let room_rows : (j + 1) * w ≤ length rows = omega (arith, rows_le (j + 1) (length factors) w (omega arith), c.requires.room, c.loop-j.invariant.long) in
-    let room : at + k ≤ length rows = omega (arith, place, more_rows j w) in
-    let long : length new ≡ k = c.add_scaled.auto.into ∙ length-take-le k (drop at rows) (omega (arith, length-drop at rows)) in
+    let new = c.add_scaled_at.new.rows in
+    let place : at ≡ j * length row = c.loop-j.invariant.place in
     let factor = λ (i : ℕ). get_or (map R.element_of factors) i z in
     let by_is : by ≡ get_or (map R.element_of factors) j z = c.element-by.ensures ∙ sym (get_or-map R.element_of factors j x z (omega arith) ∙ ap R.element_of (sym c.index-factors-j.is)) in
+    let added = c.add_scaled_at.ensures in
     record {
-      place = ap (λ n. n + w) place ∙ sym (more_rows j w);
-      long = part_length z at k rows new room long ∙ c.loop-j.invariant.long;
-      elements =
-          part_elements z at k rows new room long F.is_element c.loop-j.invariant.elements
-          (c.add_scaled.ensures.elements (All-take F.is_element k (drop at rows) (All-drop F.is_element at rows c.loop-j.invariant.elements)));
-      sums =
-          sums_more o j at row rows c.args.rows.now new by factor place room long c.add_scaled.ensures.places by_is c.loop-j.invariant.rest c.loop-j.invariant.sums;
-      rest = rest_more o j at row rows c.args.rows.now new by factor place room long c.add_scaled.ensures.places by_is c.loop-j.invariant.rest;
-      cost = omega (arith, c.add_scaled.ensures.cost, c.loop-j.invariant.cost, more_rows j w);
+      place = ap (λ n. n + length row) place ∙ sym (more_rows j (length row));
+      long = c.add_scaled_at.auto.rows ∙ c.loop-j.invariant.long;
+      elements = added.elements;
+      sums = sums_more o j at row rows old new by factor place added.sums added.before added.behind by_is c.loop-j.invariant.rest c.loop-j.invariant.sums;
+      rest = rest_more o j at row rows old new by factor place added.sums added.before added.behind by_is c.loop-j.invariant.rest;
+      cost = next_cost j (length row) c.args.steps.now c.loop-j.steps c.add_scaled_at.new.steps c.loop-j.invariant.cost added.cost;
     }

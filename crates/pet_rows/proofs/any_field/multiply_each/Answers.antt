@@ -2,17 +2,17 @@ use Rattle.std.proofs.Common.{◌≡◌, ◌<◌, length, get_or, ap, ◌∙◌,
 use Rattle.std.proofs.lemmas.List.{length-set, get_or-set_other, get_or_default}
 use Rattle.pet_rows.specs.laws.PlaceLaws.{filled}
 use Rattle.pet_rows.proofs.AnyField.{all_from}
-use Rattle.pet_rows.proofs.rows.Rows.scale.Goals as goal
+use Rattle.pet_rows.proofs.any_field.multiply_each.Goals as goal
 
 pub loop-c-preserved : goal.loop-c-preserved
 loop-c-preserved g c =
-    let o = g.Self.Field.coding.ops in
+    let o = g.F.Field.coding.ops in
     let z = o.nought in
     let old = c.args.row.now in
     let row = c.loop-c.row in
     let n = c.loop-c.c in
     let e = c.index-row-c.result in
-    let x = c.element-factor.result in
+    let x = c.args.factor in
     let read : e ≡ get_or old n z = c.index-row-c.is ∙ get_or_default row n e z (omega (arith, c.loop-c.invariant.long)) ∙ c.loop-c.invariant.rest n (omega arith) in
     record {
       long = length-set row n c.mul.result ∙ c.loop-c.invariant.long;
@@ -25,10 +25,9 @@ loop-c-preserved g c =
 
 pub returns-clause-elements : goal.returns-clause-elements
 returns-clause-elements g c =
-    let F = g.Self.Field in
-    let hx : F.is_element c.element-factor.result = rw c.element-factor.ensures c.requires.factor in
+    let F = g.F.Field in
     all_from F.is_element F.coding.ops.nought c.loop-c.row
     (λ k l.
     let m : k < length c.args.row.now = omega (arith, c.loop-c.invariant.long) in
     rw (c.loop-c.invariant.done k (omega arith))
-    (g.met.Self.Field.lawful.field.times_is c.element-factor.result (get_or c.args.row.now k F.coding.ops.nought) hx (c.requires.elements k F.coding.ops.nought m)))
+    (g.met.F.Field.lawful.field.times_is c.args.factor (get_or c.args.row.now k F.coding.ops.nought) c.requires.factor (c.requires.elements k F.coding.ops.nought m)))
