@@ -127,9 +127,17 @@ fn needs_fit(packets: u16, layers: &[LayerRule]) -> bool
 fn has_each_kind_once(layers: &[LayerRule]) -> bool
     ensures { result ≡ has_each_kind_once layers.now }
 {
-    [Kind::Head, Kind::I, Kind::P, Kind::B, Kind::D]
-        .iter()
-        .all(|kind| layers_with(layers, *kind) == 1)
+    has_once(layers, Kind::Head)
+        && has_once(layers, Kind::I)
+        && has_once(layers, Kind::P)
+        && has_once(layers, Kind::B)
+        && has_once(layers, Kind::D)
+}
+
+fn has_once(layers: &[LayerRule], kind: Kind) -> bool
+    ensures { result ≡ (layers_with kind layers.now == 1) }
+{
+    layers_with(layers, kind) == 1
 }
 
 fn layers_with(layers: &[LayerRule], kind: Kind) -> usize
