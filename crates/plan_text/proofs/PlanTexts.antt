@@ -1,5 +1,7 @@
 -- The text of a plan, piece by piece.
-use Rattle.std.proofs.Common.{◌≡◌, ℕ, List, ◌++◌, length, Result, Ok, Err, ap, ◌∙◌, append_assoc}
+use Rattle.std.proofs.Common.{◌≡◌, ℕ, suc, ◌+◌, ◌<◌, ◌≤◌, List, ◌∷◌, ◌++◌, length, get_or, drop, Result, Ok, Err, sym, ap, ap₂, ◌∙◌, append_assoc, arith}
+use Rattle.std.proofs.Math.Seq.{drop-cons}
+use Rattle.std.proofs.lemmas.List.{append-nil, drop_all}
 use Rattle.std.specs.Prelude.{OnOk}
 use Rattle.stripe_plan.specs.declared.layer.LayerSize.{LayerSize}
 use Rattle.stripe_plan.specs.Layers.{needs_of, plan_ends, bound_of}
@@ -32,3 +34,19 @@ pub plan_begun : (session : List ℕ) (priority : Priorities) (tables : List Siz
 plan_begun session priority tables old into sized is =
     ap (λ t. t ++ groups_from priority.layers 0 tables) is ∙ append_assoc old (plan_session_text session (length tables) priority.packets) (groups_from priority.layers 0 tables)
     ∙ ap (λ t. old ++ t) (plan_text_is session priority tables sized)
+
+-- a group more
+pub text_next : (rules : List Rule) (group : ℕ) (tables : List Sizes) (table : Sizes) (into new whole : List ℕ) → group < length tables
+    → table ≡ get_or tables group table → new ≡ into ++ group_lines rules group table.layers → into ++ groups_from rules group (drop group tables) ≡ whole
+    → new ++ groups_from rules (group + 1) (drop (group + 1) tables) ≡ whole
+text_next rules group tables table into new whole within read is so =
+    let next : suc group ≡ group + 1 = omega arith in
+    let rest = groups_from rules (group + 1) (drop (group + 1) tables) in
+    let opened : drop group tables ≡ table ∷ drop (group + 1) tables =
+    drop-cons tables group table within ∙ ap₂ ◌∷◌ (sym read) (ap (λ n. drop n tables) next) in
+    ap (λ t. t ++ rest) is ∙ append_assoc into (group_lines rules group table.layers) rest ∙ sym (ap (λ ts. into ++ groups_from rules group ts) opened) ∙ so
+
+-- the last group
+pub text_done : (rules : List Rule) (group : ℕ) (tables : List Sizes) (into whole : List ℕ) → length tables ≤ group
+    → into ++ groups_from rules group (drop group tables) ≡ whole → into ≡ whole
+text_done rules group tables into whole past so = sym (append-nil into) ∙ sym (ap (λ ts. into ++ groups_from rules group ts) (drop_all group tables past)) ∙ so
