@@ -8,20 +8,12 @@ use Rattle.pet_poly.specs.Horner.{horner_from}
 use Rattle.pet_poly.specs.laws.HornerLaws as Ho
 use Rattle.pet_field.specs.laws.FieldLaws as A
 use Rattle.additive_fft.specs.Basis.{next_hat, hats, squared, value_in_basis}
+use Rattle.additive_fft.specs.Subspaces.{AreFactors}
 use Rattle.additive_fft.specs.Trees.{Tree, flat, add, each, expanded, scaled, up, converted}
 use Rattle.additive_fft.proofs.Leaves.{Holds, weighed}
 use Rattle.additive_fft.proofs.Places.{halves}
 use Rattle.additive_fft.proofs.Readings.{trees_read, square_plus, squared_is, squared_times, expanded_value, scaled_value}
 use Rattle.additive_fft.proofs.Flights.{AreHats, reads, elements_read, each_append}
-
--- the constants: `inverse n` makes the hat n + 1 one at b (n + 1), and g n is its inverse
-pub record AreFactors {E : Type 0} (P : E → Type 0) (o : Operations E) (b : ℕ → E) (m : ℕ) (g inverse : ℕ → E) : Type 0 where
-  pub base : (n : ℕ) → n < m → P (b n)
-  pub first : b 0 ≡ o.unit
-  pub factor_is : (n : ℕ) → suc n < m → P (g n)
-  pub inverse_is : (n : ℕ) → suc n < m → P (inverse n)
-  pub inverts : (n : ℕ) → suc n < m → o.times (g n) (inverse n) ≡ o.unit
-  pub one : (n : ℕ) → suc n < m → hats o inverse (suc n) (b (suc n)) ≡ o.unit
 
 module _ {E : Type 0} (P : E → Type 0) (o : Operations E) (f : IsField P o) (two : (a : E) → P a → o.plus a a ≡ o.nought)
     (b : ℕ → E) (m : ℕ) (g inverse : ℕ → E) (F : AreFactors P o b m g inverse) where

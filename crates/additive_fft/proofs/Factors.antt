@@ -1,83 +1,41 @@
--- The constants over the field of 65,536 elements, for up to 2 to the power 15 points, and the whole there.
-use Rattle.std.proofs.Common.{◌≡◌, ◌<◌, ◌+◌, ◌*◌, ◌^◌, ◌++◌, ◌&&◌, ℕ, zero, suc, List, [], ◌∷◌, Bool, true, length, map, inl, inr, eqb, get_or, refl, sym, ap, ap₂, ◌∙◌, subst, arith}
-use Rattle.std.proofs.lemmas.Bool.{and_parts, cases_eq, eqb-true, ltb-true}
-use Rattle.std.specs.Prelude.{nat_lt}
-use lib.Bits.{bit_xor, xor_self, xor_shifted}
-use lib.Pow.{pow_pos, pow_mono}
+-- The points of a coset, in the order of their numbers, and the whole over them.
+use Rattle.std.proofs.Common.{◌≡◌, ◌<◌, ◌≤◌, ◌+◌, ◌*◌, ◌^◌, ◌++◌, ℕ, zero, suc, List, [], ◌∷◌, length, map, get_or, refl, sym, ap, ap₂, ◌∙◌, subst, arith}
+use lib.Bits.{bit_xor, xor_shifted}
+use lib.Pow.{pow_pos}
 use native.Mathlib.Nat.{pow-suc}
-use Rattle.pet_field.specs.BinaryField.{times}
-use Rattle.pet_field.specs.Carryless.{product_of_bits, remainder_of_bits}
-use Rattle.pet_field.specs.Gf16.{gf16}
-use Rattle.pet_field.specs.laws.Gf16Laws.{gf16_field}
+use Rattle.pet_field.specs.Field.{Operations, IsField, ArePoints}
 use Rattle.pet_poly.specs.Value.{value}
 use Rattle.additive_fft.specs.Basis.{hats, value_in_basis}
-use Rattle.additive_fft.specs.Constants.{base, factor, inverse}
+use Rattle.additive_fft.specs.Subspaces.{HasSubspaces}
 use Rattle.additive_fft.specs.Trees.{Tree, flat, flown, converted, up}
 use Rattle.additive_fft.proofs.Leaves.{Holds, points}
-use Rattle.additive_fft.proofs.Flights.{flown_values, map_same, each_all}
-use Rattle.additive_fft.proofs.Conversions.{AreFactors, are_hats, at_point, basis_is, converted_is}
+use Rattle.additive_fft.proofs.Flights.{AreHats, flown_values, map_same, each_all}
+use Rattle.additive_fft.proofs.Conversions.{are_hats, at_point, basis_is, converted_is}
 
-unfoldable right : ℕ → Bool
-right zero = true
-right (suc n) =
-    (eqb (gf16.times (factor n) (inverse n)) 1 && eqb (hats gf16 inverse (suc n) (2 ^ suc n)) 1) && ((nat_lt (factor n) 65536 && nat_lt (inverse n) 65536) && right n)
+-- the points of c, c + 1 and so on
+abbrev pub points_from : {E : Type 0} → (ℕ → E) → ℕ → ℕ → List E
+points_from point c zero = []
+points_from point c (suc k) = point c ∷ points_from point (suc c) k
 
-all_right : right 15 ≡ true
-unfolding right factor inverse times product_of_bits remainder_of_bits
-all_right = refl
-
-right_at : (k n : ℕ) → right k ≡ true → n < k
-    → ((gf16.times (factor n) (inverse n) ≡ 1) × (hats gf16 inverse (suc n) (2 ^ suc n) ≡ 1)) × ((factor n < 65536) × (inverse n < 65536))
-unfolding right
-right_at zero n h l = absurd (omega arith)
-right_at (suc k) n h l =
-    let a = and_parts (eqb (gf16.times (factor k) (inverse k)) 1 && eqb (hats gf16 inverse (suc k) (2 ^ suc k)) 1)
-    ((nat_lt (factor k) 65536 && nat_lt (inverse k) 65536) && right k) h in
-    let b = and_parts (eqb (gf16.times (factor k) (inverse k)) 1) (eqb (hats gf16 inverse (suc k) (2 ^ suc k)) 1) a.0 in
-    let c = and_parts (nat_lt (factor k) 65536 && nat_lt (inverse k) 65536) (right k) a.1 in
-    let d = and_parts (nat_lt (factor k) 65536) (nat_lt (inverse k) 65536) c.0 in
-    elim (cases_eq n k) [
-      | inl e ↦
-          subst (λ j. ((gf16.times (factor j) (inverse j) ≡ 1) × (hats gf16 inverse (suc j) (2 ^ suc j) ≡ 1)) × ((factor j < 65536) × (inverse j < 65536))) (sym e) (
-            (eqb-true (gf16.times (factor k) (inverse k)) 1 b.0, eqb-true (hats gf16 inverse (suc k) (2 ^ suc k)) 1 b.1),
-            (ltb-true (factor k) 65536 d.0, ltb-true (inverse k) 65536 d.1),
-          )
-      | inr e ↦ right_at k n c.1 (omega arith)
-    ]
-
-base_is : (n : ℕ) → n < 16 → 2 ^ n < 65536
-base_is n l = omega (arith, pow_mono {i = n} {j = 15} (omega arith))
-
-pub gf16_factors : AreFactors (λ a. a < 65536) gf16 base 16 factor inverse
-gf16_factors = record {
-  base = base_is;
-  first = refl;
-  factor_is = λ n l. (right_at 15 n all_right (omega arith)).1.0;
-  inverse_is = λ n l. (right_at 15 n all_right (omega arith)).1.1;
-  inverts = λ n l. (right_at 15 n all_right (omega arith)).0.0;
-  one = λ n l. (right_at 15 n all_right (omega arith)).0.1;
-}
-
--- c, c + 1 and so on
-abbrev pub count_from : ℕ → ℕ → List ℕ
-count_from c zero = []
-count_from c (suc k) = c ∷ count_from (suc c) k
-
-count_append : (j k c : ℕ) → count_from c j ++ count_from (c + j) k ≡ count_from c (j + k)
-count_append zero k c = let e : c + 0 ≡ c = omega arith in let g : 0 + k ≡ k = omega arith in ap (λ d. count_from d k) e ∙ ap (count_from c) (sym g)
-count_append (suc j) k c =
+points_append : {E : Type 0} (point : ℕ → E) (j k c : ℕ) → points_from point c j ++ points_from point (c + j) k ≡ points_from point c (j + k)
+points_append point zero k c =
+    let e : c + 0 ≡ c = omega arith in
+    let g : 0 + k ≡ k = omega arith in
+    ap (λ d. points_from point d k) e ∙ ap (points_from point c) (sym g)
+points_append point (suc j) k c =
     let e : c + suc j ≡ suc c + j = omega arith in
     let g : suc j + k ≡ suc (j + k) = omega arith in
-    ap (λ d. c ∷ (count_from (suc c) j ++ count_from d k)) e ∙ ap (λ r. c ∷ r) (count_append j k (suc c)) ∙ ap (count_from c) (sym g)
+    ap (λ d. point c ∷ (points_from point (suc c) j ++ points_from point d k)) e ∙ ap (λ r. point c ∷ r) (points_append point j k (suc c))
+    ∙ ap (points_from point c) (sym g)
 
-pub length-count : (c k : ℕ) → length (count_from c k) ≡ k
-length-count c zero = refl
-length-count c (suc k) = ap suc (length-count (suc c) k)
+pub length-points : {E : Type 0} (point : ℕ → E) (c k : ℕ) → length (points_from point c k) ≡ k
+length-points point c zero = refl
+length-points point c (suc k) = ap suc (length-points point (suc c) k)
 
-pub count_at : (c k p : ℕ) → p < k → get_or (count_from c k) p 0 ≡ c + p
-count_at c zero p l = absurd (omega arith)
-count_at c (suc k) zero l = omega arith
-count_at c (suc k) (suc p) l = count_at (suc c) k p (omega arith) ∙ omega arith
+pub points_at : {E : Type 0} (d : E) (point : ℕ → E) (c k p : ℕ) → p < k → get_or (points_from point c k) p d ≡ point (c + p)
+points_at d point c zero p l = absurd (omega arith)
+points_at d point c (suc k) zero l = ap point (omega arith)
+points_at d point c (suc k) (suc p) l = points_at d point (suc c) k p (omega arith) ∙ ap point (omega arith)
 
 doubled : (a p : ℕ) → a * (2 * p) ≡ 2 * a * p
 doubled a p = grind arith
@@ -85,46 +43,51 @@ doubled a p = grind arith
 one_more : (a p : ℕ) → suc a * p ≡ a * p + p
 one_more a p = grind arith
 
--- the coset of a multiple of 2 to the power n
-points_count : (n a : ℕ) → points gf16 base n (a * 2 ^ n) ≡ count_from (a * 2 ^ n) (2 ^ n)
-points_count zero a = refl
-points_count (suc n) a =
-    let p : 2 ^ suc n ≡ 2 * 2 ^ n = pow-suc 2 n ∙ omega arith in
-    let e : a * 2 ^ suc n ≡ 2 * a * 2 ^ n = ap (λ z. a * z) p ∙ doubled a (2 ^ n) in
-    let s : suc (2 * a) * 2 ^ n ≡ 2 * a * 2 ^ n + 2 ^ n = one_more (2 * a) (2 ^ n) in
-    let x : bit_xor (a * 2 ^ suc n) (2 ^ n) ≡ suc (2 * a) * 2 ^ n =
-    xor_shifted a (suc n) (2 ^ n) (omega (arith, p, pow_pos n)) ∙ ap (λ z. z + 2 ^ n) e ∙ sym s in
-    let q : 2 ^ n + 2 ^ n ≡ 2 ^ suc n = omega (arith, p) in
-    ap₂ ◌++◌ (ap (points gf16 base n) e ∙ points_count n (2 * a)) (ap (points gf16 base n) x ∙ points_count n (suc (2 * a)))
-    ∙ ap (λ z. count_from (2 * a * 2 ^ n) (2 ^ n) ++ count_from z (2 ^ n)) s
-    ∙ count_append (2 ^ n) (2 ^ n) (2 * a * 2 ^ n)
-    ∙ ap₂ count_from (sym e) q
-
 pub up_is : (n j : ℕ) → up j n ≡ j + n
 up_is zero j = omega arith
 up_is (suc n) j = up_is n (suc j) ∙ omega arith
 
-pub two : (a : ℕ) → a < 65536 → gf16.plus a a ≡ gf16.nought
-two a h = xor_self a
+module _ {E : Type 0} (P : E → Type 0) (o : Operations E) (f : IsField P o) (count : ℕ) (point : ℕ → E) (are_points : ArePoints P count point)
+    (m : ℕ) (factor inverse : ℕ → E) (S : HasSubspaces P o count point m factor inverse) where
+  -- the coset of a multiple of 2 to the power n
+  points_count : (n a : ℕ) → n ≤ m → a * 2 ^ n < count → points o (λ i. point (2 ^ i)) n (point (a * 2 ^ n)) ≡ points_from point (a * 2 ^ n) (2 ^ n)
+  points_count zero a l h = refl
+  points_count (suc n) a l h =
+      let r : 2 ^ n < count = S.room n (omega arith) in
+      let p : 2 ^ suc n ≡ 2 * 2 ^ n = pow-suc 2 n ∙ omega arith in
+      let e : a * 2 ^ suc n ≡ 2 * a * 2 ^ n = ap (λ z. a * z) p ∙ doubled a (2 ^ n) in
+      let s : suc (2 * a) * 2 ^ n ≡ 2 * a * 2 ^ n + 2 ^ n = one_more (2 * a) (2 ^ n) in
+      let x : bit_xor (a * 2 ^ suc n) (2 ^ n) ≡ suc (2 * a) * 2 ^ n =
+      xor_shifted a (suc n) (2 ^ n) (omega (arith, p, pow_pos n)) ∙ ap (λ z. z + 2 ^ n) e ∙ sym s in
+      let y : o.plus (point (a * 2 ^ suc n)) (point (2 ^ n)) ≡ point (suc (2 * a) * 2 ^ n) =
+      sym (S.sums.sum (a * 2 ^ suc n) (2 ^ n) h r) ∙ ap point x in
+      let small : suc (2 * a) * 2 ^ n < count = subst (λ z. z < count) x (S.sums.closed (a * 2 ^ suc n) (2 ^ n) h r) in
+      let q : 2 ^ n + 2 ^ n ≡ 2 ^ suc n = omega (arith, p) in
+      let b = λ (i : ℕ). point (2 ^ i) in
+      ap₂ ◌++◌ (ap (λ z. points o b n (point z)) e ∙ points_count n (2 * a) (omega arith) (omega (arith, e, h)))
+      (ap (points o b n) y ∙ points_count n (suc (2 * a)) (omega arith) small)
+      ∙ ap (λ z. points_from point (2 * a * 2 ^ n) (2 ^ n) ++ points_from point z (2 ^ n)) s
+      ∙ points_append point (2 ^ n) (2 ^ n) (2 * a * 2 ^ n)
+      ∙ ap₂ (points_from point) (sym e) q
 
--- ---- over the field of 65,536 elements
+  pub all_converted : (n : ℕ) (x : E) (t : Tree E n) → n < m → P x → Holds P n t
+      → value_in_basis o inverse n (flat (up 0 n) (converted {E = E} o factor 0 n t)) x ≡ value o (flat n t) x
+  all_converted n x t l hx h =
+      let d = converted {E = E} o factor 0 n t in
+      let u : n ≡ up 0 n = omega (arith, up_is n 0) in
+      ap (λ i. value_in_basis o inverse i (flat {B = E} (up 0 n) d) x) u
+      ∙ sym (basis_is P o f S.two (λ i. point (2 ^ i)) m factor inverse S.constants (up 0 n) d x)
+      ∙ converted_is P o f S.two (λ i. point (2 ^ i)) m factor inverse S.constants n t x l hx h
 
-pub gf16_converted : (n x : ℕ) (t : Tree ℕ n) → n < 16 → x < 65536 → Holds (λ c. c < 65536) n t
-    → value_in_basis gf16 inverse n (flat (up 0 n) (converted {E = ℕ} gf16 factor 0 n t)) x ≡ value gf16 (flat n t) x
-gf16_converted n x t l hx h =
-    let d = converted {E = ℕ} gf16 factor 0 n t in
-    let u : n ≡ up 0 n = omega (arith, up_is n 0) in
-    ap (λ i. value_in_basis gf16 inverse i (flat {B = ℕ} (up 0 n) d) x) u
-    ∙ sym (basis_is (λ c. c < 65536) gf16 gf16_field two base 16 factor inverse gf16_factors (up 0 n) d x)
-    ∙ converted_is (λ c. c < 65536) gf16 gf16_field two base 16 factor inverse gf16_factors n t x l hx h
-
-pub gf16_flown : (n a : ℕ) (t : Tree ℕ n) → n < 16 → a * 2 ^ n < 65536 → Holds (λ c. c < 65536) n t
-    → flat {B = ℕ} n (flown gf16 (λ i x. hats gf16 inverse i x) base n (a * 2 ^ n) t) ≡ map (value_in_basis gf16 inverse n (flat n t)) (count_from (a * 2 ^ n) (2 ^ n))
-gf16_flown n a t l k h =
-    let H = are_hats (λ c. c < 65536) gf16 gf16_field two base 16 factor inverse gf16_factors in
-    let pts = points gf16 base n (a * 2 ^ n) in
-    flown_values (λ c. c < 65536) gf16 gf16_field two base 16 (λ i x. hats gf16 inverse i x) H n (a * 2 ^ n) t (omega arith) k h
-    ∙ map_same (λ x. at_point (λ c. c < 65536) gf16 gf16_field two base 16 factor inverse gf16_factors n t x) (value_in_basis gf16 inverse n (flat n t)) pts
-    (each_all (λ x. at_point (λ c. c < 65536) gf16 gf16_field two base 16 factor inverse gf16_factors n t x ≡ value_in_basis gf16 inverse n (flat n t) x)
-    (λ x. basis_is (λ c. c < 65536) gf16 gf16_field two base 16 factor inverse gf16_factors n t x) pts)
-    ∙ ap (map (value_in_basis gf16 inverse n (flat n t))) (points_count n a)
+  pub all_flown : (n a : ℕ) (t : Tree E n) → n < m → a * 2 ^ n < count → Holds P n t
+      → flat {B = E} n (flown o (λ i x. hats o inverse i x) (λ i. point (2 ^ i)) n (point (a * 2 ^ n)) t)
+      ≡ map (value_in_basis o inverse n (flat n t)) (points_from point (a * 2 ^ n) (2 ^ n))
+  all_flown n a t l k h =
+      let b = λ (i : ℕ). point (2 ^ i) in
+      let H = are_hats P o f S.two b m factor inverse S.constants in
+      let pts = points o b n (point (a * 2 ^ n)) in
+      flown_values P o f S.two b m (λ i x. hats o inverse i x) H n (point (a * 2 ^ n)) t (omega arith) (are_points.point_is (a * 2 ^ n) k) h
+      ∙ map_same (λ x. at_point P o f S.two b m factor inverse S.constants n t x) (value_in_basis o inverse n (flat n t)) pts
+      (each_all (λ x. at_point P o f S.two b m factor inverse S.constants n t x ≡ value_in_basis o inverse n (flat n t) x)
+      (λ x. basis_is P o f S.two b m factor inverse S.constants n t x) pts)
+      ∙ ap (map (value_in_basis o inverse n (flat n t))) (points_count n a (omega arith) k)

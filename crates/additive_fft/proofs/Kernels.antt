@@ -1,18 +1,16 @@
 -- Where the polynomials of the subspaces are zero: that of n at the points of the numbers below 2 to the power n, and at no other.
-use Rattle.std.proofs.Common.{◌≡◌, ◌≢◌, ◌<◌, ◌≤◌, ◌+◌, ◌-◌, ◌*◌, ◌^◌, ℕ, zero, suc, inl, inr, refl, sym, ap, ap₂, ◌∙◌, arith}
+use Rattle.std.proofs.Common.{◌≡◌, ◌≢◌, ◌<◌, ◌≤◌, ◌+◌, ◌-◌, ◌*◌, ◌%◌, ◌^◌, ℕ, zero, suc, inl, inr, refl, sym, ap, ap₂, ◌∙◌, arith}
 use Rattle.std.proofs.lemmas.Bool.{cases_lt}
 use lib.Bits.{bit_xor, xor_shifted, xor_self, xor_assoc}
 use lib.Pow.{pow_pos, pow_mono}
+use Rattle.std.proofs.Math.Nat.{mod-eq_of_lt}
 use native.Mathlib.Nat.{pow-suc}
 use Rattle.pet_field.specs.Field.{Operations, IsField, ArePoints}
-use Rattle.pet_field.specs.Gf16.{gf16}
 use Rattle.pet_field.specs.laws.FieldLaws as A
-use Rattle.pet_field.specs.laws.Gf16Laws.{gf16_field, gf16_points}
 use Rattle.additive_fft.specs.Basis.{hats, next_hat}
-use Rattle.additive_fft.specs.Constants.{factor, inverse}
+use Rattle.additive_fft.specs.Subspaces.{HasSubspaces}
 use Rattle.additive_fft.proofs.Flights.{AreHats}
-use Rattle.additive_fft.proofs.Conversions.{AreFactors, are_hats}
-use Rattle.additive_fft.proofs.Factors.{gf16_factors, two}
+use Rattle.additive_fft.proofs.Conversions.{are_hats}
 
 -- the number of the same place of the other half
 above : (n y : ℕ) → y < 2 ^ n → bit_xor (2 ^ n) y ≡ 2 ^ n + y
@@ -23,14 +21,8 @@ above n y l =
 back_again : (p x : ℕ) → bit_xor p (bit_xor p x) ≡ x
 back_again p x = sym (xor_assoc p p x) ∙ ap (λ z. bit_xor z x) (xor_self p)
 
--- the point of a sum of numbers, bit by bit, is the sum of their points
-pub record AddUp {E : Type 0} (o : Operations E) (count : ℕ) (point : ℕ → E) : Type 0 where
-  pub closed : (i j : ℕ) → i < count → j < count → bit_xor i j < count
-  pub sum : (i j : ℕ) → i < count → j < count → point (bit_xor i j) ≡ o.plus (point i) (point j)
-
-module _ {E : Type 0} (P : E → Type 0) (o : Operations E) (f : IsField P o) (two : (a : E) → P a → o.plus a a ≡ o.nought)
-    (count : ℕ) (point : ℕ → E) (points : ArePoints P count point) (sums : AddUp o count point) (m : ℕ) (room : (n : ℕ) → n < m → 2 ^ n < count)
-    (g inverse : ℕ → E) (F : AreFactors P o (λ n. point (2 ^ n)) m g inverse) where
+module _ {E : Type 0} (P : E → Type 0) (o : Operations E) (f : IsField P o) (count : ℕ) (point : ℕ → E) (points : ArePoints P count point)
+    (m : ℕ) (g inverse : ℕ → E) (S : HasSubspaces P o count point m g inverse) where
   next_nothing : (i h : E) → P i → P h → o.plus (o.times h h) h ≡ o.nought → next_hat o i h ≡ o.nought
   next_nothing i h hi hh e = ap (o.times i) e ∙ A.times-zero P o f i hi
 
@@ -43,13 +35,13 @@ module _ {E : Type 0} (P : E → Type 0) (o : Operations E) (f : IsField P o) (t
       let split : o.times h (o.plus h o.unit) ≡ o.nought =
       f.times-plus h h o.unit hh hh f.one_is ∙ ap (o.plus (o.times h h)) (f.times-one h hh) ∙ nothing in
       let next : o.plus h o.unit ≡ o.nought = A.no_zero_divisors P o f h (o.plus h o.unit) hh hh1 some split in
-      other (A.plus_cancel P o f h o.unit o.unit hh f.one_is f.one_is (next ∙ sym (two o.unit f.one_is)))
+      other (A.plus_cancel P o f h o.unit o.unit hh f.one_is f.one_is (next ∙ sym (S.two o.unit f.one_is)))
 
   H : AreHats P o (λ n. point (2 ^ n)) m (λ n x. hats o inverse n x)
-  H = are_hats P o f two (λ n. point (2 ^ n)) m g inverse F
+  H = are_hats P o f S.two (λ n. point (2 ^ n)) m g inverse S.constants
 
   square_one : o.plus (o.times o.unit o.unit) o.unit ≡ o.nought
-  square_one = ap (λ z. o.plus z o.unit) (f.times-one o.unit f.one_is) ∙ two o.unit f.one_is
+  square_one = ap (λ z. o.plus z o.unit) (f.times-one o.unit f.one_is) ∙ S.two o.unit f.one_is
 
   square_zero : o.plus (o.times o.nought o.nought) o.nought ≡ o.nought
   square_zero = f.plus-zero (o.times o.nought o.nought) (f.times_is o.nought o.nought f.zero_is f.zero_is) ∙ A.times-zero P o f o.nought f.zero_is
@@ -61,15 +53,15 @@ module _ {E : Type 0} (P : E → Type 0) (o : Operations E) (f : IsField P o) (t
   -- at the other half
   hat_above : (n y : ℕ) → n < m → y < 2 ^ n → hats o inverse n (point (2 ^ n + y)) ≡ o.plus o.unit (hats o inverse n (point y))
   hat_above n y l h =
-      let r = room n l in
-      ap (λ z. hats o inverse n (point z)) (sym (above n y h)) ∙ ap (λ z. hats o inverse n z) (sums.sum (2 ^ n) y r (omega arith))
+      let r = S.room n l in
+      ap (λ z. hats o inverse n (point z)) (sym (above n y h)) ∙ ap (λ z. hats o inverse n z) (S.sums.sum (2 ^ n) y r (omega arith))
       ∙ H.sum n (point (2 ^ n)) (point y) l (points.point_is (2 ^ n) r) (points.point_is y (omega arith))
       ∙ ap (λ z. o.plus z (hats o inverse n (point y))) (H.here n l)
 
   point_zero : 0 < m → point 0 ≡ o.nought
   point_zero l =
-      let some : 0 < count = omega (arith, room 0 l) in
-      sums.sum 0 0 some some ∙ two (point 0) (points.point_is 0 some)
+      let some : 0 < count = omega (arith, S.room 0 l) in
+      S.sums.sum 0 0 some some ∙ S.two (point 0) (points.point_is 0 some)
 
   pub hat_inside : (n x : ℕ) → n < m → x < 2 ^ n → hats o inverse n (point x) ≡ o.nought
   hat_inside zero x l h =
@@ -79,8 +71,8 @@ module _ {E : Type 0} (P : E → Type 0) (o : Operations E) (f : IsField P o) (t
       let k : n < m = omega arith in
       elim (cases_lt x (2 ^ n)) [
         | inl s ↦
-            next_nothing (inverse n) (hats o inverse n (point x)) (F.inverse_is n l)
-            (H.is n (point x) k (points.point_is x (omega (arith, room n k))))
+            next_nothing (inverse n) (hats o inverse n (point x)) (S.constants.inverse_is n l)
+            (H.is n (point x) k (points.point_is x (omega (arith, S.room n k))))
             (square_plus_is o.nought n (point x) (hat_inside n x k s) square_zero)
         | inr s ↦
             let y : ℕ = x - 2 ^ n in
@@ -88,8 +80,8 @@ module _ {E : Type 0} (P : E → Type 0) (o : Operations E) (f : IsField P o) (t
             let small : y < 2 ^ n = omega (arith, pow-suc 2 n) in
             let one : hats o inverse n (point x) ≡ o.unit =
             ap (λ z. hats o inverse n (point z)) e ∙ hat_above n y k small ∙ ap (o.plus o.unit) (hat_inside n y k small) ∙ f.plus-zero o.unit f.one_is in
-            next_nothing (inverse n) (hats o inverse n (point x)) (F.inverse_is n l)
-            (H.is n (point x) k (points.point_is x (omega (arith, room (suc n) l))))
+            next_nothing (inverse n) (hats o inverse n (point x)) (S.constants.inverse_is n l)
+            (H.is n (point x) k (points.point_is x (omega (arith, S.room (suc n) l))))
             (square_plus_is o.unit n (point x) one square_one)
       ]
 
@@ -100,36 +92,32 @@ module _ {E : Type 0} (P : E → Type 0) (o : Operations E) (f : IsField P o) (t
       absurd (omega arith)
   hat_outside (suc n) x l h s =
       let k : n < m = omega arith in
-      let r = room n k in
+      let r = S.room n k in
       let p : 2 ^ suc n ≡ 2 ^ n * 2 = pow-suc 2 n in
       let y : ℕ = bit_xor (2 ^ n) x in
-      let hy : y < count = sums.closed (2 ^ n) x r h in
+      let hy : y < count = S.sums.closed (2 ^ n) x r h in
       let far : 2 ^ n ≤ y =
       elim (cases_lt y (2 ^ n)) [
         | inl c ↦ absurd (omega (arith, sym (back_again (2 ^ n) x) ∙ above n y c, p))
         | inr c ↦ c
       ] in
-      next_some (inverse n) (g n) (hats o inverse n (point x)) (F.inverse_is n l) (F.factor_is n l) (H.is n (point x) k (points.point_is x h)) (F.inverts n l)
+      next_some (inverse n) (g n) (hats o inverse n (point x)) (S.constants.inverse_is n l) (S.constants.factor_is n l) (H.is n (point x) k (points.point_is x h)) (S.constants.inverts n l)
       (hat_outside n x k h (omega (arith, p, pow_pos n)))
       (λ e.
       hat_outside n y k hy far
-      (ap (λ z. hats o inverse n z) (sums.sum (2 ^ n) x r h) ∙ H.sum n (point (2 ^ n)) (point x) k (points.point_is (2 ^ n) r) (points.point_is x h)
-      ∙ ap₂ o.plus (H.here n k) e ∙ two o.unit f.one_is))
+      (ap (λ z. hats o inverse n z) (S.sums.sum (2 ^ n) x r h) ∙ H.sum n (point (2 ^ n)) (point x) k (points.point_is (2 ^ n) r) (points.point_is x h)
+      ∙ ap₂ o.plus (H.here n k) e ∙ S.two o.unit f.one_is))
 
--- ---- over the field of 65,536 elements
+  pub few_levels : m ≤ 32
+  few_levels =
+      elim (cases_lt 32 m) [
+        | inl s ↦ absurd (omega (arith, S.room 32 s, S.few))
+        | inr s ↦ s
+      ]
 
-gf16_sums : AddUp gf16 65536 (λ i. i)
-gf16_sums = record { closed = λ i j h g. gf16_field.plus_is i j h g; sum = λ i j h g. refl }
+  pub small_level : (n : ℕ) → n < m → n < 32
+  small_level n l = omega (arith, few_levels)
 
-gf16_room : (n : ℕ) → n < 16 → 2 ^ n < 65536
-gf16_room n l = omega (arith, pow_mono {i = n} {j = 15} (omega arith))
-
-pub hat_zero : (n c : ℕ) → n < 16 → c < 2 ^ n → hats gf16 inverse n c ≡ 0
-hat_zero n c l h = hat_inside (λ a. a < 65536) gf16 gf16_field two 65536 (λ i. i) gf16_points gf16_sums 16 gf16_room factor inverse gf16_factors n c l h
-
-pub hat_some : (n c : ℕ) → n < 16 → c < 65536 → 2 ^ n ≤ c → hats gf16 inverse n c ≢ 0
-hat_some n c l h s = hat_outside (λ a. a < 65536) gf16 gf16_field two 65536 (λ i. i) gf16_points gf16_sums 16 gf16_room factor inverse gf16_factors n c l h s
-
-pub not_nothing : (by h : ℕ) → by ≡ h → h ≢ 0 → 0 < by
-not_nothing zero h e n = absurd (n (sym e))
-not_nothing (suc by) h e n = omega arith
+  -- the first number of a coset, as it is shifted
+  pub shifted : (a n : ℕ) → a * 2 ^ n < count → a * 2 ^ n % 4294967296 ≡ a * 2 ^ n
+  shifted a n l = mod-eq_of_lt (omega (arith, S.few))

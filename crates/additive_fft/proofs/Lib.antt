@@ -8,5 +8,5 @@ pub mod Places
 pub mod OneColumn
 pub mod Columns
 pub mod Counting
-pub mod Multiples
 pub mod Zeros
+pub mod Made

@@ -1,4 +1,5 @@
 pub mod Basis
+pub mod Subspaces
 pub mod Constants
 pub mod Steps
 pub mod Trees

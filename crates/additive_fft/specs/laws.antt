@@ -1,2 +1,3 @@
 pub mod PaddedLaws
 pub mod StepLaws
+pub mod Gf16Subspaces

@@ -1,72 +1,106 @@
-//! Single elements: products, powers, and the polynomials of the subspaces at a point.
+//! Single elements: powers, and the polynomials of the subspaces at a point.
 ghost use Rattle.std.specs.Prelude.{◌≡◌, ◌<◌, ◌+◌, ◌*◌};
-ghost use Rattle.pet_field.specs.Gf16.{gf16};
-ghost use Rattle.additive_fft.specs.Basis.{hats, squared};
-ghost use Rattle.additive_fft.specs.Constants.{factor, inverse};
+ghost use Rattle.additive_fft.specs.Basis.{hats, next_hat, squared};
 
+use crate::subspaces::Subspaces;
 use pet_base::Steps;
-use pet_field::{Field, Gf16Plain};
 use std::sync::ledger::Ledger;
 
-/// What the square of each polynomial of a subspace plus the polynomial is, as a multiple of the next.
-const FACTORS: [u16; 15] = [
-    6, 18, 258, 4105, 7164, 23590, 58949, 2861, 5788, 2682, 6018, 6949, 3431, 22095, 61636,
-];
-
-/// The inverses of these factors.
-const INVERSES: [u16; 15] = [
-    30723, 4973, 60035, 613, 21230, 46348, 37670, 42719, 14201, 5337, 42404, 1214, 6583, 45757,
-    55335,
-];
+/// The point of a number.
+pub(crate) fn point_at<F: Subspaces>(f: &F, number: u32) -> F::Elem
+    requires { number < F.COUNT }
+    ensures point { result ≡ F.coding.point_of number }
+    ensures element { F.is_element result }
+{
+    f.point(number)
+}
 
 /// The factor of a level.
-#[tactic(auto, unfolding(crate::specs::Constants::factor))]
-pub(crate) fn factor_of(level: u32) -> u16
-    requires { level < 15 }
-    ensures { result ≡ factor level }
+pub(crate) fn factor_at<F: Subspaces>(f: &F, level: u32) -> F::Elem
+    requires { level + 1 < F.LEVELS }
+    ensures factor { result ≡ F.factor level }
+    ensures element { F.is_element result }
 {
-    FACTORS[level as usize]
+    f.factor_of(level)
 }
 
-/// The inverse of that factor.
-#[tactic(auto, unfolding(crate::specs::Constants::inverse))]
-fn inverse_of(level: u32) -> u16
-    requires { level < 15 }
-    ensures { result ≡ inverse level }
+/// One.
+pub(crate) fn one<F: Subspaces>(f: &F) -> F::Elem
+    ensures one { result ≡ F.coding.ops.unit }
+    ensures element { F.is_element result }
 {
-    INVERSES[level as usize]
+    f.one()
 }
 
-/// The product of the field. It counts one step.
-pub(crate) fn product<L: Ledger>(a: u16, b: u16, steps: &mut Steps<L>) -> u16
-    ensures product { result ≡ gf16.times a b }
+/// The product of two elements. It counts one step.
+pub(crate) fn product<F: Subspaces, L: Ledger>(
+    f: &F,
+    a: F::Elem,
+    b: F::Elem,
+    steps: &mut Steps<L>,
+) -> F::Elem
+    requires first { F.is_element a }
+    requires second { F.is_element b }
+    ensures product { result ≡ F.coding.ops.times a b }
+    ensures element { F.is_element result }
     ensures cost { steps.new ≡ steps.old + 1 }
 {
-    Gf16Plain.mul(a, b, steps)
+    f.mul(a, b, steps)
+}
+
+/// From the polynomial of a level at a point to that of the next there. It counts two steps.
+fn next_level<F: Subspaces, L: Ledger>(
+    f: &F,
+    level: u32,
+    value: F::Elem,
+    steps: &mut Steps<L>,
+) -> F::Elem
+    requires level { level + 1 < F.LEVELS }
+    requires value { F.is_element value }
+    ensures next { result ≡ next_hat F.coding.ops (F.inverse level) value }
+    ensures element { F.is_element result }
+    ensures cost { steps.new ≡ steps.old + 2 }
+{
+    let square = product(f, value, value, steps);
+    let sum = f.add(square, value);
+    f.mul(f.inverse_of(level), sum, steps)
 }
 
 /// The polynomial of the subspace of the numbers below 2^level, at x. It counts two steps for each level.
-pub(crate) fn hat<L: Ledger>(level: u32, x: u16, steps: &mut Steps<L>) -> u16
-    requires { level < 16 }
-    ensures value { result ≡ hats gf16 inverse level x }
+pub(crate) fn hat<F: Subspaces, L: Ledger>(
+    f: &F,
+    level: u32,
+    x: F::Elem,
+    steps: &mut Steps<L>,
+) -> F::Elem
+    requires level { level < F.LEVELS }
+    requires point { F.is_element x }
+    ensures value { result ≡ hats F.coding.ops F.inverse level x }
+    ensures element { F.is_element result }
     ensures cost { steps.new ≡ steps.old + 2 * level }
 {
     let mut value = x;
     for i in 0..level {
-        let square = product(value, value, steps);
-        value = product(inverse_of(i), square ^ value, steps);
+        value = next_level(f, i, value, steps);
     }
     value
 }
 
 /// Squares so often. It counts one step each time.
-pub(crate) fn squares<L: Ledger>(g: u16, count: u32, steps: &mut Steps<L>) -> u16
-    ensures value { result ≡ squared gf16 count g }
+pub(crate) fn squares<F: Subspaces, L: Ledger>(
+    f: &F,
+    g: F::Elem,
+    count: u32,
+    steps: &mut Steps<L>,
+) -> F::Elem
+    requires { F.is_element g }
+    ensures value { result ≡ squared F.coding.ops count g }
+    ensures element { F.is_element result }
     ensures cost { steps.new ≡ steps.old + count }
 {
     let mut value = g;
     for _i in 0..count {
-        value = product(value, value, steps);
+        value = product(f, value, value, steps);
     }
     value
 }

@@ -1,5 +1,5 @@
 //! The values of all columns of a block of rows at the points of a coset of small numbers, by the additive fast Fourier
-//! transform, over the field of 65,536 elements.
+//! transform, over any field of characteristic two whose points add up as their numbers do.
 //!
 //! The subspaces of small numbers are those of the numbers below 2^j. `hats` of `specs/Basis.antt` are their polynomials,
 //! each 0 on its subspace and 1 at 2^j; products of them are a basis of all polynomials. `convert` takes the columns of rows,
@@ -13,7 +13,9 @@
 mod butterflies;
 mod conversion;
 mod element;
+mod subspaces;
 mod transform;
 mod words;
 
+pub use subspaces::Subspaces;
 pub use transform::{convert, values, values_at_coset};

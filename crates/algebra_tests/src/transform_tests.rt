@@ -2,8 +2,10 @@
 ghost use Rattle.std.specs.Prelude.{◌≡◌, ◌+◌, ◌*◌, ◌<◌, ◌≤◌, ◌^◌, length, slice_index, IfOk, ℕ, vec_len};
 
 use crate::digest;
-use additive_fft::{convert, values, values_at_coset};
+use additive_fft::{Subspaces, convert, values, values_at_coset};
 use pet_base::Steps;
+use pet_field::Gf16Plain;
+use pet_tables::Gf16Tables;
 use std::alloc::{AllocError, Global};
 use std::marker::Brand;
 use std::sync::ledger::{Blank, Ledger};
@@ -50,12 +52,13 @@ fn words(alloc: Global, count: usize, known: usize) -> Result<Vec<u16>, AllocErr
 }
 
 /// The digests of the values of rows of such words, at once and by a conversion.
-fn digests<L: Ledger>(
+fn digests<F: Subspaces<Elem = u16>, L: Ledger>(
     alloc: Global,
+    f: &F,
     width: usize,
     level: u32,
     known: usize,
-    block: u16,
+    block: u32,
     count: usize,
     blank: Blank,
 ) -> Result<(u32, u32), AllocError>
@@ -64,34 +67,43 @@ fn digests<L: Ledger>(
     requires some { 0 < blank.parts }
     requires width { width ≤ 100 }
     requires level { level < 8 }
+    requires levels { 8 ≤ F.LEVELS }
+    requires all { (a : ℕ) → a < 65536 → F.is_element a }
+    requires nothing { F.coding.ops.nought ≡ 0 }
     requires known { known ≤ 2 ^ level }
-    requires block { block * 2 ^ level < 65536 }
+    requires block { block * 2 ^ level < F.COUNT }
     requires count { count ≤ 2 ^ level }
 {
     let mut steps = Steps::<L>::new(blank);
     let mut rows = words(alloc, width << level, known * width)?;
     let mut converted = words(alloc, width << level, known * width)?;
-    values(&mut rows, width, level, known, block, count, &mut steps);
-    convert(&mut converted, width, level, known, &mut steps);
-    values_at_coset(&mut converted, width, level, block, count, &mut steps);
+    values(f, &mut rows, width, level, known, block, count, &mut steps);
+    convert(f, &mut converted, width, level, known, &mut steps);
+    values_at_coset(f, &mut converted, width, level, block, count, &mut steps);
     let end = (count * width).min(rows.len()).min(converted.len());
     Ok((digest(&rows[..end]), digest(&converted[..end])))
 }
 
 /// The number of the first row of the table whose digest is another, or how many rows there are.
-fn first_wrong(alloc: Global) -> Result<usize, AllocError> {
+fn first_wrong<F: Subspaces<Elem = u16>>(alloc: Global, f: &F) -> Result<usize, AllocError>
+    requires levels { 8 ≤ F.LEVELS }
+    requires count { F.COUNT ≡ 65536 }
+    requires all { (a : ℕ) → a < 65536 → F.is_element a }
+    requires nothing { F.coding.ops.nought ≡ 0 }
+{
     let mut right = 0;
     for [width, level, known, block, count, digest] in CASES {
         let size = 1 << level.min(7);
         if width > 100 || level > 7 || known > size || count > size || block > 65_535 >> level {
             return Ok(right);
         }
-        let found = digests::<Brand>(
+        let found = digests::<F, Brand>(
             alloc,
+            f,
             width as usize,
             level,
             known as usize,
-            block as u16,
+            block,
             count as usize,
             Blank::new(1),
         )?;
@@ -105,5 +117,11 @@ fn first_wrong(alloc: Global) -> Result<usize, AllocError> {
 
 #[test]
 fn agrees_with_a_model(rt: HostRuntime) {
-    assert_eq!(rt; first_wrong(rt.alloc()).expect(&rt, "memory"), CASES.len());
+    let tables = Gf16Tables::new(rt.alloc()).expect(&rt, "memory");
+    assert_eq!(rt; first_wrong(rt.alloc(), &tables).expect(&rt, "memory"), CASES.len());
+}
+
+#[test]
+fn agrees_with_a_model_by_single_products(rt: HostRuntime) {
+    assert_eq!(rt; first_wrong(rt.alloc(), &Gf16Plain).expect(&rt, "memory"), CASES.len());
 }

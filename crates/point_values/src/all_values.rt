@@ -97,7 +97,7 @@ fn fill_values<L: Ledger>(
         (λ p. map (λ s. value gf16 s (first + p)) (columns_of 0 blocks.now laid.now)) into.new }
     ensures cost { steps.new ≤ steps.old + count * length laid.now }
 {
-    if !fill_transformed(alloc, blocks, laid, stripes, first, count, into, steps) {
+    if !fill_transformed(f, alloc, blocks, laid, stripes, first, count, into, steps) {
         fill_rows(f, blocks, laid, stripes, first, count, into, steps);
     }
 }

@@ -9,6 +9,7 @@ ghost use Rattle.pet_rows.specs.Columns.{column};
 
 use additive_fft::{convert, values_at_coset};
 use pet_base::{MAX_PACKETS, Steps};
+use pet_tables::Gf16Tables;
 use std::sync::ledger::Ledger;
 
 /// The highest level of a transform: it has 4,096 points, as many as a group has packets at most.
@@ -38,6 +39,7 @@ pub(crate) fn coset_of(number: usize, level: u32) -> u16
 /// to `first + count - 1`, which lie in the cosets `from` to `last`: these go into `into`, a row for each number. The rows from
 /// `known` on are zero. Where there are several cosets, `spare` is as long as the rows.
 pub(crate) fn transform<L: Ledger>(
+    f: &Gf16Tables,
     rows: &mut [u16],
     spare: &mut [u16],
     stripes: usize,
@@ -67,15 +69,16 @@ pub(crate) fn transform<L: Ledger>(
     ensures cost { steps.new ≤ steps.old + level * (known * stripes) + 2 ^ (level + 1)
         + (last - from + 1) * (butterflies level * stripes + 2 ^ (level + 1)) }
 {
-    convert(rows, stripes, level, known, steps);
+    convert(f, rows, stripes, level, known, steps);
     fill_cosets(
-        rows, spare, stripes, level, from, last, first, count, into, steps,
+        f, rows, spare, stripes, level, from, last, first, count, into, steps,
     );
 }
 
 /// Writes the values of each column, as coefficients in the basis of the subspaces, coset after coset. The last coset is made
 /// of the rows themselves, each before it of a copy.
 fn fill_cosets<L: Ledger>(
+    f: &Gf16Tables,
     rows: &mut [u16],
     spare: &mut [u16],
     stripes: usize,
@@ -104,13 +107,14 @@ fn fill_cosets<L: Ledger>(
 {
     for coset in from..last {
         spare.copy_from_slice(rows);
-        fill_coset(spare, stripes, level, coset, first, count, into, steps);
+        fill_coset(f, spare, stripes, level, coset, first, count, into, steps);
     }
-    fill_coset(rows, stripes, level, last, first, count, into, steps);
+    fill_coset(f, rows, stripes, level, last, first, count, into, steps);
 }
 
 /// Writes the values of each column at those of the numbers `first` to `first + count - 1` that lie in a coset.
 fn fill_coset<L: Ledger>(
+    f: &Gf16Tables,
     rows: &mut [u16],
     stripes: usize,
     level: u32,
@@ -138,7 +142,8 @@ fn fill_coset<L: Ledger>(
     let begin = usize::from(coset) * size;
     let low = first.max(begin);
     let high = (first + count).min(begin + size);
-    values_at_coset(rows, stripes, level, coset, high - begin, steps);
+    let block = u32::from(coset);
+    values_at_coset(f, rows, stripes, level, block, high - begin, steps);
     copy_rows(rows, stripes, low - begin, into, low - first, high - low);
 }
 

@@ -10,6 +10,7 @@ use crate::cosets::{MAX_LEVEL, coset_of, size_at, transform};
 use crate::wide::side_by_side;
 use pet_base::{MAX_PACKETS, Steps};
 use pet_rows::Block;
+use pet_tables::Gf16Tables;
 use std::alloc::{AllocError, Global};
 use std::sync::ledger::Ledger;
 
@@ -91,6 +92,7 @@ fn room_for(alloc: Global, several: bool, words: usize) -> Result<Vec<u16>, Allo
 /// Writes the values of all stripes at the points of the numbers `first` to `first + count - 1`, a row for each number, if a
 /// transform is taken and there is memory for its buffers. Answers whether it did.
 pub(crate) fn fill_transformed<L: Ledger>(
+    f: &Gf16Tables,
     alloc: Global,
     blocks: &[Block],
     laid: &[u16],
@@ -127,7 +129,7 @@ pub(crate) fn fill_transformed<L: Ledger>(
         return false;
     };
     transform(
-        &mut rows, &mut spare, stripes, level, most, from, last, first, count, into, steps,
+        f, &mut rows, &mut spare, stripes, level, most, from, last, first, count, into, steps,
     );
     true
 }

@@ -94,7 +94,7 @@ fn compare_transform(rt: &HostRuntime, tables: &Gf16Tables, timed: bool) -> io::
     let alloc = rt.alloc();
     let row = words(alloc, group.words())?;
     let start = Instant::now(rt)?;
-    let values = transformed::<Brand>(alloc, &group, &row, Blank::new(1))?;
+    let values = transformed::<Brand>(alloc, tables, &group, &row, Blank::new(1))?;
     let encoded = start.elapsed(rt)?;
     let plain = plain_packets::<Gf16Tables, Brand>(alloc, tables, &group, &row, Blank::new(1))?;
     let encodes = values.starts_with(&plain);

@@ -5,6 +5,7 @@ use crate::group::Group;
 use additive_fft::values;
 use pet_base::Steps;
 use pet_rows::transpose;
+use pet_tables::Gf16Tables;
 use std::alloc::{AllocError, Global};
 use std::sync::ledger::{Blank, Ledger};
 
@@ -19,6 +20,7 @@ const POINTS: usize = 128;
 #[inline(never)]
 pub fn transformed<L: Ledger>(
     alloc: Global,
+    tables: &Gf16Tables,
     group: &Group,
     row: &[u16],
     blank: Blank,
@@ -31,6 +33,7 @@ pub fn transformed<L: Ledger>(
     let stripes = usize::from(group.stripes);
     let mut rows = zeros(alloc, POINTS * stripes)?;
     put_values(
+        tables,
         row,
         usize::from(group.length),
         stripes,
@@ -51,6 +54,7 @@ fn zeros(alloc: Global, count: usize) -> Result<Vec<u16>, AllocError>
 
 /// Lays out the stripes and leaves their values at so many points.
 fn put_values<L: Ledger>(
+    tables: &Gf16Tables,
     row: &[u16],
     count: usize,
     stripes: usize,
@@ -64,6 +68,15 @@ fn put_values<L: Ledger>(
     if count <= POINTS && stripes <= 65_535 && row.len() == count * stripes {
         let (known, _zeros) = rows.split_at_mut(row.len());
         transpose(row, count, stripes, known);
-        values(rows, stripes, LEVEL, count, 0, points.min(POINTS), steps);
+        values(
+            tables,
+            rows,
+            stripes,
+            LEVEL,
+            count,
+            0,
+            points.min(POINTS),
+            steps,
+        );
     }
 }

@@ -1,12 +1,10 @@
 -- Zeros behind the coefficients change no value.
-use Rattle.std.specs.Prelude.{slice_index}
+use Rattle.std.specs.Prelude.{slice_index_or}
 use Rattle.std.proofs.Common.{◌≡◌, ◌≤◌, ◌<◌, ◌+◌, ◌-◌, ◌*◌, ℕ, zero, suc, List, [], ◌∷◌, ◌++◌, inl, inr, length, replicate, refl, sym, ap, ap₂, ◌∙◌, arith}
 use Rattle.std.proofs.lemmas.Bool.{cases_lt}
 use Rattle.std.proofs.lemmas.List.{ext_get_or, get_or-append_right, get_or_append_left, get_or-replicate, length-append, length-replicate}
 use Rattle.pet_field.specs.Field.{Operations, IsField}
 use Rattle.pet_field.specs.laws.FieldLaws as A
-use Rattle.pet_field.specs.Gf16.{gf16}
-use Rattle.pet_field.specs.laws.Gf16Laws.{gf16_field}
 use Rattle.pet_poly.specs.Value.{power, value_from, value}
 use Rattle.pet_rows.specs.Columns.{column}
 use Rattle.pet_rows.specs.laws.ColumnLaws.{length-column, column_at}
@@ -30,26 +28,27 @@ module _ {E : Type 0} (P : E → Type 0) (o : Operations E) (f : IsField P o) wh
   pub value_padded : (cs : List E) (r : ℕ) (x : E) → P x → value o (cs ++ replicate r o.nought) x ≡ value o cs x
   value_padded cs r x hx = value_zeros cs r 0 x hx
 
--- a column that is zero from row k on
-pub padded_column : (w n k c : ℕ) (rows : List ℕ) → c < w → k ≤ n → ((i : ℕ) → k ≤ i → i < n → slice_index rows (i * w + c) ≡ 0)
-    → column 0 w n c rows ≡ column 0 w k c rows ++ replicate (n - k) 0
-padded_column w n k c rows l m zeros =
-    let front = column 0 w k c rows in
-    let nf : length front ≡ k = length-column 0 w k c rows in
-    ext_get_or 0 (column 0 w n c rows) (front ++ replicate (n - k) 0)
-    (length-column 0 w n c rows ∙ sym (length-append front (replicate (n - k) 0) ∙ omega (arith, nf, length-replicate {A = ℕ} (n - k) 0)))
-    (λ i h.
-    let r : i < n = omega (arith, length-column 0 w n c rows) in
-    column_at 0 0 w n c i rows r
-    ∙ elim (cases_lt i k) [
-      | inl s ↦ sym (get_or_append_left front (replicate (n - k) 0) 0 i (omega arith) ∙ column_at 0 0 w k c i rows s)
-      | inr s ↦
-          zeros i s r
-          ∙ sym (get_or-append_right front (replicate (n - k) 0) k i 0 nf s ∙ get_or-replicate (n - k) (i - k) 0 0 (omega arith))
-    ])
+  -- a column that is zero from row k on
+  padded_column : (w n k c : ℕ) (rows : List E) → c < w → k ≤ n → ((i : ℕ) → k ≤ i → i < n → slice_index_or rows (i * w + c) o.nought ≡ o.nought)
+      → column o.nought w n c rows ≡ column o.nought w k c rows ++ replicate (n - k) o.nought
+  padded_column w n k c rows l m zeros =
+      let d = o.nought in
+      let front = column d w k c rows in
+      let nf : length front ≡ k = length-column d w k c rows in
+      ext_get_or d (column d w n c rows) (front ++ replicate (n - k) d)
+      (length-column d w n c rows ∙ sym (length-append front (replicate (n - k) d) ∙ omega (arith, nf, length-replicate {A = E} (n - k) d)))
+      (λ i h.
+      let r : i < n = omega (arith, length-column d w n c rows) in
+      column_at d d w n c i rows r
+      ∙ elim (cases_lt i k) [
+        | inl s ↦ sym (get_or_append_left front (replicate (n - k) d) d i (omega arith) ∙ column_at d d w k c i rows s)
+        | inr s ↦
+            zeros i s r
+            ∙ sym (get_or-append_right front (replicate (n - k) d) k i d nf s ∙ get_or-replicate (n - k) (i - k) d d (omega arith))
+      ])
 
--- its value over the field of 65,536 elements is that of the first k rows
-pub padded_value : (w n k c x : ℕ) (rows : List ℕ) → c < w → k ≤ n → x < 65536 → ((i : ℕ) → k ≤ i → i < n → slice_index rows (i * w + c) ≡ 0)
-    → value gf16 (column 0 w n c rows) x ≡ value gf16 (column 0 w k c rows) x
-padded_value w n k c x rows l m hx zeros =
-    ap (λ cs. value gf16 cs x) (padded_column w n k c rows l m zeros) ∙ value_padded (λ a. a < 65536) gf16 gf16_field (column 0 w k c rows) (n - k) x hx
+  -- its value is that of the first k rows
+  pub padded_value : (w n k c : ℕ) (x : E) (rows : List E) → c < w → k ≤ n → P x → ((i : ℕ) → k ≤ i → i < n → slice_index_or rows (i * w + c) o.nought ≡ o.nought)
+      → value o (column o.nought w n c rows) x ≡ value o (column o.nought w k c rows) x
+  padded_value w n k c x rows l m hx zeros =
+      ap (λ cs. value o cs x) (padded_column w n k c rows l m zeros) ∙ value_padded (column o.nought w k c rows) (n - k) x hx

@@ -1,42 +1,53 @@
 use Rattle.std.proofs.Common.{◌-◌, ◌^◌, ◌+◌, ◌≡◌, ◌∙◌, ap, refl, arith}
+use Rattle.std.proofs.lemmas.List.Elements.{All-append}
 use Rattle.additive_fft.proofs.Columns.{expands_columns, expands_none_columns, length_low, length_high, middle, power_between}
 use Rattle.additive_fft.proofs.Zeros.{from_front, from_back, from_end, from_append, expands_low}
+use Rattle.additive_fft.proofs.Made.{front_are, back_are}
 use Rattle.additive_fft.proofs.conversion.+expand.Goals as goal
 
 pub lift-requires-clause-first : goal.lift-requires-clause-first
-lift-requires-clause-first t c =
+lift-requires-clause-first g t c =
     let n = c.args.level in
     let j = c.args.shift in
     let s = c.split_at_mut-low in
     length_low (2 ^ (j + n + 1)) (2 ^ (j + (n - 1) + 1)) c.args.width _ c.args.rows.now s.result.0.now (power_between j n (omega arith)) c.requires.size refl s.ensures.front
 
 pub lift-requires-clause-second : goal.lift-requires-clause-second
-lift-requires-clause-second t c =
+lift-requires-clause-second g t c =
     let n = c.args.level in
     let j = c.args.shift in
     let s = c.split_at_mut-low in
     length_high (2 ^ (j + n + 1)) (2 ^ (j + (n - 1) + 1)) c.args.width _ c.args.rows.now s.result.1.now (power_between j n (omega arith)) c.requires.size refl s.ensures.back
 
 pub lift-requires-clause-zeros : goal.lift-requires-clause-zeros
-lift-requires-clause-zeros t c = from_back _ c.args.known c.args.rows.now c.split_at_mut-low.result.1.now c.split_at_mut-low.ensures.back c.requires.zeros
+lift-requires-clause-zeros g t c = from_back g.F.Field.coding.ops.nought _ c.args.known c.args.rows.now c.split_at_mut-low.result.1.now c.split_at_mut-low.ensures.back c.requires.zeros
 
 pub expand-requires : goal.expand-requires
-expand-requires t c =
+expand-requires g t c κs within =
     let n = c.args.level in
     let j = c.args.shift in
     let s = c.split_at_mut-low in (
       omega arith,
       (
-        omega arith,
+        within.0,
         (
-          length_low (2 ^ (j + n + 1)) (2 ^ (j + (n - 1) + 1)) c.args.width _ c.args.rows.now s.result.0.now (power_between j n (omega arith)) c.requires.size refl s.ensures.front,
-          from_front _ c.args.known c.args.rows.now s.result.0.now s.ensures.front c.requires.zeros,
+          within.1,
+          (
+            omega arith,
+            (
+              length_low (2 ^ (j + n + 1)) (2 ^ (j + (n - 1) + 1)) c.args.width _ c.args.rows.now s.result.0.now (power_between j n (omega arith)) c.requires.size refl s.ensures.front,
+              (
+                from_front g.F.Field.coding.ops.nought _ c.args.known c.args.rows.now s.result.0.now s.ensures.front c.requires.zeros,
+                (front_are g.F.Field.is_element _ c.args.rows.now s.result.0.now s.ensures.front c.requires.elements, c.requires.small),
+              ),
+            ),
+          ),
         ),
       ),
     )
 
 pub expand-requires-else-known-half : goal.expand-requires-else-known-half
-expand-requires-else-known-half t c =
+expand-requires-else-known-half g t c κs within =
     let n = c.args.level in
     let j = c.args.shift in
     let w = c.args.width in
@@ -46,29 +57,47 @@ expand-requires-else-known-half t c =
     let long = c.lift.auto.low ∙ length_low (2 ^ (j + n + 1)) (2 ^ (j + (n - 1) + 1)) w _ rows s.result.0.now e c.requires.size refl s.ensures.front in (
       omega arith,
       (
-        omega arith,
-        (long, from_end _ c.lift.new.low (omega (arith, long, middle (2 ^ (j + n + 1)) (2 ^ (j + (n - 1) + 1)) w rows e c.requires.size))),
+        within.0,
+        (
+          within.1,
+          (
+            omega arith,
+            (
+              long,
+              (
+                from_end g.F.Field.coding.ops.nought _ c.lift.new.low (omega (arith, long, middle (2 ^ (j + n + 1)) (2 ^ (j + (n - 1) + 1)) w rows e c.requires.size)),
+                (c.lift.ensures.lower, c.requires.small),
+              ),
+            ),
+          ),
+        ),
       ),
     )
 
 pub expand-requires-else-known-half-2 : goal.expand-requires-else-known-half-2
-expand-requires-else-known-half-2 t c =
+expand-requires-else-known-half-2 g t c κs within =
     let n = c.args.level in
     let j = c.args.shift in
     let s = c.split_at_mut-low in (
       omega arith,
       (
-        omega arith,
+        within.0,
         (
-          c.lift.auto.high
-              ∙ length_high (2 ^ (j + n + 1)) (2 ^ (j + (n - 1) + 1)) c.args.width _ c.args.rows.now s.result.1.now (power_between j n (omega arith)) c.requires.size refl s.ensures.back,
-          c.lift.ensures.zeros,
+          within.1,
+          (
+            omega arith,
+            (
+              c.lift.auto.high
+                  ∙ length_high (2 ^ (j + n + 1)) (2 ^ (j + (n - 1) + 1)) c.args.width _ c.args.rows.now s.result.1.now (power_between j n (omega arith)) c.requires.size refl s.ensures.back,
+              (c.lift.ensures.zeros, (c.lift.ensures.higher, c.requires.small)),
+            ),
+          ),
         ),
       ),
     )
 
 pub returns-then-known-half-clause-expanded : goal.returns-then-known-half-clause-expanded
-returns-then-known-half-clause-expanded t c =
+returns-then-known-half-clause-expanded g t c =
     let n = c.args.level in
     let j = c.args.shift in
     let w = c.args.width in
@@ -77,18 +106,20 @@ returns-then-known-half-clause-expanded t c =
     let k = 2 ^ (j + (n - 1) + 1) in
     let e : 2 ^ (j + n + 1) ≡ k + k = power_between j n (omega arith) in
     let q : j + (n - 1) + 1 ≡ j + n = omega arith in
-    expands_low w n (n - 1) j _ k (2 ^ (j + n + 1)) rows s.result.0.now s.result.1.now c.expand.new.rows (omega arith) (ap (λ i. 2 ^ i) q) e c.requires.size refl
-    s.ensures.front s.ensures.back (c.expand.auto.rows ∙ length_low (2 ^ (j + n + 1)) k w _ rows s.result.0.now e c.requires.size refl s.ensures.front)
-    (λ i. from_back _ c.args.known rows s.result.1.now s.ensures.back c.requires.zeros i (omega arith)) c.expand.ensures.expanded
+    expands_low g.F.Field.is_element g.F.Field.coding.ops g.met.F.Field.lawful.field w n (n - 1) j _ k (2 ^ (j + n + 1)) rows s.result.0.now s.result.1.now c.expand.new.rows (omega arith) (ap (λ i. 2 ^ i) q) e c.requires.size refl
+    s.ensures.front s.ensures.back (length_low (2 ^ (j + n + 1)) k w _ rows s.result.0.now e c.requires.size refl s.ensures.front)
+    (c.expand.auto.rows ∙ length_low (2 ^ (j + n + 1)) k w _ rows s.result.0.now e c.requires.size refl s.ensures.front)
+    (front_are g.F.Field.is_element _ rows s.result.0.now s.ensures.front c.requires.elements)
+    (λ i. from_back g.F.Field.coding.ops.nought _ c.args.known rows s.result.1.now s.ensures.back c.requires.zeros i (omega arith)) c.expand.ensures.expanded
 
 pub returns-then-known-half-clause-zeros : goal.returns-then-known-half-clause-zeros
-returns-then-known-half-clause-zeros t c =
+returns-then-known-half-clause-zeros g t c =
     let s = c.split_at_mut-low in
-    from_append c.args.known c.expand.new.rows s.result.1.now c.expand.ensures.zeros
-    (λ i l. from_back _ c.args.known c.args.rows.now s.result.1.now s.ensures.back c.requires.zeros i (omega arith))
+    from_append g.F.Field.coding.ops.nought c.args.known c.expand.new.rows s.result.1.now c.expand.ensures.zeros
+    (λ i l. from_back g.F.Field.coding.ops.nought _ c.args.known c.args.rows.now s.result.1.now s.ensures.back c.requires.zeros i (omega arith))
 
 pub returns-else-known-half-clause-expanded : goal.returns-else-known-half-clause-expanded
-returns-else-known-half-clause-expanded t c =
+returns-else-known-half-clause-expanded g t c =
     let n = c.args.level in
     let j = c.args.shift in
     let w = c.args.width in
@@ -97,13 +128,13 @@ returns-else-known-half-clause-expanded t c =
     let k = 2 ^ (j + (n - 1) + 1) in
     let e : 2 ^ (j + n + 1) ≡ k + k = power_between j n (omega arith) in
     let q : j + (n - 1) + 1 ≡ j + n = omega arith in
-    expands_columns w n (n - 1) j _ k (2 ^ (j + n + 1)) rows s.result.0.now s.result.1.now c.lift.new.low c.lift.new.high c.expand-else-known-half.new.rows
+    expands_columns g.F.Field.coding.ops w n (n - 1) j _ k (2 ^ (j + n + 1)) rows s.result.0.now s.result.1.now c.lift.new.low c.lift.new.high c.expand-else-known-half.new.rows
     c.expand-else-known-half-2.new.rows (omega arith) (ap (λ i. 2 ^ i) q) e c.requires.size refl s.ensures.front s.ensures.back
     (c.expand-else-known-half.auto.rows ∙ c.lift.auto.low ∙ length_low (2 ^ (j + n + 1)) k w _ rows s.result.0.now e c.requires.size refl s.ensures.front) c.lift.ensures.lifted
     c.expand-else-known-half.ensures.expanded c.expand-else-known-half-2.ensures.expanded
 
 pub returns-else-known-half-clause-zeros : goal.returns-else-known-half-clause-zeros
-returns-else-known-half-clause-zeros t c =
+returns-else-known-half-clause-zeros g t c =
     let n = c.args.level in
     let j = c.args.shift in
     let w = c.args.width in
@@ -113,10 +144,28 @@ returns-else-known-half-clause-zeros t c =
     let e : 2 ^ (j + n + 1) ≡ k + k = power_between j n (omega arith) in
     let long = c.expand-else-known-half.auto.rows ∙ c.lift.auto.low ∙ length_low (2 ^ (j + n + 1)) k w _ rows s.result.0.now e c.requires.size refl s.ensures.front in
     let half = middle (2 ^ (j + n + 1)) k w rows e c.requires.size in
-    from_append c.args.known c.expand-else-known-half.new.rows c.expand-else-known-half-2.new.rows
-    (from_end c.args.known c.expand-else-known-half.new.rows (omega (arith, long, half)))
+    from_append g.F.Field.coding.ops.nought c.args.known c.expand-else-known-half.new.rows c.expand-else-known-half-2.new.rows
+    (from_end g.F.Field.coding.ops.nought c.args.known c.expand-else-known-half.new.rows (omega (arith, long, half)))
     (λ i l. c.expand-else-known-half-2.ensures.zeros i (omega (arith, long, half)))
 
 pub returns-else-level-gt0-clause-expanded : goal.returns-else-level-gt0-clause-expanded
-returns-else-level-gt0-clause-expanded t c =
-    expands_none_columns c.args.width c.args.level c.args.shift (2 ^ (c.args.shift + c.args.level + 1)) c.args.rows.now (omega arith)
+returns-else-level-gt0-clause-expanded g t c =
+    expands_none_columns g.F.Field.coding.ops c.args.width c.args.level c.args.shift (2 ^ (c.args.shift + c.args.level + 1)) c.args.rows.now (omega arith)
+
+pub lift-requires-clause-lower : goal.lift-requires-clause-lower
+lift-requires-clause-lower g t c =
+    front_are g.F.Field.is_element _ c.args.rows.now c.split_at_mut-low.result.0.now c.split_at_mut-low.ensures.front c.requires.elements
+
+pub lift-requires-clause-higher : goal.lift-requires-clause-higher
+lift-requires-clause-higher g t c =
+    back_are g.F.Field.is_element _ c.args.rows.now c.split_at_mut-low.result.1.now c.split_at_mut-low.ensures.back c.requires.elements
+
+pub returns-then-known-half-clause-elements : goal.returns-then-known-half-clause-elements
+returns-then-known-half-clause-elements g t c =
+    All-append g.F.Field.is_element c.expand.new.rows c.split_at_mut-low.result.1.now c.expand.ensures.elements
+    (back_are g.F.Field.is_element _ c.args.rows.now c.split_at_mut-low.result.1.now c.split_at_mut-low.ensures.back c.requires.elements)
+
+pub returns-else-known-half-clause-elements : goal.returns-else-known-half-clause-elements
+returns-else-known-half-clause-elements g t c =
+    All-append g.F.Field.is_element c.expand-else-known-half.new.rows c.expand-else-known-half-2.new.rows c.expand-else-known-half.ensures.elements
+    c.expand-else-known-half-2.ensures.elements

@@ -8,15 +8,16 @@ pub returns-clause-values : goal.returns-clause-values
 returns-clause-values g c p i lp l =
     let n = c.args.level in
     let a = c.args.block in
-    c.values_at_coset.ensures.values p i lp l ∙ c.convert.ensures.coefficients i (a * 2 ^ n + p) l (in_coset n a p c.requires.few c.requires.block (omega (arith, c.requires.count)))
+    let x = g.met.F.Field.lawful.points.point_is (a * 2 ^ n + p) (in_coset g.F.Field.is_element g.F.Field.coding.ops g.met.F.Field.lawful.field g.F.Field.COUNT g.F.Field.coding.point_of g.met.F.Field.lawful.points g.F.Subspaces.LEVELS g.F.Subspaces.factor g.F.Subspaces.inverse g.met.F.Subspaces.subspaces n a p c.requires.few c.requires.block (omega (arith, c.requires.count))) in
+    c.values_at_coset.ensures.values p i lp l ∙ c.convert.ensures.coefficients i (g.F.Field.coding.point_of (a * 2 ^ n + p)) l x
 
 pub returns-clause-padded : goal.returns-clause-padded
 returns-clause-padded g c k p i few lp l zeros =
     let n = c.args.level in
     let a = c.args.block in
-    let x = in_coset n a p c.requires.few c.requires.block (omega (arith, c.requires.count)) in
-    c.values_at_coset.ensures.values p i lp l ∙ c.convert.ensures.coefficients i (a * 2 ^ n + p) l x
-    ∙ padded_value c.args.width (2 ^ n) k i (a * 2 ^ n + p) c.args.rows.now l few x zeros
+    let x = g.met.F.Field.lawful.points.point_is (a * 2 ^ n + p) (in_coset g.F.Field.is_element g.F.Field.coding.ops g.met.F.Field.lawful.field g.F.Field.COUNT g.F.Field.coding.point_of g.met.F.Field.lawful.points g.F.Subspaces.LEVELS g.F.Subspaces.factor g.F.Subspaces.inverse g.met.F.Subspaces.subspaces n a p c.requires.few c.requires.block (omega (arith, c.requires.count))) in
+    c.values_at_coset.ensures.values p i lp l ∙ c.convert.ensures.coefficients i (g.F.Field.coding.point_of (a * 2 ^ n + p)) l x
+    ∙ padded_value g.F.Field.is_element g.F.Field.coding.ops g.met.F.Field.lawful.field c.args.width (2 ^ n) k i (g.F.Field.coding.point_of (a * 2 ^ n + p)) c.args.rows.now l few x zeros
 
 pub returns-clause-bounded : goal.returns-clause-bounded
 returns-clause-bounded g c =

@@ -1,12 +1,19 @@
-use Rattle.std.proofs.Common.{◌∙◌, get_or, bit_xor, ap, arith}
-use Rattle.pet_field.specs.Gf16.{gf16}
-use Rattle.additive_fft.proofs.Multiples.{nothing_added}
+use Rattle.std.proofs.Common.{get_or, length, ◌<◌, ◌≡◌, arith}
+use Rattle.additive_fft.proofs.Made.{multiples_are}
+use Rattle.additive_fft.proofs.Zeros.{nothing_added}
 use Rattle.additive_fft.proofs.words.add_multiple.Goals as goal
 
-pub returns-then-by-ne0-clause-sums : goal.returns-then-by-ne0-clause-sums
-returns-then-by-ne0-clause-sums g c i l =
-    c.add_multiple_row.ensures.sums i l ∙ ap (λ f. bit_xor (get_or c.args.into.now i 0) (gf16.times f (get_or c.args.other.now i 0))) c.new.ensures
+pub returns-then-not-none-clause-elements : goal.returns-then-not-none-clause-elements
+returns-then-not-none-clause-elements g c =
+    let F = g.F.Field in
+    let law = g.met.F.Field.lawful.field in
+    multiples_are F.is_element F.coding.ops law c.args.by c.args.into.now c.args.other.now c.add_multiple_row.new.into c.requires.factor c.requires.first c.requires.second
+    c.add_multiple_row.auto.into c.requires.same c.add_multiple_row.ensures.sums
 
-pub returns-else-by-ne0-clause-sums : goal.returns-else-by-ne0-clause-sums
-returns-else-by-ne0-clause-sums g c i l =
-    nothing_added c.args.by (get_or c.args.into.now i 0) (get_or c.args.other.now i 0) (omega (arith, c.if-by-ne0.false)) (omega (arith, c.type_inv.other i))
+pub returns-else-not-none-clause-sums : goal.returns-else-not-none-clause-sums
+returns-else-not-none-clause-sums g c i l =
+    let F = g.F.Field in
+    let law = g.met.F.Field.lawful.field in
+    let z = F.coding.ops.nought in
+    nothing_added F.is_element F.coding.ops law c.args.by (get_or c.args.into.now i z) (get_or c.args.other.now i z) (c.requires.nothing c.if-not-none.false)
+    (c.requires.first i z (omega (arith, c.requires.same))) (c.requires.second i z l)

@@ -1,8 +1,11 @@
-use Rattle.std.proofs.Common.{◌≡◌, take, bit_xor}
-use Rattle.additive_fft.specs.Columnwise.{along}
+use Rattle.std.proofs.Common.{◌≡◌, ℕ, ◌<◌, ◌≤◌, length}
+use Rattle.std.specs.Prelude.{slice_index_or}
 use Rattle.additive_fft.proofs.words.add_words.Given as goal
 
 abbrev pub invariant-loop-i : goal.invariant-loop-i
-invariant-loop-i l = record {
-  places : l.into ≡ along bit_xor l.initial.into (take l.i l.other);
+invariant-loop-i g l = record {
+  long : length l.into ≡ length l.initial.into;
+  done : (k : ℕ) → k < l.i → slice_index_or l.into k g.F.Field.coding.ops.nought
+      ≡ g.F.Field.coding.ops.plus (slice_index_or l.initial.into k g.F.Field.coding.ops.nought) (slice_index_or l.other k g.F.Field.coding.ops.nought);
+  rest : (k : ℕ) → l.i ≤ k → slice_index_or l.into k g.F.Field.coding.ops.nought ≡ slice_index_or l.initial.into k g.F.Field.coding.ops.nought;
 }

@@ -1,12 +1,37 @@
-use Rattle.std.proofs.Common.{◌∙◌, get_or, bit_xor, ap, arith}
-use Rattle.pet_field.specs.Gf16.{gf16}
-use Rattle.additive_fft.proofs.Multiples.{nothing_added}
+use Rattle.std.proofs.Common.{get_or, length, ◌<◌, ◌≡◌, ◌∙◌, sym, arith}
+use Rattle.additive_fft.proofs.Made.{multiples_are, sums_are}
+use Rattle.additive_fft.proofs.Zeros.{nothing_added}
 use Rattle.additive_fft.proofs.words.butterfly.Goals as goal
 
-pub returns-then-by-eq0-clause-low : goal.returns-then-by-eq0-clause-low
-returns-then-by-eq0-clause-low g c i l =
-    nothing_added c.args.by (get_or c.args.low.now i 0) (get_or c.args.high.now i 0) (omega arith) (c.are_elements.ensures i 0 l)
+pub returns-then-none-clause-low : goal.returns-then-none-clause-low
+returns-then-none-clause-low g c i l =
+    let F = g.F.Field in
+    let law = g.met.F.Field.lawful.field in
+    let z = F.coding.ops.nought in
+    nothing_added F.is_element F.coding.ops law c.args.by (get_or c.args.low.now i z) (get_or c.args.high.now i z) (c.requires.nothing c.if-none.true)
+    (c.requires.first i z (omega (arith, c.requires.same))) (c.requires.second i z l)
 
-pub returns-else-by-eq0-clause-low : goal.returns-else-by-eq0-clause-low
-returns-else-by-eq0-clause-low g c i l =
-    c.butterfly_row.ensures.low i l ∙ ap (λ f. bit_xor (get_or c.args.low.now i 0) (gf16.times f (get_or c.args.high.now i 0))) c.new.ensures
+pub returns-then-none-clause-high : goal.returns-then-none-clause-high
+returns-then-none-clause-high g c i l =
+    let F = g.F.Field in
+    let law = g.met.F.Field.lawful.field in
+    let z = F.coding.ops.nought in
+    let m : i < length c.args.low.now = omega (arith, c.requires.same) in
+    c.add_words.ensures.sums i m ∙ law.plus_comm (get_or c.args.high.now i z) (get_or c.args.low.now i z) (c.requires.second i z l) (c.requires.first i z m)
+
+pub returns-else-none-clause-elements : goal.returns-else-none-clause-elements
+returns-else-none-clause-elements g c =
+    let F = g.F.Field in
+    let law = g.met.F.Field.lawful.field in
+    multiples_are F.is_element F.coding.ops law c.args.by c.args.low.now c.args.high.now c.butterfly_row.new.low c.requires.factor c.requires.first c.requires.second
+    c.butterfly_row.auto.low c.requires.same c.butterfly_row.ensures.low
+
+pub returns-else-none-clause-others : goal.returns-else-none-clause-others
+returns-else-none-clause-others g c =
+    let F = g.F.Field in
+    let law = g.met.F.Field.lawful.field in
+    let low =
+    multiples_are F.is_element F.coding.ops law c.args.by c.args.low.now c.args.high.now c.butterfly_row.new.low c.requires.factor c.requires.first c.requires.second
+    c.butterfly_row.auto.low c.requires.same c.butterfly_row.ensures.low in
+    sums_are F.is_element F.coding.ops law c.butterfly_row.new.low c.args.high.now c.butterfly_row.new.high low c.requires.second
+    (c.butterfly_row.auto.high ∙ sym (c.butterfly_row.auto.low ∙ c.requires.same)) (c.butterfly_row.auto.low ∙ c.requires.same) c.butterfly_row.ensures.high

@@ -1,0 +1,5 @@
+use Rattle.std.proofs.Common.{rules}
+use Rattle.additive_fft.proofs.element.point_at.Goals as goal
+
+pub returns-clause-element : goal.returns-clause-element
+returns-clause-element g c = rw c.point.ensures (g.met.F.Field.lawful.points.point_is c.args.number c.requires)

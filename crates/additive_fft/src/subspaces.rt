@@ -1,0 +1,200 @@
+//! A field in whose subspaces of small numbers the transform works.
+ghost use Rattle.std.specs.Prelude.{◌≡◌, ℕ, ◌+◌, ◌<◌, length, All, slice_index_or};
+ghost use Rattle.additive_fft.specs.Constants;
+ghost use Rattle.additive_fft.specs.Subspaces.{HasSubspaces};
+ghost use Rattle.additive_fft.specs.laws.Gf16Subspaces.{gf16_subspaces};
+
+use pet_base::Steps;
+use pet_field::{Field, Gf16Plain};
+use pet_rows::{Products, add_multiple_row, butterfly_row, multiply_row};
+use pet_tables::Gf16Tables;
+use std::sync::ledger::Ledger;
+
+/// A field of characteristic two, in which the point of a sum of numbers, bit by bit, is the sum of their points, and which has
+/// the constants of the subspaces of the numbers below 2^j, for each j below `LEVELS`. A field has the calls on rows by single
+/// products; a faster body has the same contract.
+pub trait Subspaces: Field {
+    /// How many levels have constants.
+    const LEVELS: u32;
+
+    /// `LEVELS`, in contracts.
+    ghost LEVELS: { ℕ };
+
+    /// What the square of each polynomial of a subspace plus the polynomial is, as a multiple of the next.
+    ghost factor: { ℕ → Self.Elem };
+
+    /// The inverses of these factors.
+    ghost inverse: { ℕ → Self.Elem };
+
+    /// The factor of a level.
+    fn factor_of(&self, level: u32) -> Self::Elem
+        requires { level + 1 < LEVELS }
+        ensures { result ≡ factor level };
+
+    /// The inverse of that factor.
+    fn inverse_of(&self, level: u32) -> Self::Elem
+        requires { level + 1 < LEVELS }
+        ensures { result ≡ inverse level };
+
+    /// Multiplies each element of a row by the factor. It counts one step for each.
+    fn multiply_row<L: Ledger>(&self, by: Self::Elem, row: &mut [Self::Elem], steps: &mut Steps<L>)
+        requires factor { Self.is_element by }
+        requires elements { All Self.is_element row.old }
+        ensures products { (i : ℕ) → i < length row.old →
+            slice_index_or row.new i Self.coding.ops.nought ≡ Self.coding.ops.times by (slice_index_or row.old i Self.coding.ops.nought) }
+        ensures cost { steps.new ≡ steps.old + length row.old }
+    {
+        for i in 0..row.len() {
+            row[i] = self.mul(by, row[i], steps);
+        }
+    }
+
+    /// Adds to a row the multiple of another of its length by the factor. It counts one step for each element.
+    fn add_multiple_row<L: Ledger>(
+        &self,
+        by: Self::Elem,
+        other: &[Self::Elem],
+        into: &mut [Self::Elem],
+        steps: &mut Steps<L>,
+    )
+        requires same { length into.old ≡ length other.now }
+        requires factor { Self.is_element by }
+        requires others { All Self.is_element other.now }
+        requires elements { All Self.is_element into.old }
+        ensures sums { (i : ℕ) → i < length other.now →
+            slice_index_or into.new i Self.coding.ops.nought
+            ≡ Self.coding.ops.plus (slice_index_or into.old i Self.coding.ops.nought) (Self.coding.ops.times by (slice_index_or other.now i Self.coding.ops.nought)) }
+        ensures cost { steps.new ≡ steps.old + length other.now }
+    {
+        for i in 0..other.len() {
+            into[i] = self.add(into[i], self.mul(by, other[i], steps));
+        }
+    }
+
+    /// Adds to a row the multiple of another of its length by the factor, and what the first has become to that. It counts one
+    /// step for each element of a row.
+    fn butterfly_row<L: Ledger>(
+        &self,
+        by: Self::Elem,
+        low: &mut [Self::Elem],
+        high: &mut [Self::Elem],
+        steps: &mut Steps<L>,
+    )
+        requires same { length low.old ≡ length high.old }
+        requires factor { Self.is_element by }
+        requires first { All Self.is_element low.old }
+        requires second { All Self.is_element high.old }
+        ensures low { (i : ℕ) → i < length high.old →
+            slice_index_or low.new i Self.coding.ops.nought
+            ≡ Self.coding.ops.plus (slice_index_or low.old i Self.coding.ops.nought) (Self.coding.ops.times by (slice_index_or high.old i Self.coding.ops.nought)) }
+        ensures high { (i : ℕ) → i < length high.old →
+            slice_index_or high.new i Self.coding.ops.nought
+            ≡ Self.coding.ops.plus (slice_index_or low.new i Self.coding.ops.nought) (slice_index_or high.old i Self.coding.ops.nought) }
+        ensures cost { steps.new ≡ steps.old + length high.old }
+    {
+        for i in 0..high.len() {
+            let from = high[i];
+            let sum = self.add(low[i], self.mul(by, from, steps));
+            low[i] = sum;
+            high[i] = self.add(sum, from);
+        }
+    }
+
+    /// The laws of the points and of the constants.
+    ghost subspaces: { HasSubspaces Self.is_element Self.coding.ops Self.COUNT Self.coding.point_of LEVELS factor inverse };
+}
+
+/// What the square of each polynomial of a subspace plus the polynomial is, as a multiple of the next.
+const FACTORS: [u16; 15] = [
+    6, 18, 258, 4105, 7164, 23590, 58949, 2861, 5788, 2682, 6018, 6949, 3431, 22095, 61636,
+];
+
+/// The inverses of these factors.
+const INVERSES: [u16; 15] = [
+    30723, 4973, 60035, 613, 21230, 46348, 37670, 42719, 14201, 5337, 42404, 1214, 6583, 45757,
+    55335,
+];
+
+/// The factor of a level.
+#[tactic(auto, unfolding(crate::specs::Constants::factor))]
+fn gf16_factor(level: u32) -> u16
+    requires { level < 15 }
+    ensures { result ≡ Constants.factor level }
+{
+    FACTORS[level as usize]
+}
+
+/// The inverse of that factor.
+#[tactic(auto, unfolding(crate::specs::Constants::inverse))]
+fn gf16_inverse(level: u32) -> u16
+    requires { level < 15 }
+    ensures { result ≡ Constants.inverse level }
+{
+    INVERSES[level as usize]
+}
+
+/// By single products.
+impl Subspaces for Gf16Plain {
+    const LEVELS: u32 = 16;
+
+    ghost LEVELS = { 16 };
+
+    ghost factor = { Constants.factor };
+
+    ghost inverse = { Constants.inverse };
+
+    fn factor_of(&self, level: u32) -> u16 {
+        gf16_factor(level)
+    }
+
+    fn inverse_of(&self, level: u32) -> u16 {
+        gf16_inverse(level)
+    }
+
+    ghost subspaces = { gf16_subspaces };
+}
+
+/// On vectors.
+impl Subspaces for Gf16Tables {
+    const LEVELS: u32 = 16;
+
+    ghost LEVELS = { 16 };
+
+    ghost factor = { Constants.factor };
+
+    ghost inverse = { Constants.inverse };
+
+    fn factor_of(&self, level: u32) -> u16 {
+        gf16_factor(level)
+    }
+
+    fn inverse_of(&self, level: u32) -> u16 {
+        gf16_inverse(level)
+    }
+
+    fn multiply_row<L: Ledger>(&self, by: u16, row: &mut [u16], steps: &mut Steps<L>) {
+        multiply_row(&Products::new(by), row, steps);
+    }
+
+    fn add_multiple_row<L: Ledger>(
+        &self,
+        by: u16,
+        other: &[u16],
+        into: &mut [u16],
+        steps: &mut Steps<L>,
+    ) {
+        add_multiple_row(&Products::new(by), other, into, steps);
+    }
+
+    fn butterfly_row<L: Ledger>(
+        &self,
+        by: u16,
+        low: &mut [u16],
+        high: &mut [u16],
+        steps: &mut Steps<L>,
+    ) {
+        butterfly_row(&Products::new(by), low, high, steps);
+    }
+
+    ghost subspaces = { gf16_subspaces };
+}
