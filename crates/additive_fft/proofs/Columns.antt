@@ -9,7 +9,7 @@ use lib.Bits.{xor_shifted}
 use Rattle.pet_field.specs.Field.{Operations, IsField, ArePoints}
 use Rattle.pet_rows.specs.Columns.{column}
 use Rattle.pet_rows.specs.laws.ColumnLaws.{length-column, column_at, column_elements, column_front, column_take}
-use Rattle.pet_rows.proofs.RowPlaces.{place_below}
+use Rattle.pet_rows.specs.laws.PlaceLaws.{place_below}
 use Rattle.pet_poly.specs.Value.{value}
 use Rattle.additive_fft.specs.Basis.{hats, squared, value_in_basis}
 use Rattle.additive_fft.specs.Columnwise.{Columnwise, along, Flies, Lifts, Expands, Scales, Converts}

@@ -5,7 +5,6 @@ pub mod FourPlaces
 pub mod HornerSteps
 pub mod ColumnLoop
 pub mod Padding
-pub mod RowPlaces
 mod AddedRows
 pub mod AnyField
 pub mod Parts

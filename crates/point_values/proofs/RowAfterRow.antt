@@ -4,7 +4,7 @@ use Rattle.std.proofs.Common.{◌≡◌, ℕ, inl, inr, ◌+◌, ◌*◌, ◌<�
 use Rattle.std.proofs.lemmas.Bool.{cases_lt}
 use Rattle.std.proofs.lemmas.List.{length-take-le, drop-take, take_at, drop_at}
 use Rattle.std.proofs.lemmas.Slice.{take-put_mid_below}
-use Rattle.pet_rows.proofs.RowPlaces.{more_rows, rows_le}
+use Rattle.pet_rows.specs.laws.PlaceLaws.{more_rows, rows_le}
 
 -- a row is within as many rows
 pub row_within : (p count w : ℕ) → p < count → p * w + w ≤ count * w

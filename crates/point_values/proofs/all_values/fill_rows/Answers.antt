@@ -3,7 +3,7 @@ use Rattle.std.proofs.Common.{◌≡◌, ◌+◌, ◌-◌, ◌*◌, ◌≤◌, l
 use Rattle.std.proofs.lemmas.List.{length-take-le, length-drop}
 use Rattle.pet_poly.specs.Value.{value}
 use Rattle.pet_rows.specs.Blocks.{columns_of}
-use Rattle.pet_rows.proofs.RowPlaces.{more_rows}
+use Rattle.pet_rows.specs.laws.PlaceLaws.{more_rows}
 use Rattle.pet_rows.proofs.Parts.{part_length}
 use Rattle.point_values.proofs.RowAfterRow.{row_within, values_at, row_more}
 use Rattle.point_values.proofs.all_values.fill_rows.Goals as goal

@@ -4,7 +4,7 @@ use Rattle.additive_fft.specs.Constants.{inverse}
 use Rattle.additive_fft.specs.Steps.{butterflies}
 use Rattle.pet_field.specs.Gf16.{gf16}
 use Rattle.pet_rows.specs.Columns.{column}
-use Rattle.pet_rows.proofs.RowPlaces.{more_rows}
+use Rattle.pet_rows.specs.laws.PlaceLaws.{more_rows}
 use Rattle.point_values.proofs.CosetRows.{cosets_more, cost_more}
 use Rattle.point_values.proofs.cosets.fill_cosets.Goals as goal
 

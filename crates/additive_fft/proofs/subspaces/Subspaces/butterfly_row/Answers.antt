@@ -1,6 +1,6 @@
 use Rattle.std.proofs.Common.{◌≡◌, ◌<◌, length, get_or, ap, ap₂, sym, ◌∙◌, arith}
 use Rattle.std.proofs.lemmas.List.{length-set, get_or-set_other, get_or_default}
-use Rattle.pet_rows.proofs.AnyField.{filled}
+use Rattle.pet_rows.specs.laws.PlaceLaws.{filled}
 use Rattle.additive_fft.proofs.subspaces.Subspaces.butterfly_row.Goals as goal
 
 pub loop-i-preserved : goal.loop-i-preserved
