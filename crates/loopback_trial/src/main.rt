@@ -17,28 +17,49 @@ use pet_start::{start_words, words};
 use std::io;
 use std::process::ExitCode;
 
+/// What is printed of the four trials.
+const HERE: &str = "127.0.0.1: what was received is what the store has";
+
+const HERE_BY_6: &str = "[::1]: the same, or no address of this machine";
+
+const IN_USE: &str = "a port in use: refused, and no file is made";
+
+const OF_NO_MACHINE: &str = "an address of no machine: refused, and no file is made";
+
 fn main(rt: HostRuntime) -> io::Result<ExitCode> {
     if !has_no_words(&rt) {
         let status = start_words(&rt, rt.stdout());
         return Ok(ExitCode::from(status.code()));
     }
-    if receive_and_send(&rt, "127.0.0.1")? != Outcome::Agrees {
-        return Ok(ExitCode::FAILURE);
+    if all_come_out(&rt)? {
+        Ok(ExitCode::SUCCESS)
+    } else {
+        Ok(ExitCode::FAILURE)
     }
-    println!(rt; "127.0.0.1: what was received is what the store has")?;
-    if receive_and_send(&rt, "[::1]")? == Outcome::Differs {
-        return Ok(ExitCode::FAILURE);
+}
+
+/// Makes the trials, up to one that does not come out, and prints a line for each that does.
+fn all_come_out(rt: &HostRuntime) -> io::Result<bool> {
+    Ok(
+        comes_out(
+            rt,
+            receive_and_send(rt, "127.0.0.1")? == Outcome::Agrees,
+            HERE,
+        )? && comes_out(
+            rt,
+            receive_and_send(rt, "[::1]")? != Outcome::Differs,
+            HERE_BY_6,
+        )? && comes_out(rt, refuses_a_port_in_use(rt)?, IN_USE)?
+            && comes_out(rt, refuses_an_address_of_no_machine(rt)?, OF_NO_MACHINE)?,
+    )
+}
+
+/// Prints the line of a trial where it came out.
+fn comes_out(rt: &HostRuntime, came_out: bool, line: &str) -> io::Result<bool> {
+    if came_out {
+        println!(rt; "{line}")?;
     }
-    println!(rt; "[::1]: the same, or no address of this machine")?;
-    if !refuses_a_port_in_use(&rt)? {
-        return Ok(ExitCode::FAILURE);
-    }
-    println!(rt; "a port in use: refused, and no file is made")?;
-    if !refuses_an_address_of_no_machine(&rt)? {
-        return Ok(ExitCode::FAILURE);
-    }
-    println!(rt; "an address of no machine: refused, and no file is made")?;
-    Ok(ExitCode::SUCCESS)
+    Ok(came_out)
 }
 
 /// Whether the program was started without words.

@@ -1,9 +1,6 @@
 //! Commands whose address cannot be used.
 use crate::started::{LINK_FAULT, SESSION, pet};
-use std::alloc::Global;
-use std::net::{Net, UdpSocket};
-use std::process::Processes;
-use std::rt::Runtime;
+use std::net::UdpSocket;
 use std::{fs, io};
 
 /// All that such a command prints.
@@ -16,10 +13,7 @@ const OF_NO_MACHINE: &str = "udp:192.0.2.1:0";
 const NO_ADDRESS: &str = "udp:[::g]:9";
 
 /// Whether `receive` is refused at a port that is in use.
-pub fn refuses_a_port_in_use<R>(rt: &R) -> io::Result<bool>
-where
-    R: Runtime + Alloc<A = Global> + Processes + Net,
-{
+pub fn refuses_a_port_in_use(rt: &HostRuntime) -> io::Result<bool> {
     let user = UdpSocket::bind(rt, "127.0.0.1:0")?;
     let port = user.local_addr()?.port();
     let in_use = format!(in rt.alloc(); "udp:127.0.0.1:{port}")?;
@@ -27,27 +21,18 @@ where
 }
 
 /// Whether `receive` and `send` are refused where their address is one of no machine.
-pub fn refuses_an_address_of_no_machine<R>(rt: &R) -> io::Result<bool>
-where
-    R: Runtime + Alloc<A = Global> + Processes,
-{
+pub fn refuses_an_address_of_no_machine(rt: &HostRuntime) -> io::Result<bool> {
     Ok(receive_is_refused(rt, OF_NO_MACHINE)? && is_refused(rt, &["send", "s", "f", NO_ADDRESS])?)
 }
 
 /// Whether `receive` is refused at this address, and makes neither of its files.
-fn receive_is_refused<R>(rt: &R, from: &str) -> io::Result<bool>
-where
-    R: Runtime + Alloc<A = Global> + Processes,
-{
+fn receive_is_refused(rt: &HostRuntime, from: &str) -> io::Result<bool> {
     let refused = is_refused(rt, &["receive", from, SESSION, "no_layers", "no_store"])?;
     Ok(refused && !fs::exists(rt, "no_layers")? && !fs::exists(rt, "no_store")?)
 }
 
 /// Whether the command of these words ends as a failure of the link, and prints that alone.
-fn is_refused<R>(rt: &R, words: &[&str]) -> io::Result<bool>
-where
-    R: Runtime + Alloc<A = Global> + Processes,
-{
+fn is_refused(rt: &HostRuntime, words: &[&str]) -> io::Result<bool> {
     let output = pet(rt, words)?.output(rt)?;
     Ok(output.status.code() == Some(LINK_FAULT) && output.stdout.as_slice() == FAULT_LINE)
 }

@@ -3,8 +3,7 @@ use crate::left::agree;
 use crate::started::{LINK_FAULT, SESSION, pet};
 use std::alloc::Global;
 use std::io::{BufRead, BufReader};
-use std::process::{Processes, Stdio};
-use std::rt::Runtime;
+use std::process::{Child, ExitStatus, Stdio};
 use std::{fs, io};
 
 /// How a trial came out.
@@ -19,39 +18,75 @@ pub enum Outcome {
 }
 
 /// Starts a receiver at a port of this host that the system chooses, and a sender to it, and waits for both.
-pub fn receive_and_send<R>(rt: &R, host: &str) -> io::Result<Outcome>
-where
-    R: Runtime + Alloc<A = Global> + Processes,
-{
-    let alloc = rt.alloc();
-    let from = format!(in alloc; "udp:{host}:0")?;
-    let mut receiver = pet(rt, &["receive", &from, SESSION, "l", "t"])?
-        .stdout(Stdio::piped())
-        .spawn(rt)?;
+pub fn receive_and_send(rt: &HostRuntime, host: &str) -> io::Result<Outcome> {
+    let mut receiver = start_receiver(rt, host)?;
     let Some(output) = receiver.stdout.take() else {
         return Ok(Outcome::Differs);
     };
-    let mut lines = BufReader::new(alloc, output)?;
-    let mut bound = String::new(alloc);
-    lines.read_line(&mut bound)?;
+    let mut lines = BufReader::new(rt.alloc(), output)?;
+    send_to(rt, host, &mut receiver, &mut lines)
+}
+
+/// A receiver at a port of this host that the system chooses, whose output is to be read.
+fn start_receiver(rt: &HostRuntime, host: &str) -> io::Result<Child> {
+    let from = format!(in rt.alloc(); "udp:{host}:0")?;
+    pet(rt, &["receive", &from, SESSION, "l", "t"])?
+        .stdout(Stdio::piped())
+        .spawn(rt)
+}
+
+/// Starts a sender to the port that the receiver tells in its first line, and waits for both.
+fn send_to(
+    rt: &HostRuntime,
+    host: &str,
+    receiver: &mut Child,
+    lines: &mut impl BufRead,
+) -> io::Result<Outcome> {
+    let alloc = rt.alloc();
+    let bound = next_line(alloc, lines)?;
     let Some(port) = number_after("bound ", &bound) else {
-        let is_unbound = receiver.wait()?.code() == Some(LINK_FAULT);
-        return Ok(if is_unbound {
-            Outcome::NotBound
-        } else {
-            Outcome::Differs
-        });
+        return Ok(unbound(receiver.wait()?));
     };
-    let to = format!(in alloc; "udp:{host}:{port}")?;
-    let sent = pet(rt, &["send", "s", "f", &to])?
-        .stdout(Stdio::null())
-        .status(rt)?;
-    let mut read = String::new(alloc);
-    lines.read_line(&mut read)?;
+    let sent = send(rt, host, port)?;
+    let read = next_line(alloc, lines)?;
     let received = receiver.wait()?;
     eprintln!(rt; "{host}: sent {sent}, received {received}, {}", read.trim())?;
+    judged(rt, sent, received, &read)
+}
+
+/// The line that comes next.
+fn next_line(alloc: Global, lines: &mut impl BufRead) -> io::Result<String> {
+    let mut line = String::new(alloc);
+    lines.read_line(&mut line)?;
+    Ok(line)
+}
+
+/// How the trial came out where the receiver told no port and ended so.
+fn unbound(received: ExitStatus) -> Outcome {
+    if received.code() == Some(LINK_FAULT) {
+        Outcome::NotBound
+    } else {
+        Outcome::Differs
+    }
+}
+
+/// How a sender to this port of the host ended.
+fn send(rt: &HostRuntime, host: &str, port: u32) -> io::Result<ExitStatus> {
+    let to = format!(in rt.alloc(); "udp:{host}:{port}")?;
+    pet(rt, &["send", "s", "f", &to])?
+        .stdout(Stdio::null())
+        .status(rt)
+}
+
+/// How the trial came out where both ended so, and the receiver printed this line.
+fn judged(
+    rt: &HostRuntime,
+    sent: ExitStatus,
+    received: ExitStatus,
+    read: &str,
+) -> io::Result<Outcome> {
     let ended = sent.success() && matches!(received.code(), Some(0 | 12));
-    let came = number_after("read ", &read).is_some_and(|count| count > 0);
+    let came = number_after("read ", read).is_some_and(|count| count > 0);
     if ended && came && agree(&fs::read(rt, "l")?, &fs::read(rt, "t")?) {
         Ok(Outcome::Agrees)
     } else {
