@@ -1,4 +1,5 @@
--- The subspaces of small numbers over a field of characteristic two, the polynomial of each, and the basis of their products.
+-- The subspaces of the points of small numbers in a field of characteristic two, the polynomial of each, and the basis of their
+-- products.
 -- Cantor 1989; von zur Gathen and Gerhard 1996; Gao and Mateer 2010; the normalised basis is that of Lin, Chung and Han 2014.
 use Rattle.std.specs.Prelude.{ℕ, zero, suc, List, ◌^◌, take, drop, slice_index_or}
 use Rattle.pet_field.specs.Field.{Operations}
@@ -7,8 +8,9 @@ use Rattle.pet_field.specs.Field.{Operations}
 abbrev pub next_hat : {E : Type 0} → Operations E → E → E → E
 next_hat o i h = o.times i (o.plus (o.times h h) h)
 
--- at x, the polynomial that is 0 at each number below 2 to the power n, and 1 at 2 to the power n: that of n is the square of
--- the one before it plus that one, divided by what this is at 2 to the power n (`inverse` has the inverses of these divisors)
+-- at x, the polynomial that is 0 at the point of each number below 2 to the power n, and 1 at that of 2 to the power n: that of
+-- n is the square of the one before it plus that one, divided by what this is at the point of 2 to the power n (`inverse` has the
+-- inverses of these divisors)
 abbrev pub hats : {E : Type 0} → Operations E → (ℕ → E) → ℕ → E → E
 hats o inverse zero x = x
 hats o inverse (suc n) x = next_hat o (inverse n) (hats o inverse n x)

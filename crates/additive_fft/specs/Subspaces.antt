@@ -3,16 +3,13 @@ use Rattle.std.specs.Prelude.{◌≡◌, ℕ, suc, ◌<◌, ◌≤◌, ◌^◌, 
 use Rattle.pet_field.specs.Field.{Operations}
 use Rattle.additive_fft.specs.Basis.{hats}
 
--- the subspace of n is spanned by the points of these for 0 .. n - 1
-abbrev pub base : {E : Type 0} → (ℕ → E) → ℕ → E
-base point n = point (2 ^ n)
-
 -- the point of a sum of numbers below `count`, bit by bit, is the sum of their points
 pub record AddUp {E : Type 0} (o : Operations E) (count : ℕ) (point : ℕ → E) : Type 0 where
   pub closed : (i j : ℕ) → i < count → j < count → bit_xor i j < count
   pub sum : (i j : ℕ) → i < count → j < count → point (bit_xor i j) ≡ o.plus (point i) (point j)
 
--- the constants for m levels: `inverse n` makes polynomial n + 1 one at b (n + 1), and `factor n` is its inverse
+-- the constants for m levels, where the subspace of n is spanned by b 0 .. b (n - 1): `inverse n` makes polynomial n + 1 one at
+-- b (n + 1), and `factor n` is its inverse
 pub record AreFactors {E : Type 0} (is_element : E → Type 0) (o : Operations E) (b : ℕ → E) (m : ℕ) (factor inverse : ℕ → E) : Type 0 where
   pub base : (n : ℕ) → n < m → is_element (b n)
   pub first : b 0 ≡ o.unit
@@ -21,7 +18,7 @@ pub record AreFactors {E : Type 0} (is_element : E → Type 0) (o : Operations E
   pub inverts : (n : ℕ) → suc n < m → o.times (factor n) (inverse n) ≡ o.unit
   pub one : (n : ℕ) → suc n < m → hats o inverse (suc n) (b (suc n)) ≡ o.unit
 
--- all of it
+-- all of it, with a point for each number below `count`: b n is the point of 2 to the power n
 pub record HasSubspaces {E : Type 0} (is_element : E → Type 0) (o : Operations E) (count : ℕ) (point : ℕ → E) (levels : ℕ) (factor inverse : ℕ → E) : Type 0 where
   pub two : (a : E) → is_element a → o.plus a a ≡ o.nought
   pub sums : AddUp o count point

@@ -66,7 +66,7 @@ fn next_level<F: Subspaces, L: Ledger>(
     f.mul(f.inverse_of(level), sum, steps)
 }
 
-/// The polynomial of the subspace of the numbers below 2^level, at x. It counts two steps for each level.
+/// The polynomial of the subspace of the points of the numbers below 2^level, at x. It counts two steps for each level.
 pub(crate) fn hat<F: Subspaces, L: Ledger>(
     f: &F,
     level: u32,

@@ -1,8 +1,9 @@
 //! The values of all columns of a block of rows at the points of a coset of small numbers, by the additive fast Fourier
-//! transform, over any field of characteristic two whose points add up as their numbers do.
+//! transform, over any field of characteristic two whose points add up as their numbers do (`Subspaces`).
 //!
-//! The subspaces of small numbers are those of the numbers below 2^j. `hats` of `specs/Basis.antt` are their polynomials,
-//! each 0 on its subspace and 1 at 2^j; products of them are a basis of all polynomials. `convert` takes the columns of rows,
+//! The subspaces are those of the points of the numbers below 2^j (Cantor 1989; von zur Gathen and Gerhard 1996). `hats` of
+//! `specs/Basis.antt` are their polynomials, each 0 on its subspace and 1 at the point of 2^j; products of them are a basis of
+//! all polynomials (Lin, Chung and Han 2014). `convert` takes the columns of rows (Gao and Mateer 2010),
 //! as coefficients of powers, to coefficients in that basis, and leaves out rows that are known to be zero; `values_at_coset`
 //! takes these to the values at the points of as many numbers as are asked for, up to 2^level, from a multiple of 2^level on.
 //! One conversion serves for all cosets. `values` does both. Rows stand one after another and may have any width: each step

@@ -1,4 +1,4 @@
-//! A field in whose subspaces of small numbers the transform works.
+//! A field in which the transform works: the constants of the subspaces of the points of small numbers, and the calls on rows.
 ghost use Rattle.std.specs.Prelude.{◌≡◌, ℕ, ◌+◌, ◌<◌, length, All, slice_index_or};
 ghost use Rattle.additive_fft.specs.Constants;
 ghost use Rattle.additive_fft.specs.Subspaces.{HasSubspaces};
@@ -11,16 +11,17 @@ use pet_tables::Gf16Tables;
 use std::sync::ledger::Ledger;
 
 /// A field of characteristic two, in which the point of a sum of numbers, bit by bit, is the sum of their points, and which has
-/// the constants of the subspaces of the numbers below 2^j, for each j below `LEVELS`. A field has the calls on rows by single
-/// products; a faster body has the same contract.
+/// the constants of the subspaces of the points of the numbers below 2^j, for each j below `LEVELS` (Cantor 1989; von zur Gathen
+/// and Gerhard 1996). The polynomials of the subspaces are each 1 at the point of 2^j (Lin, Chung and Han 2014). A field has the
+/// calls on rows by single products; a faster body has the same contract.
 pub trait Subspaces: Field {
-    /// How many levels have constants.
+    /// How many levels there are: the transform takes 2^level rows, for a level below this. Each level but the last has a factor.
     const LEVELS: u32;
 
     /// `LEVELS`, in contracts.
     ghost LEVELS: { ℕ };
 
-    /// What the square of each polynomial of a subspace plus the polynomial is, as a multiple of the next.
+    /// Of each level, what the square of the polynomial of its subspace plus the polynomial is, as a multiple of the next.
     ghost factor: { ℕ → Self.Elem };
 
     /// The inverses of these factors.
@@ -104,7 +105,7 @@ pub trait Subspaces: Field {
     ghost subspaces: { HasSubspaces Self.is_element Self.coding.ops Self.COUNT Self.coding.point_of LEVELS factor inverse };
 }
 
-/// What the square of each polynomial of a subspace plus the polynomial is, as a multiple of the next.
+/// The factors of the field of 65,536 elements, by level, as `specs/Constants.antt` has them.
 const FACTORS: [u16; 15] = [
     6, 18, 258, 4105, 7164, 23590, 58949, 2861, 5788, 2682, 6018, 6949, 3431, 22095, 61636,
 ];
@@ -115,7 +116,7 @@ const INVERSES: [u16; 15] = [
     55335,
 ];
 
-/// The factor of a level.
+/// The factor of a level, over the field of 65,536 elements.
 #[tactic(auto, unfolding(crate::specs::Constants::factor))]
 fn gf16_factor(level: u32) -> u16
     requires { level < 15 }
@@ -133,7 +134,7 @@ fn gf16_inverse(level: u32) -> u16
     INVERSES[level as usize]
 }
 
-/// By single products.
+/// The field of 65,536 elements, with the calls on rows by single products.
 impl Subspaces for Gf16Plain {
     const LEVELS: u32 = 16;
 
@@ -154,7 +155,7 @@ impl Subspaces for Gf16Plain {
     ghost subspaces = { gf16_subspaces };
 }
 
-/// On vectors.
+/// The same field, with the calls on rows by vectors.
 impl Subspaces for Gf16Tables {
     const LEVELS: u32 = 16;
 
