@@ -45,7 +45,7 @@ pub(crate) fn product<F: Subspaces, L: Ledger>(
     ensures element { F.is_element result }
     ensures cost { steps.new ≡ steps.old + 1 }
 {
-    f.mul(a, b, steps)
+    f.single_product(a, b, steps)
 }
 
 /// From the polynomial of a level at a point to that of the next there. It counts two steps.
@@ -63,7 +63,7 @@ fn next_level<F: Subspaces, L: Ledger>(
 {
     let square = product(f, value, value, steps);
     let sum = f.add(square, value);
-    f.mul(f.inverse_of(level), sum, steps)
+    product(f, f.inverse_of(level), sum, steps)
 }
 
 /// The polynomial of the subspace of the points of the numbers below 2^level, at x. It counts two steps for each level.

@@ -37,6 +37,21 @@ pub trait Subspaces: Field {
         requires { level + 1 < LEVELS }
         ensures { result ≡ inverse level };
 
+    /// The product of two elements, between two rows. It counts one step.
+    fn single_product<L: Ledger>(
+        &self,
+        a: Self::Elem,
+        b: Self::Elem,
+        steps: &mut Steps<L>,
+    ) -> Self::Elem
+        requires first { Self.is_element a }
+        requires second { Self.is_element b }
+        ensures product { result ≡ Self.coding.ops.times a b }
+        ensures cost { steps.new ≡ steps.old + 1 }
+    {
+        self.mul(a, b, steps)
+    }
+
     /// Multiplies each element of a row by the factor. It counts one step for each.
     fn multiply_row<L: Ledger>(&self, by: Self::Elem, row: &mut [Self::Elem], steps: &mut Steps<L>)
         requires factor { Self.is_element by }
@@ -171,6 +186,11 @@ impl Subspaces for Gf16Tables {
 
     fn inverse_of(&self, level: u32) -> u16 {
         gf16_inverse(level)
+    }
+
+    // by shifts: so few products do not pay for what their tables take out of the cache
+    fn single_product<L: Ledger>(&self, a: u16, b: u16, steps: &mut Steps<L>) -> u16 {
+        Gf16Plain.mul(a, b, steps)
     }
 
     fn multiply_row<L: Ledger>(&self, by: u16, row: &mut [u16], steps: &mut Steps<L>) {
