@@ -37,7 +37,7 @@ pub trait Subspaces: Field {
         requires { level + 1 < LEVELS }
         ensures { result ≡ inverse level };
 
-    /// The product of two elements, between two rows. It counts one step.
+    /// The product of two elements, of which the transform makes a few for each row. It counts one step.
     fn single_product<L: Ledger>(
         &self,
         a: Self::Elem,
