@@ -51,6 +51,36 @@ fn words(alloc: Global, count: usize, known: usize) -> Result<Vec<u16>, AllocErr
     Ok(words)
 }
 
+/// Takes rows to their values, at once, and as many rows by a conversion.
+fn transform<F: Subspaces<Elem = u16>, L: Ledger>(
+    f: &F,
+    rows: &mut [u16],
+    converted: &mut [u16],
+    width: usize,
+    level: u32,
+    known: usize,
+    block: u32,
+    count: usize,
+    steps: &mut Steps<L>,
+)
+    requires level { level < F.LEVELS }
+    requires all { (a : ℕ) → a < 65536 → F.is_element a }
+    requires nothing { F.coding.ops.nought ≡ 0 }
+    requires size { length rows.old ≡ 2 ^ level * width }
+    requires same { length converted.old ≡ 2 ^ level * width }
+    requires zeros { (i : ℕ) → known * width ≤ i → slice_index rows.old i ≡ 0 }
+    requires others { (i : ℕ) → known * width ≤ i → slice_index converted.old i ≡ 0 }
+    requires known { known ≤ 2 ^ level }
+    requires block { block * 2 ^ level < F.COUNT }
+    requires count { count ≤ 2 ^ level }
+    ensures size { length rows.new ≡ length rows.old }
+    ensures same { length converted.new ≡ length converted.old }
+{
+    values(f, rows, width, level, known, block, count, steps);
+    convert(f, converted, width, level, known, steps);
+    values_at_coset(f, converted, width, level, block, count, steps);
+}
+
 /// The digests of the values of rows of such words, at once and by a conversion.
 fn digests<F: Subspaces<Elem = u16>, L: Ledger>(
     alloc: Global,
@@ -77,9 +107,17 @@ fn digests<F: Subspaces<Elem = u16>, L: Ledger>(
     let mut steps = Steps::<L>::new(blank);
     let mut rows = words(alloc, width << level, known * width)?;
     let mut converted = words(alloc, width << level, known * width)?;
-    values(f, &mut rows, width, level, known, block, count, &mut steps);
-    convert(f, &mut converted, width, level, known, &mut steps);
-    values_at_coset(f, &mut converted, width, level, block, count, &mut steps);
+    transform(
+        f,
+        &mut rows,
+        &mut converted,
+        width,
+        level,
+        known,
+        block,
+        count,
+        &mut steps,
+    );
     let end = (count * width).min(rows.len()).min(converted.len());
     Ok((digest(&rows[..end]), digest(&converted[..end])))
 }
@@ -118,10 +156,16 @@ fn first_wrong<F: Subspaces<Elem = u16>>(alloc: Global, f: &F) -> Result<usize, 
 #[test]
 fn agrees_with_a_model(rt: HostRuntime) {
     let tables = Gf16Tables::new(rt.alloc()).expect(&rt, "memory");
-    assert_eq!(rt; first_wrong(rt.alloc(), &tables).expect(&rt, "memory"), CASES.len());
+    assert_eq!(rt;
+        first_wrong(rt.alloc(), &tables).expect(&rt, "memory"),
+        CASES.len()
+    );
 }
 
 #[test]
 fn agrees_with_a_model_by_single_products(rt: HostRuntime) {
-    assert_eq!(rt; first_wrong(rt.alloc(), &Gf16Plain).expect(&rt, "memory"), CASES.len());
+    assert_eq!(rt;
+        first_wrong(rt.alloc(), &Gf16Plain).expect(&rt, "memory"),
+        CASES.len()
+    );
 }
