@@ -24,6 +24,15 @@ pub(crate) fn factor_at<F: Subspaces>(f: &F, level: u32) -> F::Elem
     f.factor_of(level)
 }
 
+/// The inverse of that factor.
+fn inverse_at<F: Subspaces>(f: &F, level: u32) -> F::Elem
+    requires { level + 1 < F.LEVELS }
+    ensures inverse { result ≡ F.inverse level }
+    ensures element { F.is_element result }
+{
+    f.inverse_of(level)
+}
+
 /// One.
 pub(crate) fn one<F: Subspaces>(f: &F) -> F::Elem
     ensures one { result ≡ F.coding.ops.unit }
@@ -63,7 +72,7 @@ fn next_level<F: Subspaces, L: Ledger>(
 {
     let square = product(f, value, value, steps);
     let sum = f.add(square, value);
-    product(f, f.inverse_of(level), sum, steps)
+    product(f, inverse_at(f, level), sum, steps)
 }
 
 /// The polynomial of the subspace of the points of the numbers below 2^level, at x. It counts two steps for each level.

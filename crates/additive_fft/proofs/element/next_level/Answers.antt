@@ -1,8 +1,5 @@
-use Rattle.std.proofs.Common.{◌+◌, ◌∙◌, ap, ap₂, arith}
+use Rattle.std.proofs.Common.{◌∙◌, ap, ap₂}
 use Rattle.additive_fft.proofs.element.next_level.Goals as goal
-
-pub product-requires-clause-first : goal.product-requires-clause-first
-product-requires-clause-first g c = rw c.inverse_of.ensures (g.met.F.Subspaces.subspaces.constants.inverse_is c.args.level (omega (arith, c.requires.level)))
 
 pub product-requires-clause-second : goal.product-requires-clause-second
 product-requires-clause-second g c =
@@ -11,4 +8,4 @@ product-requires-clause-second g c =
 pub returns-clause-next : goal.returns-clause-next
 returns-clause-next g c =
     let o = g.F.Field.coding.ops in
-    c.product.ensures.product ∙ ap₂ o.times c.inverse_of.ensures (c.add-sum.ensures ∙ ap (λ s. o.plus s c.args.value) c.product-square.ensures.product)
+    c.product.ensures.product ∙ ap₂ o.times c.inverse_at.ensures.inverse (c.add-sum.ensures ∙ ap (λ s. o.plus s c.args.value) c.product-square.ensures.product)
