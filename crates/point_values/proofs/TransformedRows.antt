@@ -1,10 +1,10 @@
 -- Rows of values, of stripes side by side that a transform took to its values.
-use Rattle.std.proofs.Common.{◌≡◌, ℕ, zero, suc, ◌+◌, ◌*◌, ◌/◌, ◌%◌, ◌^◌, ◌<◌, ◌≤◌, List, [], ◌∷◌, length, get_or, take, drop, map, All, inl, inr, replicate, refl, sym, ap, subst, ◌∙◌, arith}
-use native.Mathlib.Nat.{pow-suc}
+use Rattle.std.proofs.Common.{◌≡◌, ℕ, zero, suc, ◌+◌, ◌*◌, ◌/◌, ◌%◌, ◌^◌, ◌<◌, ◌≤◌, List, [], ◌∷◌, length, get_or, take, drop, map, All, inl, inr, replicate, sym, ap, subst, ◌∙◌, arith}
 use Rattle.std.proofs.lemmas.Bool.{cases_lt}
 use Rattle.std.proofs.lemmas.Nat.{pow-add, div-add-mod', div_below, le-div, mod_below}
 use Rattle.std.proofs.lemmas.List.{ext_get_or, get_or-take, get_or-drop, get_or-map, get_or_past, get_or-replicate, length-take-le, length-drop, length-map, length-replicate}
 use Rattle.std.proofs.lemmas.List.Elements.{All-nil, All-head, All-tail, All-append}
+use Rattle.additive_fft.proofs.Counting.{butterflies_are}
 use Rattle.additive_fft.specs.Steps.{butterflies}
 use Rattle.pet_field.specs.Gf16.{gf16}
 use Rattle.pet_field.specs.laws.Gf16Laws.{gf16_field}
@@ -17,14 +17,6 @@ use Rattle.point_values.specs.Matrix.{HasRows}
 use Rattle.point_values.specs.Wide.{AreSideBySide}
 use Rattle.point_values.specs.laws.WideLaws.{value_is_stripe}
 use Rattle.point_values.proofs.RowAfterRow.{row_within}
-
-two_halves : (p n b : ℕ) → 2 * b ≡ n * p → 2 * (p + 2 * b) ≡ suc n * (p * 2)
-two_halves p n b e = grind arith
-
--- half as many as there are rows and levels
-butterflies_are : (n : ℕ) → 2 * butterflies n ≡ n * 2 ^ n
-butterflies_are zero = refl
-butterflies_are (suc n) = two_halves (2 ^ n) n (butterflies n) (butterflies_are n) ∙ ap (λ p. suc n * p) (sym (pow-suc 2 n))
 
 twice_by : (a b : ℕ) → 2 * (a * b) ≡ 2 * a * b
 twice_by a b = grind arith
