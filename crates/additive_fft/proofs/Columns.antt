@@ -1,8 +1,6 @@
 -- Columns of what is made of rows: each step on rows is that step on each column.
-use Rattle.std.proofs.Common.{◌≡◌, ◌<◌, ◌≤◌, ◌+◌, ◌-◌, ◌*◌, ◌/◌, ◌^◌, ◌++◌, ℕ, suc, zero, List, [], ◌∷◌, length, take, drop, get_or, map, All, inl, inr, refl, sym, ap, ap₂, ◌∙◌, arith, bit_xor, subst}
+use Rattle.std.proofs.Common.{◌≡◌, ◌<◌, ◌≤◌, ◌+◌, ◌-◌, ◌*◌, ◌/◌, ◌^◌, ◌++◌, ℕ, suc, zero, List, [], ◌∷◌, length, take, drop, get_or, map, All, refl, sym, ap, ap₂, ◌∙◌, arith, bit_xor, subst}
 use Rattle.std.proofs.Math.Seq.{take-append_seam, drop-append_seam}
-use Rattle.std.proofs.lemmas.Bool.{cases_lt}
-use Rattle.std.proofs.lemmas.Nat.{mul-le, pow-add}
 use Rattle.std.proofs.lemmas.List.{ext_get_or, get_or-drop, get_or-map, length-drop, length-map, length-take-le, take-append-drop, take_all}
 use native.Mathlib.Nat.{pow-suc}
 use lib.Bits.{xor_shifted}
@@ -133,6 +131,28 @@ length_high n p w m rows high e long em h =
     let t : length rows ≡ p * w + p * w = long ∙ ap (λ k. k * w) e ∙ twice p w in
     let q : m ≡ p * w = em ∙ middle n p w rows e long in
     ap length h ∙ length-drop m rows ∙ omega arith
+
+-- both halves are as long
+pub halves_alike : {E : Type 0} (n p w m : ℕ) (rows low high : List E) → n ≡ p + p → length rows ≡ n * w → m ≡ length rows / 2 → low ≡ take m rows → high ≡ drop m rows
+    → length low ≡ length high
+halves_alike n p w m rows low high e long em l h = length_low n p w m rows low e long em l ∙ sym (length_high n p w m rows high e long em h)
+
+-- halves of blocks of 2 to the power j rows
+module _ {E : Type 0} (j level w : ℕ) where
+  pub block_low : (m : ℕ) (rows low : List E) → 0 < level → length rows ≡ 2 ^ (j + level) * w → m ≡ length rows / 2 → low ≡ take m rows
+      → length low ≡ 2 ^ (j + (level - 1)) * w
+  block_low m rows low s long em l = length_low (2 ^ (j + level)) (2 ^ (j + (level - 1))) w m rows low (power_halves j level s) long em l
+
+  pub block_high : (m : ℕ) (rows high : List E) → 0 < level → length rows ≡ 2 ^ (j + level) * w → m ≡ length rows / 2 → high ≡ drop m rows
+      → length high ≡ 2 ^ (j + (level - 1)) * w
+  block_high m rows high s long em h = length_high (2 ^ (j + level)) (2 ^ (j + (level - 1))) w m rows high (power_halves j level s) long em h
+
+  pub block_middle : (rows : List E) → 0 < level → length rows ≡ 2 ^ (j + level) * w → length rows / 2 ≡ 2 ^ (j + (level - 1)) * w
+  block_middle rows s long = middle (2 ^ (j + level)) (2 ^ (j + (level - 1))) w rows (power_halves j level s) long
+
+  pub block_rest : (known : ℕ) (rows high : List E) → 0 < level → length rows ≡ 2 ^ (j + level) * w → length high ≡ 2 ^ (j + (level - 1)) * w → known ≤ length rows
+      → known - length rows / 2 ≤ length high
+  block_rest known rows high s long l h = rest_fits (2 ^ (j + level)) (2 ^ (j + (level - 1))) w known rows high (power_halves j level s) long l h
 
 module _ {E : Type 0} (d : E) where
   module _ (n p w m c : ℕ) (rows : List E) (e : n ≡ p + p) (long : length rows ≡ n * w) (em : m ≡ length rows / 2) (l : c < w) where

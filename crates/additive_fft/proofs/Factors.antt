@@ -9,7 +9,7 @@ use Rattle.additive_fft.specs.Basis.{hats, value_in_basis}
 use Rattle.additive_fft.specs.Subspaces.{HasSubspaces}
 use Rattle.additive_fft.specs.Trees.{Tree, flat, flown, converted, up}
 use Rattle.additive_fft.proofs.Leaves.{Holds, points}
-use Rattle.additive_fft.proofs.Flights.{AreHats, flown_values, map_same, each_all}
+use Rattle.additive_fft.proofs.Flights.{flown_values, map_same, each_all}
 use Rattle.additive_fft.proofs.Conversions.{are_hats, at_point, basis_is, converted_is}
 
 -- the points of c, c + 1 and so on

@@ -1,8 +1,9 @@
 -- Where the polynomials of the subspaces are zero: that of n at the points of the numbers below 2 to the power n, and at no other.
-use Rattle.std.proofs.Common.{◌≡◌, ◌≢◌, ◌<◌, ◌≤◌, ◌+◌, ◌-◌, ◌*◌, ◌%◌, ◌^◌, ℕ, zero, suc, inl, inr, refl, sym, ap, ap₂, ◌∙◌, arith}
-use Rattle.std.proofs.lemmas.Bool.{cases_lt}
+use Rattle.std.specs.Prelude.{nat_lt, true}
+use Rattle.std.proofs.Common.{◌≡◌, ◌≢◌, ◌<◌, ◌≤◌, ◌+◌, ◌-◌, ◌*◌, ◌%◌, ◌^◌, ℕ, zero, suc, inl, inr, sym, ap, ap₂, ◌∙◌, arith}
+use Rattle.std.proofs.lemmas.Bool.{cases_lt, ltb-true}
 use lib.Bits.{bit_xor, xor_shifted, xor_self, xor_assoc}
-use lib.Pow.{pow_pos, pow_mono}
+use lib.Pow.{pow_pos}
 use Rattle.std.proofs.Math.Nat.{mod-eq_of_lt}
 use native.Mathlib.Nat.{pow-suc}
 use Rattle.pet_field.specs.Field.{Operations, IsField, ArePoints}
@@ -84,6 +85,10 @@ module _ {E : Type 0} (P : E → Type 0) (o : Operations E) (f : IsField P o) (c
             (H.is n (point x) k (points.point_is x (omega (arith, S.room (suc n) l))))
             (square_plus_is o.unit n (point x) one square_one)
       ]
+
+  -- a factor that is said to be nothing
+  pub hat_nothing : (n x bit : ℕ) (y by : E) → n < m → by ≡ hats o inverse n y → y ≡ point x → bit ≡ 2 ^ n → nat_lt x bit ≡ true → by ≡ o.nought
+  hat_nothing n x bit y by l is at e below = is ∙ ap (hats o inverse n) at ∙ hat_inside n x l (omega (arith, ltb-true x bit below, e))
 
   pub hat_outside : (n x : ℕ) → n < m → x < count → 2 ^ n ≤ x → hats o inverse n (point x) ≢ o.nought
   hat_outside zero x l h s =

@@ -1,5 +1,5 @@
 -- Rows that are made place by place: they are elements again.
-use Rattle.std.proofs.Common.{◌≡◌, ℕ, ◌<◌, ◌≤◌, List, length, take, drop, get_or, All, sym, subst, arith}
+use Rattle.std.proofs.Common.{◌≡◌, ℕ, ◌<◌, List, length, take, drop, get_or, All, sym, subst, arith}
 use Rattle.std.proofs.lemmas.List.Elements.{All-take, All-drop}
 use Rattle.pet_field.specs.Field.{Operations, IsField}
 use Rattle.pet_rows.proofs.AnyField.{all_from}

@@ -1,9 +1,9 @@
 -- The conversion and the whole over the rows of one column.
-use Rattle.std.proofs.Common.{◌≡◌, ◌<◌, ◌≤◌, ◌+◌, ◌-◌, ◌*◌, ◌%◌, ◌^◌, ◌++◌, ℕ, zero, suc, List, [], ◌∷◌, All, length, take, drop, get_or, map, refl, sym, ap, ap₂, ◌∙◌, arith, add-one, bit_xor, subst}
+use Rattle.std.proofs.Common.{◌≡◌, ◌<◌, ◌≤◌, ◌+◌, ◌-◌, ◌*◌, ◌^◌, ◌++◌, ℕ, zero, suc, List, [], ◌∷◌, All, length, take, drop, get_or, map, refl, sym, ap, ap₂, ◌∙◌, arith, add-one, subst}
 use Rattle.std.specs.List.{AllByRecursion as Each}
 use Rattle.std.proofs.Math.Seq.{take-append_seam, drop-append_seam}
 use Rattle.std.proofs.lemmas.List.{length-append, map-append, get_or-map, length-take-le, length-drop, take-append-drop}
-use Rattle.std.proofs.lemmas.List.Elements.{recursion_from_All, All-from_recursion}
+use Rattle.std.proofs.lemmas.List.Elements.{recursion_from_All}
 use native.Mathlib.Nat.{pow-suc}
 use Rattle.pet_field.specs.Field.{Operations, IsField, ArePoints}
 use Rattle.pet_poly.specs.Value.{value}

@@ -103,9 +103,7 @@ fn scale<F: Subspaces, L: Ledger>(
         + products_of_powers (2 ^ shift * width) level known }
 {
     if level == 0 {
-        let end = known.min(rows.len());
-        let (front, _zeros) = rows.split_at_mut(end);
-        multiply(f, front, a, first, steps);
+        multiply(f, rows, a, first, known, steps);
     } else {
         let below = level - 1;
         let half = rows.len() / 2;
@@ -115,18 +113,8 @@ fn scale<F: Subspaces, L: Ledger>(
         } else {
             let b = product(f, a, squares(f, g, below, steps), steps);
             scale(f, low, width, shift, below, g, a, first, half, steps);
-            scale(
-                f,
-                high,
-                width,
-                shift,
-                below,
-                g,
-                b,
-                false,
-                known - half,
-                steps,
-            );
+            let rest = known - half;
+            scale(f, high, width, shift, below, g, b, false, rest, steps);
         }
     }
 }

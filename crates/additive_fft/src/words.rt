@@ -76,24 +76,30 @@ pub(crate) fn butterfly<F: Subspaces, L: Ledger>(
     }
 }
 
-/// Multiplies words. It counts one step for each word, and none where the factor is said to be 1.
+/// Multiplies words, of which those from `known` on are zero, and stay so. It counts one step for each word before them, and none
+/// where the factor is said to be 1.
 pub(crate) fn multiply<F: Subspaces, L: Ledger>(
     f: &F,
     words: &mut [F::Elem],
     by: F::Elem,
     once: bool,
+    known: usize,
     steps: &mut Steps<L>,
 )
     requires factor { F.is_element by }
     requires unit { once ≡ true → by ≡ F.coding.ops.unit }
     requires words { All F.is_element words.old }
+    requires fits { known ≤ length words.old }
+    requires zeros { (i : ℕ) → known ≤ i → slice_index_or words.old i F.coding.ops.nought ≡ F.coding.ops.nought }
     ensures products { (i : ℕ) → i < length words.old → slice_index_or words.new i F.coding.ops.nought
         ≡ F.coding.ops.times by (slice_index_or words.old i F.coding.ops.nought) }
+    ensures zeros { (i : ℕ) → known ≤ i → slice_index_or words.new i F.coding.ops.nought ≡ F.coding.ops.nought }
     ensures elements { All F.is_element words.new }
-    ensures cost { once ≡ false → steps.new ≡ steps.old + length words.old }
+    ensures cost { once ≡ false → steps.new ≡ steps.old + known }
     ensures free { once ≡ true → steps.new ≡ steps.old }
 {
     if !once {
-        f.multiply_row(by, words, steps);
+        let (front, _zeros) = words.split_at_mut(known);
+        f.multiply_row(by, front, steps);
     }
 }

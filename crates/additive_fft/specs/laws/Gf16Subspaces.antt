@@ -10,7 +10,7 @@ use Rattle.pet_field.specs.Gf16.{gf16}
 use Rattle.pet_field.specs.laws.Gf16Laws.{gf16_field}
 use Rattle.additive_fft.specs.Basis.{hats}
 use Rattle.additive_fft.specs.Constants.{factor, inverse}
-use Rattle.additive_fft.specs.Subspaces.{AddUp, AreFactors, HasSubspaces}
+use Rattle.additive_fft.specs.Subspaces.{AreFactors, HasSubspaces}
 
 unfoldable right : ℕ → Bool
 right zero = true

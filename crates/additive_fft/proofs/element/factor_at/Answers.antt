@@ -1,4 +1,4 @@
-use Rattle.std.proofs.Common.{◌+◌, arith}
+use Rattle.std.proofs.Common.{arith}
 use Rattle.additive_fft.proofs.element.factor_at.Goals as goal
 
 pub returns-clause-element : goal.returns-clause-element

@@ -1,4 +1,4 @@
-use Rattle.std.proofs.Common.{◌+◌, ◌*◌, ◌∙◌, ap, sym, add-one, arith}
+use Rattle.std.proofs.Common.{◌∙◌, ap, sym, add-one, arith}
 use Rattle.additive_fft.specs.Basis.{hats, next_hat}
 use Rattle.additive_fft.proofs.element.hat.Goals as goal
 

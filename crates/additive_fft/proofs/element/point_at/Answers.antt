@@ -1,4 +1,3 @@
-use Rattle.std.proofs.Common.{rules}
 use Rattle.additive_fft.proofs.element.point_at.Goals as goal
 
 pub returns-clause-element : goal.returns-clause-element

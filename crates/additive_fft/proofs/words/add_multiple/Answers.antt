@@ -1,4 +1,4 @@
-use Rattle.std.proofs.Common.{get_or, length, ◌<◌, ◌≡◌, arith}
+use Rattle.std.proofs.Common.{get_or, arith}
 use Rattle.additive_fft.proofs.Made.{multiples_are}
 use Rattle.additive_fft.proofs.Zeros.{nothing_added}
 use Rattle.additive_fft.proofs.words.add_multiple.Goals as goal

@@ -1,4 +1,4 @@
-use Rattle.std.proofs.Common.{get_or, length, ◌<◌, ◌≡◌, ◌∙◌, sym, arith}
+use Rattle.std.proofs.Common.{get_or, length, ◌<◌, ◌∙◌, sym, arith}
 use Rattle.additive_fft.proofs.Made.{multiples_are, sums_are}
 use Rattle.additive_fft.proofs.Zeros.{nothing_added}
 use Rattle.additive_fft.proofs.words.butterfly.Goals as goal
