@@ -1,11 +1,39 @@
-use Rattle.std.proofs.Common.{◌≡◌, ◌+◌, ◌-◌, ◌*◌, ◌<◌, ◌≤◌, ◌++◌, length, map, All, get_or, take, drop, ap, ap₂, sym, ◌∙◌, arith}
+use Rattle.std.proofs.Common.{◌≡◌, ◌+◌, ◌-◌, ◌*◌, ◌<◌, ◌≤◌, ◌++◌, length, map, All, get_or, take, drop, ap, ap₂, sym, ◌∙◌, arith, rules}
 use Rattle.std.proofs.lemmas.List.{length-map, length-take-le, length-drop, get_or-take, take_all}
 use Rattle.std.proofs.lemmas.List.Elements.{All-append, All-take, All-drop, All-same}
 use Rattle.pet_rows.specs.Columns.{column}
-use Rattle.pet_rows.specs.laws.PlaceLaws.{rows_le, more_rows}
+use Rattle.pet_rows.specs.laws.PlaceLaws.{rows_le}
 use Rattle.pet_interp.proofs.Columns.{parts, put_end, back, grown_column}
+use Rattle.pet_interp.proofs.Places.{row_inside, row_long}
 use native.Mathlib.Nat.{mul_comm}
 use Rattle.pet_interp.proofs.rows.add_rows.Goals as goal
+
+pub overflow_mul-met : goal.overflow_mul-met
+overflow_mul-met g c =
+    let room = row_inside c.args.width c.args.count c.args.met (length c.args.rows.now) c.requires.whole c.requires.longer in
+    search rules
+
+pub overflow_mul-from : goal.overflow_mul-from
+overflow_mul-from g c =
+    let room = row_inside c.args.width c.args.count c.args.met (length c.args.rows.now) c.requires.whole c.requires.longer in
+    let below : c.args.from * c.args.width ≤ c.args.met * c.args.width = rows_le c.args.from c.args.met c.args.width (omega arith) in
+    let inside : c.args.from * c.args.width ≤ length c.args.rows.now = omega arith in
+    search rules
+
+pub slice_bounds-add_products-end : goal.slice_bounds-add_products-end
+slice_bounds-add_products-end g c =
+    let room = row_inside c.args.width c.args.count c.args.met (length c.args.rows.now) c.requires.whole c.requires.longer in
+    omega (arith, c.split_at_mut-low.ensures.back_len)
+
+pub slice_bounds-add_products-start : goal.slice_bounds-add_products-start
+slice_bounds-add_products-start g c =
+    let below : c.args.from * c.args.width ≤ c.args.met * c.args.width = rows_le c.args.from c.args.met c.args.width (omega arith) in
+    omega (arith, c.split_at_mut-low.ensures.front_len)
+
+pub add_products-requires-clause-narrow : goal.add_products-requires-clause-narrow
+add_products-requires-clause-narrow g c =
+    let rest = c.split_at_mut-low.result.1.now in
+    rw (row_long c.args.width c.args.count c.args.met c.args.rows.now rest c.split_at_mut-low.ensures.back c.requires.whole c.requires.longer) c.requires.narrow
 
 pub add_products-requires-clause-room : goal.add_products-requires-clause-room
 add_products-requires-clause-room g c =
@@ -14,8 +42,7 @@ add_products-requires-clause-room g c =
     let low = c.split_at_mut-low.result.0.now in
     let rest = c.split_at_mut-low.result.1.now in
     let split = c.split_at_mut-low.ensures in
-    let room : c.args.met * w + w ≤ length c.args.rows.now = omega (arith, c.requires.whole, more_rows c.args.met w, rows_le (c.args.met + 1) c.args.count w (omega arith)) in
-    let row : length (take w rest) ≡ w = length-take-le w rest (omega (arith, split.back_len)) in
+    let row = row_long w c.args.count c.args.met c.args.rows.now rest split.back c.requires.whole c.requires.longer in
     let part : length (take (length low - c.args.from * w) (drop (c.args.from * w) low)) ≡ length low - c.args.from * w =
     length-take-le (length low - c.args.from * w) (drop (c.args.from * w) low) (omega (arith, length-drop (c.args.from * w) low)) in
     let few : c.args.from * w + n * w ≤ c.args.met * w = omega (arith, parts c.args.from n w, rows_le (c.args.from + n) c.args.met w c.requires.room) in
@@ -56,8 +83,7 @@ returns-clause-columns g c =
     let split = c.split_at_mut-low.ensures in
     let new = c.add_products.new.rows in
     let long_factors : length factors ≡ length c.args.factors.now = length-map c.args.factors.now R.element_of in
-    let room : met * w + w ≤ length rows = omega (arith, c.requires.whole, more_rows met w, rows_le (met + 1) k w (omega arith)) in
-    let row : length (take w rest) ≡ w = length-take-le w rest (omega (arith, split.back_len)) in
+    let row = row_long w k met rows rest split.back c.requires.whole c.requires.longer in
     let below : from * w ≤ met * w = rows_le from met w (omega arith) in
     let whole : take (length low - from * w) (drop (from * w) low) ≡ drop (from * w) low = take_all (length low - from * w) (drop (from * w) low) (omega (arith, length-drop (from * w) low)) in
     let long_part : length new ≡ (met - from) * w =
@@ -96,7 +122,6 @@ returns-clause-cost g c =
     let w = c.args.width in
     let n = length c.args.factors.now in
     let rest = c.split_at_mut-low.result.1.now in
-    let room : c.args.met * w + w ≤ length c.args.rows.now = omega (arith, c.requires.whole, more_rows c.args.met w, rows_le (c.args.met + 1) c.args.count w (omega arith)) in
-    let row : length (take w rest) ≡ w = length-take-le w rest (omega (arith, c.split_at_mut-low.ensures.back_len)) in
+    let row = row_long w c.args.count c.args.met c.args.rows.now rest c.split_at_mut-low.ensures.back c.requires.whole c.requires.longer in
     let size : n * length (take w rest) ≡ w * n = ap (λ t. n * t) row ∙ mul_comm n w in
     omega (arith, size, c.add_products.ensures.cost)

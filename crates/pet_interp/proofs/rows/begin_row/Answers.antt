@@ -1,12 +1,62 @@
-use Rattle.std.proofs.Common.{◌≡◌, ◌+◌, ◌*◌, ◌≤◌, length, get_or, take, drop, ap, ◌∙◌, arith}
-use Rattle.std.proofs.lemmas.List.{length-take-le}
+use Rattle.std.proofs.Common.{◌≡◌, ◌*◌, length, get_or, drop, ap, sym, ◌∙◌, arith, rules}
 use Rattle.std.proofs.lemmas.List.Elements.{All-append, All-drop, All-take, All-same}
 use Rattle.pet_poly.specs.Rows.{words}
 use Rattle.pet_poly.specs.Value.{value}
 use Rattle.pet_rows.specs.Columns.{column}
-use Rattle.pet_rows.specs.laws.PlaceLaws.{rows_le, more_rows}
 use Rattle.pet_interp.proofs.Columns.{begun_column}
+use Rattle.pet_interp.proofs.Places.{row_inside, row_long}
 use Rattle.pet_interp.proofs.rows.begin_row.Goals as goal
+
+pub overflow_mul-met : goal.overflow_mul-met
+overflow_mul-met g c =
+    let room = row_inside c.args.width c.args.count c.args.met (length c.args.rows.now) c.requires.whole c.requires.longer in
+    search rules
+
+pub slice_bounds-row-end : goal.slice_bounds-row-end
+slice_bounds-row-end g c =
+    let room = row_inside c.args.width c.args.count c.args.met (length c.args.rows.now) c.requires.whole c.requires.longer in
+    omega (arith, c.split_at_mut-low.ensures.back_len)
+
+pub values-requires-clause-whole : goal.values-requires-clause-whole
+values-requires-clause-whole g c =
+    let w = c.args.width in
+    let rest = c.split_at_mut-low.result.1.now in
+    let part = row_long w c.args.count c.args.met c.args.rows.now rest c.split_at_mut-low.ensures.back c.requires.whole c.requires.longer in
+    omega (arith, c.split_at_mut-low.ensures.front_len, ap (λ n. c.args.met * n) part)
+
+pub values-requires-clause-narrow : goal.values-requires-clause-narrow
+values-requires-clause-narrow g c =
+    let w = c.args.width in
+    let rest = c.split_at_mut-low.result.1.now in
+    let part = row_long w c.args.count c.args.met c.args.rows.now rest c.split_at_mut-low.ensures.back c.requires.whole c.requires.longer in
+    rw part c.requires.narrow
+
+pub values-requires-clause-elements : goal.values-requires-clause-elements
+values-requires-clause-elements g c =
+    let P = g.F.Field.is_element in
+    All-same P c.split_at_mut-low.result.0.now _ c.split_at_mut-low.ensures.front (All-take P (c.args.met * c.args.width) c.args.rows.now c.requires.elements)
+
+pub subtract-requires-clause-values : goal.subtract-requires-clause-values
+subtract-requires-clause-values g c =
+    let w = c.args.width in
+    let rest = c.split_at_mut-low.result.1.now in
+    let part = row_long w c.args.count c.args.met c.args.rows.now rest c.split_at_mut-low.ensures.back c.requires.whole c.requires.longer in
+    c.requires.values ∙ ap (λ n. n * g.F.Field.coding.width) (sym (c.values.auto.into ∙ part))
+
+pub scale-requires-clause-narrow : goal.scale-requires-clause-narrow
+scale-requires-clause-narrow g c =
+    let w = c.args.width in
+    let rest = c.split_at_mut-low.result.1.now in
+    let part = row_long w c.args.count c.args.met c.args.rows.now rest c.split_at_mut-low.ensures.back c.requires.whole c.requires.longer in
+    rw (c.subtract.auto.row ∙ c.values.auto.into ∙ part) c.requires.narrow
+
+pub returns-clause-cost : goal.returns-clause-cost
+returns-clause-cost g c =
+    let w = c.args.width in
+    let rest = c.split_at_mut-low.result.1.now in
+    let part = row_long w c.args.count c.args.met c.args.rows.now rest c.split_at_mut-low.ensures.back c.requires.whole c.requires.longer in
+    let long : length c.subtract.new.row ≡ w = c.subtract.auto.row ∙ c.values.auto.into ∙ part in
+    omega (arith, c.values.ensures.cost, c.scale.ensures.cost, c.split_at_mut-low.ensures.front_len, long)
 
 pub returns-clause-columns : goal.returns-clause-columns
 returns-clause-columns g c =
@@ -23,8 +73,7 @@ returns-clause-columns g c =
     let rest = c.split_at_mut-low.result.1.now in
     let split = c.split_at_mut-low.ensures in
     let x = R.element_of c.args.x.now in
-    let room : met * w + w ≤ length rows = omega (arith, c.requires.whole, more_rows met w, rows_le (met + 1) k w (omega arith)) in
-    let part : length (take w rest) ≡ w = length-take-le w rest (omega (arith, split.back_len)) in
+    let part = row_long w k met rows rest split.back c.requires.whole c.requires.longer in
     let long_values : length c.values.new.into ≡ w = c.values.auto.into ∙ part in
     let long_sub : length c.subtract.new.row ≡ w = c.subtract.auto.row ∙ long_values in
     let long_by : length c.scale.new.row ≡ w = c.scale.auto.row ∙ long_sub in

@@ -1,11 +1,29 @@
 use Rattle.std.proofs.Common.{◌≡◌, ◌∙◌, ◌*◌, true, All, length, map, ap, sym, arith, subst}
 use Rattle.std.specs.Vec.{with_items}
 use Rattle.std.proofs.lemmas.List.{with_items_is}
+use Rattle.std.proofs.lemmas.List.Elements.{All-same}
 use Rattle.pet_rows.specs.Columns.{block_columns}
 use Rattle.pet_interp.specs.Blocks.{HeldBlock, stripes_of}
 use Rattle.pet_interp.specs.Lifted.{grown}
 use Rattle.pet_interp.proofs.BlockStripes.{stripes_each, stripes_waiting, columns_grown, grown_none, each_new, waits_here, each_seen, longer_seen}
 use Rattle.pet_interp.proofs.block.StripeBlock.add_multiples.Goals as goal
+
+pub add_rows-requires-clause-whole : goal.add_rows-requires-clause-whole
+add_rows-requires-clause-whole g c = ap length c.deref_mut.ensures.value ∙ c.self.invariant.whole
+
+pub add_rows-requires-clause-elements : goal.add_rows-requires-clause-elements
+add_rows-requires-clause-elements g c = All-same g.F.Field.is_element c.deref_mut.result.now c.self.inside.places.items c.deref_mut.ensures.value c.self.invariant.elements
+
+pub invariant_of-self : goal.invariant_of-self
+invariant_of-self g c =
+    let b = c.self.inside in
+    let new = c.add_rows.new.rows in
+    let kept = with_items_is b.places new (c.add_rows.auto.rows ∙ c.deref_mut.ensures.len) in
+    record {
+      narrow = c.self.invariant.narrow;
+      whole = ap length kept ∙ c.add_rows.auto.rows ∙ ap length c.deref_mut.ensures.value ∙ c.self.invariant.whole;
+      elements = All-same g.F.Field.is_element _ new kept c.add_rows.ensures.elements;
+    }
 
 pub returns-then-met-self-clause-each : goal.returns-then-met-self-clause-each
 returns-then-met-self-clause-each g c =

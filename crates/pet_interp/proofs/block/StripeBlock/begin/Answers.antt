@@ -1,6 +1,7 @@
 use Rattle.std.proofs.Common.{◌≡◌, ◌∙◌, ◌+◌, ◌*◌, true, All, length, ap, sym, arith, subst}
 use Rattle.std.specs.Vec.{with_items}
 use Rattle.std.proofs.lemmas.List.{with_items_is}
+use Rattle.std.proofs.lemmas.List.Elements.{All-same}
 use Rattle.pet_rows.specs.Columns.{block_columns}
 use Rattle.pet_interp.specs.Blocks.{HeldBlock, stripes_of}
 use Rattle.pet_interp.specs.Lifted.{begun_all}
@@ -8,6 +9,23 @@ use Rattle.pet_poly.specs.Rows.{words}
 use Rattle.pet_poly.specs.laws.RowLaws.{length-words}
 use Rattle.pet_interp.proofs.BlockStripes.{stripes_each, stripes_waiting, columns_begun, begun_none, each_new, waits_here, count_seen, each_seen, longer_seen}
 use Rattle.pet_interp.proofs.block.StripeBlock.begin.Goals as goal
+
+pub begin_row-requires-clause-whole : goal.begin_row-requires-clause-whole
+begin_row-requires-clause-whole g c = ap length c.deref_mut.ensures.value ∙ c.self.invariant.whole
+
+pub begin_row-requires-clause-elements : goal.begin_row-requires-clause-elements
+begin_row-requires-clause-elements g c = All-same g.F.Field.is_element c.deref_mut.result.now c.self.inside.places.items c.deref_mut.ensures.value c.self.invariant.elements
+
+pub invariant_of-self : goal.invariant_of-self
+invariant_of-self g c =
+    let b = c.self.inside in
+    let new = c.begin_row.new.rows in
+    let kept = with_items_is b.places new (c.begin_row.auto.rows ∙ c.deref_mut.ensures.len) in
+    record {
+      narrow = c.self.invariant.narrow;
+      whole = ap length kept ∙ c.begin_row.auto.rows ∙ ap length c.deref_mut.ensures.value ∙ c.self.invariant.whole;
+      elements = All-same g.F.Field.is_element _ new kept c.begin_row.ensures.elements;
+    }
 
 pub begin_row-requires-clause-values : goal.begin_row-requires-clause-values
 begin_row-requires-clause-values g c =
