@@ -11,6 +11,7 @@ use Rattle.pet_poly.specs.laws.InPlaceLaws as I
 use Rattle.pet_rows.specs.Columns.{column}
 use Rattle.pet_rows.specs.laws.ColumnLaws.{length-column, column_at}
 use Rattle.pet_rows.specs.laws.PlaceLaws.{more_rows, rows_le}
+use Rattle.pet_rows.proofs.Parts.{scaled_entry}
 use Rattle.pet_interp.specs.Lifted.{begun, grown}
 
 pub parts : (a b w : ℕ) → (a + b) * w ≡ a * w + b * w
@@ -32,13 +33,6 @@ column_append d w (suc k) (suc m) n c first rest e long l =
     ∙ column_append d w k m n c (drop w first) rest (omega arith) (length-drop w first ∙ omega (arith, long, more_rows m w)) l)
 
 -- ---- a sum with multiples, place by place
-
-pub scaled_low : {E : Type 0} (o : Operations E) (by d : E) (xs ys : List E) (c : ℕ) → c < length ys → length ys ≤ length xs
-    → get_or (scaled_sum o by xs ys) c d ≡ o.plus (get_or xs c d) (o.times by (get_or ys c d))
-scaled_low o by d xs [] c l m = absurd (omega arith)
-scaled_low o by d [] (y ∷ ys) c l m = absurd (omega arith)
-scaled_low o by d (x ∷ xs) (y ∷ ys) zero l m = refl
-scaled_low o by d (x ∷ xs) (y ∷ ys) (suc c) l m = scaled_low o by d xs ys c (omega arith) (omega arith)
 
 pub scaled_high : {E : Type 0} (o : Operations E) (by d : E) (xs ys : List E) (c : ℕ) → length ys ≤ c → length ys ≤ length xs
     → get_or (scaled_sum o by xs ys) c d ≡ get_or xs c d
@@ -143,7 +137,7 @@ module _ {E : Type 0} (P : E → Type 0) (o : Operations E) (f : IsField P o) (w
         | inl h ↦
             sums j h
             ∙ ap₂ o.plus (sym (column_at z z w (met - from) c j old_part m)) (f.times_comm (get_or factors j z) (get_or rest c z) (hf j z h) hr)
-            ∙ sym (scaled_low o (get_or rest c z) z A factors j h fit)
+            ∙ sym (scaled_entry o (get_or rest c z) z A factors j h fit)
         | inr h ↦ others j h m ∙ sym (column_at z z w (met - from) c j old_part m) ∙ sym (scaled_high o (get_or rest c z) z A factors j h fit)
       ])
 
