@@ -1,12 +1,15 @@
 -- Room for the groups of another receiver: what is open then, and what is left where it is taken out again.
-use Rattle.std.specs.Prelude.{filter}
-use Rattle.std.proofs.Common.{◌≡◌, ℕ, cond, Bool, true, false, List, [], ◌∷◌, All, None, Some, Ordering, Less, Equal, Greater, nat_cmp, is_eq, refl, ap, ◌∙◌}
+use Rattle.std.specs.Prelude.{filter, nat_lt, MatchOption}
+use Rattle.std.proofs.Common.{◌≡◌, ℕ, cond, Bool, true, false, List, [], ◌∷◌, All, Option, None, Some, Ordering, Less, Equal, Greater, nat_cmp, is_eq, refl, ap, ◌∙◌}
 use Rattle.std.specs.Ordering.{match_ordering}
 use Rattle.std.specs.BTreeMap.{is_at, insert_entry}
 use Rattle.std.specs.Map.{lookup}
 use Rattle.std.proofs.lemmas.List.Elements.{All-head, All-tail}
 use Rattle.pet_field.specs.Field.{Coding}
-use Rattle.pet_receive.specs.Arrivals.{GroupState}
+use Rattle.packet_frame.specs.declared.frame.Header.{Header}
+use Rattle.packet_set.specs.Packets.{count_in, no_packets}
+use Rattle.kept_sets.specs.laws.KeptSetLaws.{count_none}
+use Rattle.pet_receive.specs.Arrivals.{GroupState, HoldsAfter}
 use Rattle.pet_receive.specs.Joining.{OpensOne, OpensAll}
 
 module _ {X : Type 0} (p : ℕ × X → Bool) where
@@ -29,6 +32,21 @@ module _ {X : Type 0} (p : ℕ × X → Bool) where
 pub filter_all : {A : Type 0} (p : A → Bool) (xs : List A) → All (λ x. p x ≡ true) xs → filter p xs ≡ xs
 filter_all p [] all = refl
 filter_all p (x ∷ xs) all = ap (λ b. cond b (x ∷ filter p xs) (filter p xs)) (All-head (λ y. p y ≡ true) x xs all) ∙ ap (λ t. x ∷ t) (filter_all p xs (All-tail (λ y. p y ≡ true) x xs all))
+
+-- a group that is opened has no packet, so that those that have one are the same
+module _ {E : Type 0} (P : E → Type 0) (c : Coding E) (es mid : List (ℕ × GroupState E)) (k : ℕ) (h : Header) where
+  abbrev has_some : ℕ × GroupState E → Bool
+  has_some e = nat_lt 0 (count_in e.1.packets)
+
+  same_by : (o : Option (GroupState E)) → lookup (is_at (nat_cmp k)) es ≡ o → MatchOption o ((g : GroupState E) × (mid ≡ insert_entry nat_cmp es k g) × (g.packets ≡ no_packets h) × HoldsAfter P c g []) (λ g. mid ≡ es)
+      → filter has_some mid ≡ filter has_some es
+  same_by (Some g) is m = ap (filter has_some) m
+  same_by None is m =
+      let out : nat_lt 0 (count_in m.0.packets) ≡ false = ap (nat_lt 0) (ap count_in m.2 ∙ count_none (List ℕ) h.table.packets) in
+      ap (filter has_some) m.1 ∙ filter_insert has_some es k m.0 out is
+
+  pub opens_same : OpensOne P c es k h mid → filter has_some mid ≡ filter has_some es
+  opens_same m = same_by (lookup (is_at (nat_cmp k)) es) refl m
 
 -- one group more
 pub opens_next : {E : Type 0} (P : E → Type 0) (c : Coding E) (es mid after : List (ℕ × GroupState E)) (e : ℕ × GroupState E) (rest : List (ℕ × GroupState E))

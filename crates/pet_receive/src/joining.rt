@@ -5,10 +5,10 @@ ghost use Rattle.packet_set.specs.Packets.{with_packet, slot_at, count_in};
 ghost use Rattle.pet_interp.specs.Progressive.{step_bound};
 ghost use Rattle.pet_receive.specs.Arrivals.{HoldsAfter, layers_of, stripe_lengths};
 ghost use Rattle.kept_sets.specs.Union.{is_new};
-ghost use Rattle.pet_receive.specs.Joining.{OpensOne, OpensAll, IsReadyAt, IsFillable, HasFilled, CanJoin, JoinsOne, JoinsAll, with_theirs};
+ghost use Rattle.pet_receive.specs.Joining.{OpensAll, IsReadyAt, IsFillable, HasFilled, CanJoin, JoinsOne, JoinsAll, with_theirs};
 
+use crate::opening::open_missing;
 use open_group::OpenGroup;
-use packet_frame::Header;
 use packet_set::PacketSet;
 use pet_base::{NoMemory, Steps};
 use pet_rows::Rows;
@@ -50,27 +50,6 @@ fn open_each<'f, F: Rows>(
     for (group, other) in others.iter() {
         open_missing(alloc, field, groups, *group, other.packets().header())?;
     }
-    Ok(())
-}
-
-/// Opens a group where it is not open.
-fn open_missing<'f, F: Rows>(
-    alloc: Global,
-    field: &'f F,
-    groups: &mut BTreeMap<u32, OpenGroup<'f, F>>,
-    group: u32,
-    header: &Header,
-) -> Result<(), NoMemory>
-    ensures opened { OnOk result (OpensOne F.is_element F.coding groups.old.entries
-        group header.now groups.new.entries) }
-    ensures same { filter (λ e. nat_lt 0 (count_in e.1.packets)) groups.new.entries
-        ≡ filter (λ e. nat_lt 0 (count_in e.1.packets)) groups.old.entries }
-{
-    if groups.contains_key(&group) {
-        return Ok(());
-    }
-    let open = OpenGroup::open(alloc, field, header)?;
-    groups.insert(group, open)?;
     Ok(())
 }
 

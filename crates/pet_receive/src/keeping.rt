@@ -1,21 +1,21 @@
 //! One frame more for the open groups of a receiver.
-ghost use Rattle.std.specs.Prelude.{◌≡◌, ℕ, ◌+◌, ◌<◌, ◌≤◌, cond, is_none, List, [], ◌∷◌, ◌++◌, length, None, Some, MatchOption, option_map, unwrap_or, IfOk, OnOk, OnErr};
+ghost use Rattle.std.specs.Prelude.{◌≡◌, ℕ, ◌+◌, ◌≤◌, cond, is_none, List, [], ◌∷◌, ◌++◌, None, Some, option_map, unwrap_or, IfOk, OnOk, OnErr};
 ghost use Rattle.std.specs.Ordering.{nat_cmp};
-ghost use Rattle.std.specs.BTreeMap.{is_at, insert_entry, IsOrdered};
+ghost use Rattle.std.specs.BTreeMap.{is_at, IsOrdered};
 ghost use Rattle.std.specs.Map.{lookup, set_value};
 ghost use Rattle.pet_base.specs.declared.limits.TheConstants.{MAX_PACKETS};
 ghost use Rattle.packet_frame.specs.Frame.{IsFrame};
 ghost use Rattle.packet_frame.specs.View.{view};
-ghost use Rattle.packet_set.specs.Packets.{with_packet, no_packets, count_in};
+ghost use Rattle.packet_set.specs.Packets.{with_packet, count_in};
 ghost use Rattle.pet_interp.specs.Progressive.{step_bound};
 ghost use Rattle.stripe_plan.specs.Sizes.{cost_of};
 ghost use Rattle.pet_receive.specs.Arrivals.{GroupState, HoldsAfter, stripe_lengths};
 ghost use Rattle.pet_receive.specs.Receiving.{IsReadyFor, HasGrown};
 
+use crate::opening::open_missing;
 use open_group::OpenGroup;
-use packet_frame::{Frame, Header};
+use packet_frame::Frame;
 use pet_base::{NoMemory, Steps};
-use pet_encode::group_cost;
 use pet_rows::Rows;
 use std::alloc::Global;
 use std::collections::BTreeMap;
@@ -46,31 +46,9 @@ pub(crate) fn keep_frame<'f, F: Rows, L: Ledger>(
     ensures err { OnErr result ((groups.new.entries ≡ groups.old.entries) × (steps.new ≡ steps.old)
         × (lookup (is_at (nat_cmp frame.now.header.group)) groups.old.entries ≡ None)) }
 {
-    if groups.contains_key(&frame.header.group) {
-        keep_in(groups, frame, steps);
-        return Ok(0);
-    }
-    open_group(alloc, field, groups, &frame.header)?;
+    let more = open_missing(alloc, field, groups, frame.header.group, &frame.header)?;
     keep_in(groups, frame, steps);
-    Ok(group_cost(&frame.header.table))
-}
-
-/// Opens the group of a header, which is not open.
-fn open_group<'f, F: Rows>(
-    alloc: Global,
-    field: &'f F,
-    groups: &mut BTreeMap<u32, OpenGroup<'f, F>>,
-    header: &Header,
-) -> Result<(), NoMemory>
-    ensures opened { OnOk result ((g : GroupState F.Elem)
-        × (groups.new.entries ≡ insert_entry nat_cmp groups.old.entries header.now.group g)
-        × (g.packets ≡ no_packets header.now)
-        × HoldsAfter F.is_element F.coding g []) }
-    ensures err { OnErr result (groups.new.entries ≡ groups.old.entries) }
-{
-    let open = OpenGroup::open(alloc, field, header)?;
-    groups.insert(header.group, open)?;
-    Ok(())
+    Ok(more)
 }
 
 /// Keeps a frame of an open group. It takes no memory.

@@ -12,6 +12,7 @@ mod checks;
 mod joining;
 mod judge;
 mod keeping;
+mod opening;
 mod receiver;
 mod shown;
 mod totals;
