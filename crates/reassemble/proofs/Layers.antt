@@ -1,5 +1,5 @@
 -- The leading layers, one by one, and the lengths of their bytes.
-use Rattle.std.proofs.Common.{◌≡◌, ℕ, ◌+◌, ◌*◌, ◌<◌, ◌≤◌, List, [], ◌∷◌, ◌++◌, length, map, drop, get_or, Option, None, Some, Result, Ok, Err, refl, sym, ap, subst, ◌∙◌, arith, inl, inr}
+use Rattle.std.proofs.Common.{◌≡◌, ℕ, ◌+◌, ◌*◌, ◌<◌, ◌≤◌, Bool, List, [], ◌∷◌, ◌++◌, length, map, drop, get_or, Option, None, Some, Result, Ok, Err, refl, sym, ap, subst, ◌∙◌, arith, inl, inr}
 use Rattle.std.specs.Prelude.{IfOk, OnOk, option_map}
 use Rattle.std.specs.List.{range_with_len}
 use Rattle.std.proofs.lemmas.Bool.{cases_eq}
@@ -18,6 +18,8 @@ use Rattle.pet_receive.specs.ShownBytes.{IsShown, IsShownIn, IsShownBytes}
 use Rattle.open_group.specs.laws.Needs.{layer_inside, length_is}
 use Rattle.reassemble.specs.declared.leading.ShownLayer.{ShownLayer}
 use Rattle.reassemble.specs.Leading.{AreShownBytes, lengths_in}
+use Rattle.reassemble.specs.Taking.{bytes_each, first_of}
+use Rattle.layer_split.specs.RunTable.{fits}
 
 -- one element more
 pub at_push : {X : Type 0} (Q : ℕ → X → Type 0) (xs : List X) (x d : X) (n : ℕ) → length xs ≡ n → ((i : ℕ) → i < length xs → Q i (get_or xs i d)) → Q n x → (i : ℕ) → i < length (xs ++ x ∷ []) → Q i (get_or (xs ++ x ∷ []) i d)
@@ -67,6 +69,17 @@ opened (Some p) h e = (p, refl)
 
 pub lent : (o : Option Packets) (h : Header) (p : Packets) → Some h ≡ option_map (λ (q : Packets). q.header) o → o ≡ Some p → h ≡ p.header
 lent o h p e is = same_Some h p.header (e ∙ ap (option_map (λ (q : Packets). q.header)) is)
+
+-- the lengths that are read of it are those of the group's layers
+pub lengths_read : (o : Option Packets) (h : Header) (p : Packets) (layers : List LayerSize) (lengths : List ℕ) → Some h ≡ option_map (λ (q : Packets). q.header) o → o ≡ Some p → layers ≡ h.table.layers
+    → lengths ≡ map (λ (l : LayerSize). l.length) layers → lengths ≡ lengths_in p
+lengths_read o h p layers lengths e is layers_are lengths_are = lengths_are ∙ ap (map (λ (l : LayerSize). l.length)) (layers_are ∙ ap (λ (x : Header). x.table.layers) (lent o h p e is))
+
+-- layer 0 of the layers that are lent out as this slice has a run table that fits these, or has none
+pub fits_so : (items slice : List ShownLayer) (lengths : List ℕ) (p : Packets) (so : Bool) → slice ≡ items → lengths ≡ lengths_in p → fits (first_of (bytes_each slice)) lengths ≡ so
+    → fits (first_of (bytes_each items)) (lengths_in p) ≡ so
+fits_so items slice lengths p so same lengths_are is =
+    ap (fits (first_of (bytes_each items))) (sym lengths_are) ∙ (ap (λ (l : List ShownLayer). fits (first_of (bytes_each l)) lengths) (sym same) ∙ is)
 
 -- what three clauses on an answer come to
 pub on_ok : {F : Type 0} (r : Result ℕ F) {P R : ℕ → Type 0} {A B : Type 0} → IfOk r P → OnOk r A → OnOk r B → ((k : ℕ) → P k → A → B → R k) → IfOk r R

@@ -203,20 +203,31 @@ taken_first first front n many is layer within = elim (cases_eq layer 0) [
       behind front n layer (omega arith) ∙ e)
 ]
 
--- the bytes that a run has of its layer, where `at` is the layer and `from` what is taken of it
-pub run_inside : (layers : List (List ℕ)) (i at from len : ℕ) (bytes : List ℕ) → HaveRoom layers → i < run_count (first_of layers) → at ≡ (named_run (first_of layers) i).layer → at < length layers
-    → from ≡ taken_of (first_of layers) i at → len ≡ (named_run (first_of layers) i).len → get_or layers at [] ≡ bytes → from + len ≤ length bytes
-run_inside layers i at from len bytes room lt at_is within from_is len_is bytes_are =
-    let first : List ℕ = first_of layers in
-    let begin : from ≡ start_of first i = from_is ∙ ap (taken_of first i) at_is in
-    let same : length bytes ≡ length (get_or layers (named_run first i).layer []) = ap length (sym bytes_are) ∙ ap (λ k. length (get_or layers k [])) at_is in
-    let fit = room i lt (subst (λ k. k < length layers) at_is within) in
-    omega (arith, begin, same, fit, len_is)
+-- the run of this number, which is of layer `at`: how far this is taken, how long the run is, and the bytes of the layer
+pub record IsRunOf (layers : List (List ℕ)) (i at from len : ℕ) (bytes : List ℕ) : Type 0 where
+  pub inside : i < run_count (first_of layers)
+  pub layer_is : at ≡ (named_run (first_of layers) i).layer
+  pub from_is : from ≡ taken_of (first_of layers) i at
+  pub len_is : len ≡ (named_run (first_of layers) i).len
+  pub bytes_are : get_or layers at [] ≡ bytes
 
-pub run_is : (layers : List (List ℕ)) (i at from len : ℕ) (bytes : List ℕ) → at ≡ (named_run (first_of layers) i).layer
-    → from ≡ taken_of (first_of layers) i at → len ≡ (named_run (first_of layers) i).len → get_or layers at [] ≡ bytes → take len (drop from bytes) ≡ run_bytes layers (first_of layers) i
-run_is layers i at from len bytes at_is from_is len_is bytes_are =
+-- where it begins and ends in the layer, and its bytes
+run_begin : (layers : List (List ℕ)) (i at from len : ℕ) (bytes : List ℕ) → IsRunOf layers i at from len bytes → from ≡ start_of (first_of layers) i
+run_begin layers i at from len bytes run = run.from_is ∙ ap (taken_of (first_of layers) i) run.layer_is
+
+pub run_end : (layers : List (List ℕ)) (i at from len : ℕ) (bytes : List ℕ) → IsRunOf layers i at from len bytes → from + len ≡ start_of (first_of layers) i + (named_run (first_of layers) i).len
+run_end layers i at from len bytes run = omega (arith, run_begin layers i at from len bytes run, run.len_is)
+
+pub run_inside : (layers : List (List ℕ)) (i at from len : ℕ) (bytes : List ℕ) → HaveRoom layers → IsRunOf layers i at from len bytes → at < length layers → from + len ≤ length bytes
+run_inside layers i at from len bytes room run within =
     let first : List ℕ = first_of layers in
-    ap (λ b. take len (drop from b)) (sym bytes_are ∙ ap (λ k. get_or layers k []) at_is)
-    ∙ (ap (λ n. take n (drop from (get_or layers (named_run first i).layer []))) len_is
-    ∙ ap (λ n. take (named_run first i).len (drop n (get_or layers (named_run first i).layer []))) (from_is ∙ ap (taken_of first i) at_is))
+    let same : length bytes ≡ length (get_or layers (named_run first i).layer []) = ap length (sym run.bytes_are) ∙ ap (λ k. length (get_or layers k [])) run.layer_is in
+    let fit = room i run.inside (subst (λ k. k < length layers) run.layer_is within) in
+    omega (arith, run_end layers i at from len bytes run, same, fit)
+
+pub run_is : (layers : List (List ℕ)) (i at from len : ℕ) (bytes : List ℕ) → IsRunOf layers i at from len bytes → take len (drop from bytes) ≡ run_bytes layers (first_of layers) i
+run_is layers i at from len bytes run =
+    let first : List ℕ = first_of layers in
+    ap (λ b. take len (drop from b)) (sym run.bytes_are ∙ ap (λ k. get_or layers k []) run.layer_is)
+    ∙ (ap (λ n. take n (drop from (get_or layers (named_run first i).layer []))) run.len_is
+    ∙ ap (λ n. take (named_run first i).len (drop n (get_or layers (named_run first i).layer []))) (run_begin layers i at from len bytes run))

@@ -3,7 +3,7 @@ ghost use Rattle.std.specs.Prelude.{◌≡◌, ◌↔◌, ℕ, ◌+◌, ◌<◌,
 ghost use Rattle.std.specs.List.{range_with_len};
 ghost use Rattle.pet_base.specs.declared.limits.TheConstants.{MAX_LAYERS};
 ghost use Rattle.packet_set.specs.Packets.{Packets};
-ghost use Rattle.layer_split.specs.RunTable.{fits, named_runs};
+ghost use Rattle.layer_split.specs.RunTable.{fits};
 ghost use Rattle.pet_encode.specs.Session.{IsMessage, bytes_of_layer};
 ghost use Rattle.pet_receive.specs.Arrivals.{Order, HasKept, kept_set, numbers_of, layers_of};
 ghost use Rattle.kept_sets.specs.KeptSet.{open_group};
@@ -12,7 +12,7 @@ ghost use Rattle.reassemble.specs.declared.fault.Assemble.{Assemble};
 ghost use Rattle.reassemble.specs.Video.{group_video};
 ghost use Rattle.layer_split.specs.Bytes.{Begins};
 ghost use Rattle.reassemble.specs.Leading.{AreLeading, IsAssembled, IsUnfit, lengths_in};
-ghost use Rattle.reassemble.specs.Taking.{HaveRoom, bytes_each, first_of};
+ghost use Rattle.reassemble.specs.Taking.{CanAppend, bytes_each, first_of};
 
 use crate::fault::Assemble;
 use crate::leading::{ShownLayer, leading_layers};
@@ -120,10 +120,7 @@ fn append_video(
     layers: &[ShownLayer<'_>],
     into: &mut Vec<u8>,
 ) -> Result<(), NoMemory>
-    requires some { 0 < length layers.now }
-    requires few { length layers.now ≤ MAX_LAYERS }
-    requires runs { runs.now ≡ named_runs (first_of (bytes_each layers.now)) }
-    requires room { HaveRoom (bytes_each layers.now) }
+    requires { CanAppend runs.now layers.now }
     ensures video { OnOk result (into.new.items
         ≡ into.old.items ++ group_video (bytes_each layers.now)) }
     ensures kept { OnErr result (into.new.items ≡ into.old.items) }
@@ -144,10 +141,7 @@ fn append_runs(
     layers: &[ShownLayer<'_>],
     into: &mut Vec<u8>,
 ) -> Result<(), NoMemory>
-    requires some { 0 < length layers.now }
-    requires few { length layers.now ≤ MAX_LAYERS }
-    requires runs { runs.now ≡ named_runs (first_of (bytes_each layers.now)) }
-    requires room { HaveRoom (bytes_each layers.now) }
+    requires { CanAppend runs.now layers.now }
     ensures video { OnOk result (into.new.items
         ≡ into.old.items ++ group_video (bytes_each layers.now)) }
     ensures begins { Begins into.old.items into.new.items }
