@@ -47,8 +47,17 @@ module _ {E : Type 0} (P : E → Type 0) (c : Coding E) where
     records_from arrival group p numbers shown (All-tail (λ (x : ShownLayer). IsLayer P c p numbers x.layer x.bytes.now) e shown all),
   )
 
-  pub shown_text : (r : ReceiverState E) (arrival group : ℕ) (shown : List ShownLayer) (layers : List ℕ) → AreLayersOf P c r group shown → map (λ e. e.layer) shown ≡ layers
+  shown_text : (r : ReceiverState E) (arrival group : ℕ) (shown : List ShownLayer) (layers : List ℕ) → AreLayersOf P c r group shown → map (λ e. e.layer) shown ≡ layers
       → AreShownText P c r arrival group layers (records_text arrival group shown)
   shown_text r arrival group shown layers lent are order p held opened =
       subst (λ (l : List ℕ). AreRecords P c arrival group p (numbers_of order group) l (records_text arrival group shown)) are
       (records_from arrival group p (numbers_of order group) shown (lent order p held opened))
+
+  -- and what holds of the text of the records, which were lent out as this slice, holds of a text of what is shown
+  pub as_shown : (r : ReceiverState E) (arrival group : ℕ) (shown slice : List ShownLayer) (layers : List ℕ) (Q : List ℕ → Type 0) → slice ≡ shown → AreLayersOf P c r group shown → map (λ e. e.layer) shown ≡ layers
+      → Q (records_text arrival group slice) → (text : List ℕ) × AreShownText P c r arrival group layers text × Q text
+  as_shown r arrival group shown slice layers Q same lent are put = (
+    records_text arrival group shown,
+    shown_text r arrival group shown layers lent are,
+    subst (λ (l : List ShownLayer). Q (records_text arrival group l)) same put,
+  )

@@ -1,5 +1,5 @@
 -- Two kept sets that follow packets of one session can be joined, and the union follows the packets of both.
-use Rattle.std.proofs.Common.{◌≡◌, ℕ, ◌+◌, ◌≤◌, Bool, true, false, cond, List, [], ◌∷◌, ◌++◌, length, get_or, All, Option, None, Some, refl, sym, ap, ap₂, subst, ◌∙◌, arith}
+use Rattle.std.proofs.Common.{◌≡◌, ℕ, ◌+◌, ◌≤◌, Bool, true, false, cond, List, [], ◌∷◌, ◌++◌, get_or, All, Option, None, Some, refl, sym, ap, ap₂, subst, ◌∙◌, arith}
 use Rattle.std.specs.Prelude.{sum_by, slice_get, not, ◌||◌, if◌then◌else◌}
 use Rattle.std.specs.Option.{option_or}
 use Rattle.std.specs.Str.{bytes_eq}
@@ -17,9 +17,9 @@ use Rattle.pet_encode.specs.laws.SessionLaws.{packets_are}
 use Rattle.kept_sets.specs.declared.union.Absorb.TheVariants.{OtherSession}
 use Rattle.kept_sets.specs.KeptSet.{KeptSet, open_group, cost_in, cost_kept}
 use Rattle.kept_sets.specs.Verdicts.{clashes}
-use Rattle.kept_sets.specs.Union.{join_slots, join_group, union, frames_in, first_clash, new_groups, first_past, first_full, then_full, then_clash, absorb_fault}
+use Rattle.kept_sets.specs.Union.{join_group, union, frames_in, first_clash, new_groups, first_past, first_full, then_full, then_clash, absorb_fault}
 use Rattle.kept_sets.specs.laws.EntryLaws.{values_sum}
-use Rattle.kept_sets.specs.laws.JoinedGroups.{slot_join, join_open, rises_join}
+use Rattle.kept_sets.specs.laws.JoinedGroups.{length_join, slot_join, join_open, rises_join}
 use Rattle.kept_sets.specs.laws.UnionSound.{union_open, union_cost}
 use Rattle.met_packets.specs.Met.{Pair, has_pair}
 use Rattle.met_packets.specs.MetFrames.{met_frames}
@@ -29,12 +29,6 @@ use Rattle.met_packets.specs.laws.PacketVerdict.{cost_within, no_clash}
 use Rattle.met_packets.specs.laws.DatagramMore.{made, is_made}
 use Rattle.met_packets.specs.laws.FramesAreMet.{is_met, frames_are_met}
 use Rattle.met_packets.specs.laws.FollowsFrom.{GroupsFollow, follows_from}
-
-length_join : (n : ℕ) (mine theirs : List (Option (List ℕ))) → length mine ≡ n → length theirs ≡ n → length (join_slots mine theirs) ≡ n
-unfolding join_slots
-length_join n [] theirs here there = there
-length_join n (x ∷ mine) [] here there = here
-length_join n (x ∷ mine) (y ∷ theirs) here there = omega (arith, length_join (length mine) mine theirs refl (omega arith))
 
 -- the payload of a number that was met with the one or with the other
 either : (a b : Bool) (payload : List ℕ) → option_or (cond a (Some payload) None) (cond b (Some payload) None) ≡ cond (a || b) (Some payload) None
@@ -51,7 +45,7 @@ module _ (made : SessionGroup → ℕ → List ℕ) (s : Session) (limit other :
   in_both : (group : ℕ) (g : SessionGroup) (p q : Packets) → HasMet made s a group g p → HasMet made s b group g q → HasMet made s (a ++ b) group g (join_group (Some p) q)
   in_both group g p q has also = record {
     header = has.header;
-    slots = length_join g.packets p.slots q.slots has.slots also.slots;
+    slots = length_join p.slots q.slots (has.slots ∙ sym also.slots) ∙ has.slots;
     each =
         λ number.
         slot_join p.slots q.slots number
