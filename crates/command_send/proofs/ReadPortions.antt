@@ -1,16 +1,14 @@
 -- What the second pass has read of the input.
 use Rattle.std.proofs.Common.{◌≡◌, ℕ, ◌+◌, ◌≤◌, List, [], ◌++◌, length, take, Option, Some, None, refl, sym, ◌∙◌, ap, subst, arith, inl, inr}
-use Rattle.std.specs.Prelude.{IfSome, nat_lt, false, MatchOption}
+use Rattle.std.specs.Prelude.{IfSome, MatchOption}
 use Rattle.std.specs.Io.KnownBytes.{prepend_known, IsAtEnd}
 use Rattle.std.proofs.lemmas.List.{append-nil}
-use Rattle.std.proofs.lemmas.Bool.{ltb-false}
 use Rattle.pet_base.specs.declared.limits.TheConstants.{MAX_STREAM}
 use Rattle.pet_base.specs.Seen.{Seen, OnlyReads}
 use Rattle.pet_base.proofs.Filled.{prepend-prepend}
 use Rattle.stream_session.specs.declared.mark.GroupMark.{GroupMark}
 use Rattle.stream_session.specs.declared.source.Source.{Source}
-use Rattle.mpeg_scan.specs.declared.refusal.Scan.TheVariants.{TooLong}
-use Rattle.mpeg_scan.specs.Refusals.{IsAccepted}
+use Rattle.stream_session.proofs.Sourced.{short_stream}
 use Rattle.priority_file.specs.Priority.{Priorities}
 use Rattle.group_cutter.specs.CutGroups.{CutGroup}
 use Rattle.group_cutter.specs.Cutting.{HasCut, HaveEnded, cut_groups}
@@ -41,12 +39,6 @@ part_read way source marks stream known first now rest part = record {
   part = record { groups = part.groups; first_groups = inl part.first_groups; agree = part.agree; tables = part.tables; sends = part.sends };
   told = subst (λ (o : Option (List ℕ)). IfSome o (λ bytes. IsFront source.priority bytes part.groups)) (sym rest) (told_at source.priority stream part.groups known part.first_groups);
 }
-
-short_by : (a b : ℕ) → nat_lt a b ≡ false → b ≤ a
-short_by a b e = ltb-false a b e
-
-pub short_stream : (stream : List ℕ) → IsAccepted stream → length stream ≤ MAX_STREAM
-short_stream stream accepted = short_by MAX_STREAM (length stream) (accepted TooLong)
 
 ended_at : (priority : Priorities) (stream : List ℕ) (groups : List CutGroup) (now : Option (List ℕ)) → IsAtEnd now → IsFront priority stream groups → IfSome (prepend_known stream now) (λ bytes. IsFront priority bytes groups)
 ended_at priority stream groups None end front = tt

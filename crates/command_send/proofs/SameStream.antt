@@ -28,6 +28,7 @@ use Rattle.group_cutter.specs.laws.StandingLaws.{groups_stand}
 use Rattle.stream_session.specs.Marks.{mark_of, no_mark, mark_at, group_marks, marks_of}
 use Rattle.stream_session.specs.Tables.{table_of, tables_of, sizes_of, cuts_of_stream}
 use Rattle.stream_session.specs.Accepted.{session_of, group_of}
+use Rattle.stream_session.proofs.Sourced.{short_stream}
 use Rattle.command_send.specs.declared.fault.SendFault.{SendFault}
 use Rattle.command_send.specs.declared.fault.SendFault.TheVariants.{Stopped}
 use Rattle.command_send.specs.declared.sent_group.Change.{Change}
@@ -39,7 +40,6 @@ use Rattle.command_send.specs.Sending.{encoding_of, encodings_from, sent_datagra
 use Rattle.datagram_route.specs.laws.SendingLaws.{part_within}
 use Rattle.session_packets.specs.laws.DatagramLaws.{groups_make_datagrams}
 use Rattle.command_send.proofs.FoundGroups.{found_front}
-use Rattle.command_send.proofs.ReadPortions.{short_stream}
 use Rattle.command_send.proofs.GroupsSoFar.{text_append, mark_past}
 
 -- what stands at a place of the encodings

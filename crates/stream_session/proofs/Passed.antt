@@ -1,11 +1,11 @@
 -- One portion more in a pass.
-use Rattle.std.proofs.Common.{◌≡◌, ℕ, ◌<◌, true, false, List, [], ◌++◌, length, Option, None, Some, refl, sym, ap, subst, ◌∙◌, append_assoc}
+use Rattle.std.proofs.Common.{◌≡◌, ℕ, ◌<◌, arith, true, false, List, [], ◌++◌, length, Option, None, Some, refl, sym, ap, subst, ◌∙◌, append_assoc}
 use Rattle.std.proofs.lemmas.List.{append-nil}
 use Rattle.std.specs.Prelude.{MatchOption, is_some, Result, Ok, Err, IfOk, IfErr}
 use Rattle.std.specs.Int.{w32, to_be_bytes}
 use Rattle.mpeg_scan.specs.declared.refusal.Scan.{Scan}
 use Rattle.mpeg_scan.specs.declared.piece.Piece.{Piece}
-use Rattle.mpeg_scan.specs.Refusals.{Refuses, IsAccepted, max_stream}
+use Rattle.mpeg_scan.specs.Refusals.{Refuses, IsRefusal, IsAccepted, max_stream}
 use Rattle.mpeg_scan.specs.Pieces.{pieces_of}
 use Rattle.mpeg_scan.specs.Scanning.{HasRead, added}
 use Rattle.sha2.specs.Hashers.{Holds256}
@@ -89,6 +89,14 @@ finish_refused pass scan priority file stream e passed =
 live_at : (o : Option Scan) (A : Type 0) (P : Scan → Type 0) → ((scan : Scan) → o ≡ Some scan → ⊥) → MatchOption o A P → A
 live_at None A P none passed = passed
 live_at (Some scan) A P none passed = absurd (none scan refl)
+
+-- a stream that its end refuses, which is not too long
+pub end_refused : (pass : Pass) (scan : Scan) → ((scan : Scan) → pass.refused ≡ Some scan → ⊥) → ((stream : List ℕ) (given : List Piece) → HasRead pass.scanner stream given → Refuses stream scan)
+    → (priority : Priorities) (file stream : List ℕ) → HasPassed pass priority file stream → IsRefusal stream scan
+end_refused pass scan none refuses priority file stream passed =
+    let live = live_at pass.refused (IsLive pass priority file stream) _ none passed in
+    let few = live.scanned.bounded in
+    (refuses stream live.given live.scanned, λ lt. absurd (omega (arith, lt)))
 
 -- the plan of all pieces is that of the stream
 plan_of_stream : (pass : Pass) (plan : SessionPlan) (priority : Priorities) (file stream : List ℕ) (pieces last : List Piece) (live : IsLive pass priority file stream) → last ≡ pieces

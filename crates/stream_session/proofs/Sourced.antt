@@ -32,7 +32,8 @@ whole_file limit bytes name files few front =
 short_by : (a b : ℕ) → nat_lt a b ≡ false → b ≤ a
 short_by a b e = ltb-false a b e
 
-short_stream : (stream : List ℕ) → IsAccepted stream → length stream ≤ MAX_STREAM
+-- an accepted stream has at most the bytes of one
+pub short_stream : (stream : List ℕ) → IsAccepted stream → length stream ≤ MAX_STREAM
 short_stream stream accepted = short_by MAX_STREAM (length stream) (accepted TooLong)
 
 refuses_file : (stream more : List ℕ) (scan : Scan) → (length stream ≤ MAX_STREAM → more ≡ []) → Refuses stream scan

@@ -19,7 +19,7 @@ use stripe_plan::Table;
 
 /// Makes the tables of a stream's groups, whose cuts come one by one.
 #[derive(Drop)]
-pub struct GroupTables {
+pub(crate) struct GroupTables {
     needs: LayerNeeds,
     /// Those of the groups so far, up to the first that is too wide.
     tables: Vec<Table>,
@@ -29,7 +29,7 @@ pub struct GroupTables {
 
 impl GroupTables {
     /// The tables of no group under this priority.
-    pub fn new(alloc: Global, priority: &Priority) -> GroupTables
+    pub(crate) fn new(alloc: Global, priority: &Priority) -> GroupTables
         ensures { HasTables result priority.now [] }
     {
         GroupTables {
@@ -40,7 +40,7 @@ impl GroupTables {
     }
 
     /// Keeps the table of the next group, or its number where it is the first that is too wide.
-    pub fn keep(&mut self, cut: &GroupCut) -> Result<(), NoMemory>
+    pub(crate) fn keep(&mut self, cut: &GroupCut) -> Result<(), NoMemory>
         ensures { OnOk result ((priority : Priorities) (cuts : List Cut) → length cuts < MAX_GROUPS → IsFit priority cut.now
             → HasTables self.old priority cuts → HasTables self.new priority (cuts ++ cut.now ∷ [])) }
     {
@@ -60,7 +60,7 @@ impl GroupTables {
     }
 
     /// The tables, or the first cause that holds against the groups.
-    pub fn judged(self) -> Result<Vec<Table>, SessionFault>
+    pub(crate) fn judged(self) -> Result<Vec<Table>, SessionFault>
         ensures tables { IfOk result (λ tables. (priority : Priorities) (cuts : List Cut) → HasTables self priority cuts
             → (fault_of_cuts priority cuts ≡ None) × (tables.items ≡ tables_of priority cuts)) }
         ensures refused { IfErr result (λ fault. (priority : Priorities) (cuts : List Cut) → HasTables self priority cuts

@@ -1,6 +1,8 @@
 //! The first pass over a stream.
-ghost use Rattle.std.specs.Prelude.{◌≡◌, ◌<◌, ◌^◌, ◌++◌, ℕ, List, [], length, take, OnOk, IfOk, IfErr};
+ghost use Rattle.std.specs.Prelude.{◌≡◌, ◌≢◌, ◌<◌, ◌^◌, ◌++◌, ℕ, List, [], length, take, OnOk, IfOk, IfErr};
 ghost use Rattle.mpeg_scan.specs.declared.piece.Piece.{Piece};
+ghost use Rattle.mpeg_scan.specs.declared.refusal.Scan.{Scan};
+ghost use Rattle.mpeg_scan.specs.Refusals.{IsRefusal};
 ghost use Rattle.sha2.specs.Hashers.{Holds256};
 ghost use Rattle.priority_file.specs.Priority.{Priorities};
 ghost use Rattle.stream_session.specs.Planning.{HasPlanned};
@@ -117,8 +119,7 @@ impl Pass {
         let mut pieces = self.pieces;
         match scanner.finish(&mut pieces) {
             Ok(()) => plan_of(self.planner, self.hasher, &pieces),
-            Err(Scan::NoMemory) => Err(StreamFault::NoMemory),
-            Err(scan) => Err(StreamFault::Stream(scan)),
+            Err(scan) => Err(scan_fault(scan)),
         }
     }
 }
@@ -140,6 +141,17 @@ impl StreamReader for Pass {
 
     fn end(self) -> Result<SessionPlan, StreamFault> {
         self.finish()
+    }
+}
+
+/// The same refusal, as one against a session.
+fn scan_fault(scan: Scan) -> StreamFault
+    ensures { (priority : Priorities) (stream : List ℕ) → (scan ≢ Scan.NoMemory → IsRefusal stream scan)
+        → IsStreamFault priority stream result }
+{
+    match scan {
+        Scan::NoMemory => StreamFault::NoMemory,
+        _ => StreamFault::Stream(scan),
     }
 }
 
