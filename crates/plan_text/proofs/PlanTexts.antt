@@ -8,7 +8,7 @@ use Rattle.stripe_plan.specs.Layers.{needs_of, plan_ends, bound_of}
 use Rattle.stripe_plan.specs.Sizes.{Sizes, datagram_length_of}
 use Rattle.priority_file.specs.Priority.{Rule, Priorities}
 use Rattle.plan_text.specs.PlanLines.{plan_session_text, plan_group_text, plan_lengths, lengths_text}
-use Rattle.plan_text.specs.LayerLines.{layer_lines, group_lines, groups_from, AreTablesOf}
+use Rattle.plan_text.specs.LayerLines.{layer_line, layer_lines, group_lines, groups_from, AreTablesOf}
 use Rattle.plan_text.specs.laws.LayerLineLaws.{plan_text_is}
 use Rattle.plan_text.specs.PlanText.{plan_text}
 
@@ -27,6 +27,13 @@ unfolding group_lines
 group_whole rules group layers old first second whole one two three =
     three ∙ three_pieces old (plan_group_text group (length (needs_of layers)) (length (plan_ends layers)) (bound_of layers) (datagram_length_of layers))
     (layer_lines rules layers (length layers)) (lengths_text (plan_lengths layers)) first second one two
+
+-- the line of a layer more
+pub layer_next : (rules : List Rule) (layers : List LayerSize) (layer : ℕ) (old into new : List ℕ) → new ≡ into ++ layer_line rules layers layer → into ≡ old ++ layer_lines rules layers layer
+    → new ≡ old ++ layer_lines rules layers (layer + 1)
+layer_next rules layers layer old into new is so =
+    let next : suc layer ≡ layer + 1 = omega arith in
+    is ∙ ap (λ t. t ++ layer_line rules layers layer) so ∙ append_assoc old (layer_lines rules layers layer) (layer_line rules layers layer) ∙ ap (λ n. old ++ layer_lines rules layers n) next
 
 -- the line of the session in front of all groups
 pub plan_begun : (session : List ℕ) (priority : Priorities) (tables : List Sizes) (old into : List ℕ)
