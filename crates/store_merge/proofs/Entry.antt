@@ -25,7 +25,7 @@ use Rattle.store_merge.specs.declared.fault.StoreKind.TheVariants as kind
 use Rattle.store_merge.specs.Store.{store_steps}
 use Rattle.store_merge.specs.Refusals.{Last, is_above, kind_of, frame_fault}
 use Rattle.store_merge.specs.Reading.{frame_of, fault_of, fault_by, is_next, pairs_in, IsReadTo}
-use Rattle.store_merge.specs.laws.Growing.{EndsIn, absent_by, comes_after}
+use Rattle.store_merge.specs.laws.LedKeptSets.{EndsIn, absent_by, comes_after}
 
 -- ---- the verdict of the next entry
 

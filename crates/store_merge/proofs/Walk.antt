@@ -16,7 +16,7 @@ use Rattle.store_merge.specs.declared.fault.BadStore.{BadStore}
 use Rattle.store_merge.specs.declared.fault.BadStore.TheVariants.{At}
 use Rattle.store_merge.specs.Refusals.{Last, entry_length, datagram_in, is_whole, then_next, read_entries}
 use Rattle.store_merge.specs.laws.EntryReading.{read_whole, read_cut, whole_long}
-use Rattle.store_merge.specs.laws.Growing.{EndsIn}
+use Rattle.store_merge.specs.laws.LedKeptSets.{EndsIn}
 use Rattle.store_merge.specs.Reading.{frame_of, fault_of, pairs_in, IsReadTo}
 
 whole_is : (many at : ℕ) (set : KeptSet) (last : Last) (bytes : List ℕ) → is_whole bytes ≡ true

@@ -12,7 +12,7 @@ use Rattle.kept_sets.specs.Union.{frames_in}
 use Rattle.store_merge.specs.declared.fault.StoreKind.{StoreKind}
 use Rattle.store_merge.specs.declared.fault.StoreKind.TheVariants as kind
 use Rattle.store_merge.specs.Refusals.{Last, entry_fault}
-use Rattle.store_merge.specs.laws.Growing.{EndsIn}
+use Rattle.store_merge.specs.laws.LedKeptSets.{EndsIn}
 
 -- the frame of a datagram, and why it cannot be the next of these, or nothing
 unfoldable pub frame_of : List ℕ → Fields

@@ -1,6 +1,6 @@
 pub mod EntryReading
 pub mod Leading
-pub mod Growing
+pub mod LedKeptSets
 pub mod ReadLaws
 pub mod NextFault
 pub mod InOrder

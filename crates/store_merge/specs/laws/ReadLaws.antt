@@ -24,7 +24,7 @@ use Rattle.store_merge.specs.Store.{store_text, store_of, text_before_tag}
 use Rattle.store_merge.specs.Refusals.{tag_at, then_tag, read_entries, read_text}
 use Rattle.store_merge.specs.laws.EntryReading.{at_each}
 use Rattle.store_merge.specs.laws.Leading.{StandThere, read_leads}
-use Rattle.store_merge.specs.laws.Growing.{HasGrownBy, leads_make}
+use Rattle.store_merge.specs.laws.LedKeptSets.{HasGrownBy, leads_make}
 
 -- what the bytes before the entries and behind them tell, where nothing is refused
 record ReadsOn (limit : ℕ) (bytes : List ℕ) (set : KeptSet) : Type 0 where
