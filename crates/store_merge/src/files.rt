@@ -104,7 +104,7 @@ fn store_of<'f, F: Rows, L: Ledger>(
 }
 
 /// Writes the store of all packets that the receiver has kept to the file of this name. The file is made once the store is,
-/// and has a front of it where it cannot be written.
+/// so want of memory changes no file, and has a front of it where it cannot be written.
 pub fn write_store_file<F: Rows, P: Place>(
     alloc: Global,
     receiver: &Receiver<'_, F>,
@@ -114,6 +114,7 @@ pub fn write_store_file<F: Rows, P: Place>(
     ensures written { OnOk result (Wrote (store_file name.now (kept_set receiver.now) ∷ []) None (P.seen place.old) (P.seen place.new)) }
     ensures front { OnErr result (((P.seen place.new).files ≡ (P.seen place.old).files)
         ⊎ Wrote [] (Some (store_file name.now (kept_set receiver.now))) (P.seen place.old) (P.seen place.new)) }
+    ensures memory { result ≡ Err Stop.NoMemory → (P.seen place.new).files ≡ (P.seen place.old).files }
     ensures input { KeepsInput (P.seen place.old) (P.seen place.new) }
     ensures cause { IfErr result (Licensed (HasFailed (writing name.now ∷ []) (P.seen place.old)
         (P.seen place.new))) }
