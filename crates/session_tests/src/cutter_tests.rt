@@ -1,13 +1,11 @@
 //! Streams cut into groups with their bytes.
-use crate::run;
+use crate::split_tests::is_cut;
 use example_session::{PRIORITIES, STREAM};
 use group_cutter::{CutFault, Group, GroupCutter};
-use layer_split::SplitFault;
 use mpeg_scan::Scan;
 use pet_base::NoMemory;
 use priority_file::{Priority, read_priority};
 use std::alloc::Global;
-use std::test::Fail;
 use stream_tests::TWO_GROUPS;
 
 /// Heads, I and D pictures in layer 0, P pictures and the first B picture of a group in layer 1, the others in layer 2.
@@ -22,101 +20,140 @@ fn take_ended(cutter: &mut GroupCutter, groups: &mut Vec<Group>) -> Result<(), N
     Ok(())
 }
 
-/// The groups of a stream that comes in portions of so many bytes behind a first one, and why it was refused.
-fn cut_in(
-    alloc: Global,
-    priority: &Priority,
-    stream: &[u8],
-    first: usize,
-    size: usize,
-) -> Result<(Vec<Group>, Option<CutFault>), NoMemory> {
-    let mut cutter = GroupCutter::new(alloc, priority)?;
-    let mut groups = Vec::new(alloc);
-    let mut from = 0usize;
-    let mut portion = first;
-    for _ in 0..64 {
-        if from >= stream.len() {
-            break;
-        }
-        let end = from + portion.min(stream.len() - from);
-        cutter.feed(&stream[from..end])?;
-        take_ended(&mut cutter, &mut groups)?;
-        from = end;
-        portion = size;
-    }
+/// Adds the groups that are left when the stream has ended, or says why it was refused.
+fn take_left(
+    mut cutter: GroupCutter,
+    groups: &mut Vec<Group>,
+) -> Result<Option<CutFault>, NoMemory> {
     match cutter.finish() {
         Ok(left) => {
             for group in left {
                 groups.push(group)?;
             }
-            Ok((groups, None))
+            Ok(None)
         }
-        Err(CutFault::NoMemory) => Err(NoMemory),
-        Err(fault) => Ok((groups, Some(fault))),
+        Err(fault) => Ok(Some(fault)),
     }
 }
 
-#[test]
-fn gives_two_groups_of_a_stream_cut_anywhere(rt: HostRuntime) -> Result<(), Fail> {
-    let priority = read_priority(rt.alloc(), PRIORITIES.as_bytes()).expect(&rt, "a priority");
-    for first in 1..23usize {
-        for size in [1usize, 22] {
-            let (groups, fault) = cut_in(rt.alloc(), &priority, &TWO_GROUPS, first, size).expect(
-                &rt, "memory",
-            );
-            assert_eq!(rt; fault, None);
-            assert_eq!(rt; groups.len(), 2);
-            assert_eq!(rt; groups[0].bytes.as_slice(), &TWO_GROUPS[..11]);
-            assert_eq!(rt; groups[1].bytes.as_slice(), &TWO_GROUPS[11..]);
-            let runs = [run(0, 0, 11)];
-            assert_eq!(rt; groups[0].cut.runs.as_slice(), runs.as_slice());
-            assert_eq!(rt; groups[1].cut.runs.as_slice(), runs.as_slice());
-        }
+/// Adds the groups of a stream that comes in portions of so many bytes behind a first one, and says why it was refused.
+fn cut_in(
+    alloc: Global,
+    priority: &Priority,
+    stream: &[u8],
+    (first, size): (usize, usize),
+    groups: &mut Vec<Group>,
+) -> Result<Option<CutFault>, NoMemory> {
+    let mut cutter = GroupCutter::new(alloc, priority)?;
+    let (head, rest) = stream.split_at(first.min(stream.len()));
+    cutter.feed(head)?;
+    take_ended(&mut cutter, groups)?;
+    for portion in rest.chunks(size.max(1)) {
+        cutter.feed(portion)?;
+        take_ended(&mut cutter, groups)?;
     }
-    Ok(())
+    take_left(cutter, groups)
 }
 
-#[test]
-fn gives_what_ended_before_a_refusal(rt: HostRuntime) -> Result<(), Fail> {
-    let no_head = [0x12, 0, 0, 1, 0xB3];
-    let pack_behind_two_groups = [
-        0, 0, 1, 0xB8, 1, 0, 0, 1, 0, 0, 8, 0, 0, 1, 0xB8, 2, 0, 0, 1, 0, 0, 8, 0, 0, 1, 0xBA,
-    ];
-    // the stream, how many groups are given, the length of the last, and why these are not all
-    let rows: [(&[u8], usize, usize, Option<CutFault>); 4] = [
-        (&TWO_GROUPS[..11], 1, 11, None),
-        (&TWO_GROUPS[..15], 2, 4, None),
-        (&no_head, 0, 0, Some(CutFault::Stream(Scan::NoHead(0)))),
-        (
-            &pack_behind_two_groups,
-            1,
-            11,
-            Some(CutFault::Stream(Scan::System(22))),
-        ),
-    ];
-    let priority = read_priority(rt.alloc(), PRIORITIES.as_bytes()).expect(&rt, "a priority");
-    for (stream, count, last, why) in rows {
+/// The bytes of a group, its runs, a layer, a start and a length each, and the lengths of its layers.
+type Wanted = (&'static [u8], &'static [(u8, u64, u32)], [u32; 3]);
+
+/// Priorities, a stream, its groups, and why these are not all.
+type Case = (
+    &'static str,
+    &'static [u8],
+    &'static [Wanted],
+    Option<CutFault>,
+);
+
+const FIRST: Wanted = (
+    &[0, 0, 1, 0xB8, 1, 0, 0, 1, 0, 0, 8],
+    &[(0, 0, 11)],
+    [20, 0, 0],
+);
+
+const SECOND: Wanted = (
+    &[0, 0, 1, 0xB8, 2, 0, 0, 1, 0, 0, 8],
+    &[(0, 0, 11)],
+    [20, 0, 0],
+);
+
+static CUTS: [Case; 6] = [
+    (PRIORITIES, &TWO_GROUPS, &[FIRST, SECOND], None),
+    // the first group alone, and the head of the second
+    (
+        PRIORITIES,
+        &[0, 0, 1, 0xB8, 1, 0, 0, 1, 0, 0, 8],
+        &[FIRST],
+        None,
+    ),
+    (
+        PRIORITIES,
+        &[0, 0, 1, 0xB8, 1, 0, 0, 1, 0, 0, 8, 0, 0, 1, 0xB8],
+        &[FIRST, (&[0, 0, 1, 0xB8], &[(0, 0, 4)], [13, 0, 0])],
+        None,
+    ),
+    // no head, and a pack behind two groups
+    (
+        PRIORITIES,
+        &[0x12, 0, 0, 1, 0xB3],
+        &[],
+        Some(CutFault::Stream(Scan::NoHead(0))),
+    ),
+    (
+        PRIORITIES,
+        &[
+            0, 0, 1, 0xB8, 1, 0, 0, 1, 0, 0, 8, 0, 0, 1, 0xB8, 2, 0, 0, 1, 0, 0, 8, 0, 0, 1, 0xBA,
+        ],
+        &[FIRST],
+        Some(CutFault::Stream(Scan::System(22))),
+    ),
+    (
+        PLACES,
+        &STREAM,
+        &[(
+            &STREAM,
+            &[(0, 0, 18), (1, 18, 14), (2, 32, 8), (0, 40, 4)],
+            [46, 14, 8],
+        )],
+        None,
+    ),
+];
+
+/// Whether these are the groups.
+fn are_groups(groups: &[Group], wanted: &[Wanted]) -> bool {
+    groups.len() == wanted.len()
+        && groups.iter().zip(wanted).all(|(group, (bytes, runs, lengths))| {
+            group.bytes.as_slice() == *bytes && is_cut(&group.cut, runs, lengths)
+        })
+}
+
+/// Whether the stream is cut so in such portions.
+fn is_cut_so(alloc: Global, case: &Case, portions: (usize, usize)) -> bool {
+    let mut groups = Vec::new(alloc);
+    let Ok(priority) = read_priority(alloc, case.0.as_bytes()) else {
+        return false;
+    };
+    cut_in(alloc, &priority, case.1, portions, &mut groups) == Ok(case.3)
+        && are_groups(&groups, case.2)
+}
+
+/// The number of the first row that is cut otherwise in some such portions.
+fn first_wrong(alloc: Global, cases: &[Case]) -> Option<usize> {
+    for row in 0..cases.len() {
         for first in 1..27usize {
-            let (groups, fault) = cut_in(rt.alloc(), &priority, stream, first, 1).expect(
-                &rt, "memory",
-            );
-            assert_eq!(rt; fault, why);
-            assert_eq!(rt; groups.len(), count);
-            let len = groups.last().map_or(0, |group| group.bytes.len());
-            assert_eq!(rt; len, last);
+            if !(is_cut_so(alloc, &cases[row], (first, 1))
+                && is_cut_so(alloc, &cases[row], (first, 20))
+                && is_cut_so(alloc, &cases[row], (first, 22)))
+            {
+                return Some(row);
+            }
         }
     }
-    Ok(())
+    None
 }
 
 #[test]
-fn cuts_the_example_stream_by_places(rt: HostRuntime) -> Result<(), Fail> {
-    let priority = read_priority(rt.alloc(), PLACES.as_bytes()).expect(&rt, "a priority");
-    let (groups, fault) = cut_in(rt.alloc(), &priority, &STREAM, 20, 20).expect(&rt, "memory");
-    assert_eq!(rt; fault, None);
-    assert_eq!(rt; groups.len(), 1);
-    let runs = [run(0, 0, 18), run(1, 18, 14), run(2, 32, 8), run(0, 40, 4)];
-    assert_eq!(rt; groups[0].cut.runs.as_slice(), runs.as_slice());
-    assert_eq!(rt; groups[0].cut.lengths.as_slice(), [46, 14, 8].as_slice());
-    Ok(())
+fn gives_the_groups_of_a_stream_cut_anywhere_up_to_a_refusal(rt: HostRuntime) {
+    assert_eq!(rt; first_wrong(rt.alloc(), &CUTS), None);
 }

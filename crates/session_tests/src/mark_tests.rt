@@ -1,16 +1,14 @@
 //! The marks of a stream's groups.
 use mpeg_scan::Scan;
-use pet_base::MemoryPlace;
-use std::alloc::Global;
-use std::test::Fail;
+use pet_base::{MemoryPlace, NoMemory};
+use std::alloc::{AllocError, Global};
 use stream_session::{GroupMark, MarkedSource, SessionFault, SourceFault, read_marked};
-use stream_tests::TWO_GROUPS;
 
 /// Priorities of two layers.
 const PRIORITIES: &str =
     "packets = 6\n[[layer]]\nname = \"base\"\nkinds = [\"head\", \"I\"]\nneed = 2\n[[layer]]\nname = \"rest\"\nkinds = [\"P\", \"B\", \"D\"]\nneed = 3\n";
 
-/// The marks of both groups, of the head of the second alone, and of the first with 70,000 bytes more behind its head.
+/// The marks of both of two groups, of the head of the second alone, and of the first with 70,000 bytes more behind its head.
 const FIRST: GroupMark = GroupMark {
     length: 11,
     digest: [0xBA, 0x9B, 0xE9, 0xCE, 0x6C, 0xD4, 0x21, 0x69],
@@ -31,89 +29,102 @@ const LONG: GroupMark = GroupMark {
     digest: [0x08, 0x25, 0x3B, 0xBB, 0x65, 0xF4, 0x5D, 0x69],
 };
 
-/// What this stream is read as under the priorities.
-fn read(alloc: Global, stream: &[u8]) -> Option<Result<MarkedSource, SourceFault>> {
+/// The mark of no bytes.
+const NOTHING: GroupMark = GroupMark {
+    length: 0,
+    digest: [0xE3, 0xB0, 0xC4, 0x42, 0x98, 0xFC, 0x1C, 0x14],
+};
+
+/// The front of a stream, how many bytes 0x11 follow it, what stands behind these, and the marks of its groups or why it is
+/// refused.
+type Case = (
+    &'static [u8],
+    usize,
+    &'static [u8],
+    Result<&'static [GroupMark], SourceFault>,
+);
+
+/// The head of the first group, what stands behind it up to the end of the second, and this and a pack.
+const FRONT: &[u8] = &[0, 0, 1, 0xB8, 1];
+
+const BEHIND: &[u8] = &[0, 0, 1, 0, 0, 8, 0, 0, 1, 0xB8, 2, 0, 0, 1, 0, 0, 8];
+
+const PACK_BEHIND: &[u8] = &[
+    0, 0, 1, 0, 0, 8, 0, 0, 1, 0xB8, 2, 0, 0, 1, 0, 0, 8, 0, 0, 1, 0xBA,
+];
+
+static CASES: [Case; 8] = [
+    (FRONT, 0, BEHIND, Ok(&[FIRST, SECOND])),
+    (FRONT, 0, &[0, 0, 1, 0, 0, 8], Ok(&[FIRST])),
+    (
+        FRONT,
+        0,
+        &[0, 0, 1, 0, 0, 8, 0, 0, 1, 0xB8],
+        Ok(&[FIRST, HEAD]),
+    ),
+    (FRONT, 70_000, BEHIND, Ok(&[LONG, SECOND])),
+    (&[], 0, &[], Err(SourceFault::Stream(Scan::Empty))),
+    (
+        FRONT,
+        0,
+        &[0, 0, 1, 0, 0, 0x28],
+        Err(SourceFault::Stream(Scan::PictureType(5, 5))),
+    ),
+    // a later refusal comes before a group's fault
+    (
+        FRONT,
+        4_200_000,
+        BEHIND,
+        Err(SourceFault::Plan(SessionFault::GroupTooLong(0))),
+    ),
+    (
+        FRONT,
+        4_200_000,
+        PACK_BEHIND,
+        Err(SourceFault::Stream(Scan::System(4_200_022))),
+    ),
+];
+
+/// The bytes of a stream.
+fn stream_of(alloc: Global, case: &Case) -> Result<Vec<u8>, AllocError> {
+    let mut stream = Vec::from_slice(alloc, case.0)?;
+    let len = stream.len().saturating_add(case.1);
+    stream.resize(len, 0x11)?;
+    stream.extend_from_slice(case.2)?;
+    Ok(stream)
+}
+
+/// What a stream is read as under the priorities.
+fn read(alloc: Global, case: &Case) -> Result<Result<MarkedSource, SourceFault>, NoMemory> {
     let mut place = MemoryPlace::new(alloc, Vec::new(alloc));
-    place.add("s", stream).ok()?;
-    place.add("p", PRIORITIES.as_bytes()).ok()?;
-    Some(read_marked(alloc, "s", "p", &mut place))
+    place.add("s", &stream_of(alloc, case)?)?;
+    place.add("p", PRIORITIES.as_bytes())?;
+    Ok(read_marked(alloc, "s", "p", &mut place))
 }
 
-/// The two groups, with so many bytes more behind the head of the first.
-fn with_more(alloc: Global, more: usize) -> Option<Vec<u8>> {
-    let mut stream = Vec::from_slice(alloc, &TWO_GROUPS[..5]).ok()?;
-    let len = stream.len().saturating_add(more);
-    stream.resize(len, 0x11).ok()?;
-    stream.extend_from_slice(&TWO_GROUPS[5..]).ok()?;
-    Some(stream)
-}
-
-#[test]
-fn marks_each_group_in_order(rt: HostRuntime) -> Result<(), Fail> {
-    let long = with_more(rt.alloc(), 70_000).expect(&rt, "memory");
-    let rows: [(&[u8], &[GroupMark]); 4] = [
-        (&TWO_GROUPS, &[FIRST, SECOND]),
-        (&TWO_GROUPS[..11], &[FIRST]),
-        (&TWO_GROUPS[..15], &[FIRST, HEAD]),
-        (&long, &[LONG, SECOND]),
-    ];
-    for (stream, marks) in rows {
-        let marked = read(rt.alloc(), stream)
-            .expect(&rt, "files")
-            .expect(&rt, "a session");
-        assert_eq!(rt; marked.marks.as_slice(), marks);
-        assert_eq!(rt; marked.source.tables.len(), marks.len());
+/// Whether a stream is read so.
+fn is_read(alloc: Global, case: &Case) -> bool {
+    match (read(alloc, case), case.3) {
+        (Ok(Ok(marked)), Ok(marks)) => {
+            marked.marks.as_slice() == marks && marked.source.tables.len() == marks.len()
+        }
+        (Ok(Err(fault)), Err(why)) => fault == why,
+        _ => false,
     }
-    Ok(())
 }
 
-#[test]
-fn refuses_what_read_source_refuses(rt: HostRuntime) -> Result<(), Fail> {
-    let no_picture_type = [0, 0, 1, 0xB8, 1, 0, 0, 1, 0, 0, 0x28];
-    let rows: [(&[u8], Scan); 2] = [
-        (&[], Scan::Empty),
-        (&no_picture_type, Scan::PictureType(5, 5)),
-    ];
-    for (stream, scan) in rows {
-        let fault = read(rt.alloc(), stream).expect(&rt, "files").err();
-        assert_eq!(rt; fault, Some(SourceFault::Stream(scan)));
+/// The number of the first row that is read otherwise.
+fn first_wrong(alloc: Global, cases: &[Case]) -> Option<usize> {
+    for row in 0..cases.len() {
+        if !is_read(alloc, &cases[row]) {
+            return Some(row);
+        }
     }
-    Ok(())
+    None
 }
 
 #[test]
-fn marks_no_bytes_by_their_digest(rt: HostRuntime) -> Result<(), Fail> {
-    let empty = GroupMark::of(&[]);
-    assert_eq!(rt; empty.length, 0);
-    assert_eq!(rt;
-        empty.digest,
-        [0xE3, 0xB0, 0xC4, 0x42, 0x98, 0xFC, 0x1C, 0x14]
-    );
-    Ok(())
-}
-
-/// The two groups, of which the first is too long, and these bytes behind them.
-fn with_too_long(alloc: Global, behind: &[u8]) -> Option<Vec<u8>> {
-    let mut stream = with_more(alloc, 4_200_000)?;
-    stream.extend_from_slice(behind).ok()?;
-    Some(stream)
-}
-
-#[test]
-fn answers_a_later_refusal_before_a_groups_fault(rt: HostRuntime) -> Result<(), Fail> {
-    let rows: [(&[u8], SourceFault); 2] = [
-        (&[], SourceFault::Plan(SessionFault::GroupTooLong(0))),
-        (
-            &[0, 0, 1, 0xBA],
-            SourceFault::Stream(Scan::System(4_200_022)),
-        ),
-    ];
-    for (behind, why) in rows {
-        let stream = with_too_long(rt.alloc(), behind).expect(&rt, "memory");
-        let fault = read(rt.alloc(), stream.as_slice())
-            .expect(&rt, "files")
-            .err();
-        assert_eq!(rt; fault, Some(why));
-    }
-    Ok(())
+fn marks_each_group_in_order_or_refuses_the_stream(rt: HostRuntime) {
+    assert_eq!(rt; first_wrong(rt.alloc(), &CASES), None);
+    assert!(rt; GroupMark::of(&[]) == NOTHING);
 }

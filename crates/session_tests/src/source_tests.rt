@@ -1,126 +1,155 @@
 //! The example session over files in memory, and what two files are refused for.
 use example_session::{PRIORITIES, SESSION, STREAM};
 use mpeg_scan::Scan;
-use pet_base::MemoryPlace;
-use priority_file::{Priority, PriorityFault, read_priority};
-use std::alloc::Global;
-use std::test::Fail;
-use stream_session::{Pass, SessionPlan, SourceFault, StreamFault, read_source};
+use pet_base::{MemoryPlace, NoMemory};
+use priority_file::{PriorityFault, read_priority};
+use std::alloc::{AllocError, Global};
+use stream_session::{Pass, SessionPlan, Source, SourceFault, StreamFault, read_source};
 use stripe_tests::is_example;
 
-/// The plan of a stream that comes in portions of so many bytes.
-fn plan_of(
-    alloc: Global,
-    priority: &Priority,
-    stream: &[u8],
-    portion: usize,
-) -> Result<SessionPlan, StreamFault> {
-    let mut pass = Pass::new(alloc, priority, PRIORITIES.as_bytes())?;
+/// The plan of a stream that comes in portions of so many bytes, under the example priorities.
+fn plan_of(alloc: Global, stream: &[u8], portion: usize) -> Result<SessionPlan, StreamFault> {
+    let Ok(priority) = read_priority(alloc, PRIORITIES.as_bytes()) else {
+        return Err(StreamFault::NoMemory);
+    };
+    let mut pass = Pass::new(alloc, &priority, PRIORITIES.as_bytes())?;
     for bytes in stream.chunks(portion.max(1)) {
         pass.add(bytes)?;
     }
     pass.finish()
 }
 
-#[test]
-fn plans_the_example_stream_in_portions(rt: HostRuntime) -> Result<(), Fail> {
-    let priority = read_priority(rt.alloc(), PRIORITIES.as_bytes()).expect(&rt, "a priority");
-    for portion in [1, 3, 7, 43, 44, 100] {
-        let plan = plan_of(rt.alloc(), &priority, &STREAM, portion).expect(&rt, "a plan");
-        assert_eq!(rt; plan.number, SESSION, "in portions of {portion}");
-        assert!(rt; is_example(&plan.tables), "in portions of {portion}");
+/// The example stream with a picture of another type.
+const NO_TYPE: [u8; 44] = [
+    0x00, 0x00, 0x01, 0xB3, 0x11, 0x22, 0x00, 0x00, 0x01, 0xB8, 0x33, 0x00, 0x00, 0x01, 0x00, 0x00,
+    0x28, 0x44, 0x00, 0x00, 0x01, 0x00, 0x00, 0x10, 0x55, 0x00, 0x00, 0x01, 0x00, 0x00, 0x18, 0x66,
+    0x00, 0x00, 0x01, 0x00, 0x00, 0x18, 0x77, 0x77, 0x00, 0x00, 0x01, 0xB7,
+];
+
+/// A stream, the bytes of its portions, and why there is no plan.
+type Portions = (&'static [u8], usize, Option<Scan>);
+
+static PORTIONS: [Portions; 9] = [
+    (&STREAM, 1, None),
+    (&STREAM, 3, None),
+    (&STREAM, 7, None),
+    (&STREAM, 43, None),
+    (&STREAM, 44, None),
+    (&STREAM, 100, None),
+    (&NO_TYPE, 1, Some(Scan::PictureType(11, 5))),
+    (&NO_TYPE, 44, Some(Scan::PictureType(11, 5))),
+    (&[], 1, Some(Scan::Empty)),
+];
+
+/// Whether the plan is that of the example session, or the stream is refused so.
+fn is_planned(alloc: Global, (stream, portion, refused): &Portions) -> bool {
+    match plan_of(alloc, *stream, *portion) {
+        Ok(plan) => refused.is_none() && plan.number == SESSION && is_example(&plan.tables),
+        Err(StreamFault::Stream(scan)) => *refused == Some(scan),
+        Err(_) => false,
     }
-    Ok(())
 }
 
-#[test]
-fn keeps_a_refusal_of_the_stream(rt: HostRuntime) -> Result<(), Fail> {
-    let priority = read_priority(rt.alloc(), PRIORITIES.as_bytes()).expect(&rt, "a priority");
-    let mut stream = STREAM;
-    stream[16] = 0x28;
-    let rows: [(&[u8], usize, Scan); 3] = [
-        (&stream, 1, Scan::PictureType(11, 5)),
-        (&stream, 44, Scan::PictureType(11, 5)),
-        (&[], 1, Scan::Empty),
-    ];
-    for (stream, portion, scan) in rows {
-        let fault = plan_of(rt.alloc(), &priority, stream, portion).err();
-        assert_eq!(rt; fault, Some(StreamFault::Stream(scan)));
+/// The number of the first row that is planned otherwise.
+fn first_other(alloc: Global, cases: &[Portions]) -> Option<usize> {
+    for row in 0..cases.len() {
+        if !is_planned(alloc, &cases[row]) {
+            return Some(row);
+        }
     }
-    Ok(())
-}
-
-/// A place with these two files, or without the stream, whose calls of these numbers fail.
-fn place_with(
-    alloc: Global,
-    stream: Option<&[u8]>,
-    priorities: &[u8],
-    failing: Vec<u64>,
-) -> Option<MemoryPlace> {
-    let mut place = MemoryPlace::new(alloc, failing);
-    if let Some(bytes) = stream {
-        place.add("s", bytes).ok()?;
-    }
-    place.add("p", priorities).ok()?;
-    Some(place)
-}
-
-/// Why these two files are no session.
-fn fault_of(alloc: Global, stream: Option<&[u8]>, priorities: &[u8]) -> Option<SourceFault> {
-    let mut place = place_with(alloc, stream, priorities, Vec::new(alloc))?;
-    read_source(alloc, "s", "p", &mut place).err()
+    None
 }
 
 #[test]
-fn reads_the_example_files(rt: HostRuntime) -> Result<(), Fail> {
-    let alloc = rt.alloc();
-    let mut place = place_with(alloc, Some(&STREAM), PRIORITIES.as_bytes(), Vec::new(alloc)).expect(
-        &rt, "files",
-    );
-    let source = read_source(alloc, "s", "p", &mut place).expect(&rt, "a session");
-    assert_eq!(rt; source.number, SESSION);
-    assert!(rt; is_example(&source.tables));
-    assert_eq!(rt; source.priority.packets, 6);
-    Ok(())
+fn plans_or_refuses_a_stream_in_portions(rt: HostRuntime) {
+    assert_eq!(rt; first_other(rt.alloc(), &PORTIONS), None);
+}
+
+/// The stream, where it is there; the text of the priority file, and how many bytes a comment behind it comes to; the call that
+/// fails, of enter, take, take of the one file and then of the other; and why there is no session.
+type Case = (
+    Option<&'static [u8]>,
+    &'static str,
+    usize,
+    &'static [u64],
+    Option<SourceFault>,
+);
+
+const TEXT: Option<SourceFault> = Some(SourceFault::Priority(PriorityFault::Text));
+
+const EMPTY: Option<SourceFault> = Some(SourceFault::Stream(Scan::Empty));
+
+const FAILED: Option<SourceFault> = Some(SourceFault::Failed);
+
+static FILES: [Case; 13] = [
+    (Some(&STREAM), PRIORITIES, 0, &[], None),
+    // the priority file is refused first
+    (Some(&STREAM), "packets", 0, &[], TEXT),
+    (None, "packets", 0, &[], TEXT),
+    (Some(&[]), "packets", 0, &[], TEXT),
+    (Some(&[]), PRIORITIES, 0, &[], EMPTY),
+    // a file of 65,536 bytes, and of one more
+    (Some(&[]), PRIORITIES, 65_536, &[], EMPTY),
+    (
+        Some(&[]),
+        PRIORITIES,
+        65_537,
+        &[],
+        Some(SourceFault::Priority(PriorityFault::Long)),
+    ),
+    (Some(&STREAM), PRIORITIES, 0, &[0], FAILED),
+    (Some(&STREAM), PRIORITIES, 0, &[1], FAILED),
+    (Some(&STREAM), PRIORITIES, 0, &[2], FAILED),
+    (Some(&STREAM), PRIORITIES, 0, &[3], FAILED),
+    (Some(&STREAM), PRIORITIES, 0, &[4], FAILED),
+    (Some(&STREAM), PRIORITIES, 0, &[5], FAILED),
+];
+
+/// A text, and a comment behind it up to so many bytes.
+fn with_comment(alloc: Global, text: &str, length: usize) -> Result<Vec<u8>, AllocError> {
+    let mut bytes = Vec::from_slice(alloc, text.as_bytes())?;
+    if bytes.len() < length {
+        bytes.push(b'#')?;
+        bytes.resize(length, b' ')?;
+    }
+    Ok(bytes)
+}
+
+/// What the two files are read as.
+fn read(alloc: Global, case: &Case) -> Result<Result<Source, SourceFault>, NoMemory> {
+    let mut place = MemoryPlace::new(alloc, Vec::from_slice(alloc, case.3)?);
+    if let Some(stream) = case.0 {
+        place.add("s", stream)?;
+    }
+    place.add("p", &with_comment(alloc, case.1, case.2)?)?;
+    Ok(read_source(alloc, "s", "p", &mut place))
+}
+
+/// Whether the files are the example session, or none for this reason.
+fn is_read(alloc: Global, case: &Case) -> bool {
+    match read(alloc, case) {
+        Ok(Ok(source)) => {
+            case.4.is_none()
+                && source.number == SESSION
+                && is_example(&source.tables)
+                && source.priority.packets == 6
+        }
+        Ok(Err(fault)) => case.4 == Some(fault),
+        Err(NoMemory) => false,
+    }
+}
+
+/// The number of the first row that is read otherwise.
+fn first_wrong(alloc: Global, cases: &[Case]) -> Option<usize> {
+    for row in 0..cases.len() {
+        if !is_read(alloc, &cases[row]) {
+            return Some(row);
+        }
+    }
+    None
 }
 
 #[test]
-fn refuses_the_priority_file_first(rt: HostRuntime) -> Result<(), Fail> {
-    let alloc = rt.alloc();
-    // a comment that makes a file of 65,536 bytes, and of one more
-    let mut longest = Vec::from_slice(alloc, PRIORITIES.as_bytes())?;
-    longest.push(b'#')?;
-    longest.resize(65_536, b' ')?;
-    let mut longer = longest.clone()?;
-    longer.push(b' ')?;
-    let text = SourceFault::Priority(PriorityFault::Text);
-    let long = SourceFault::Priority(PriorityFault::Long);
-    let empty = SourceFault::Stream(Scan::Empty);
-    let rows: [(Option<&[u8]>, &[u8], SourceFault); 6] = [
-        (Some(&STREAM), b"packets", text),
-        (None, b"packets", text),
-        (Some(&[]), b"packets", text),
-        (Some(&[]), PRIORITIES.as_bytes(), empty),
-        (Some(&[]), &longest, empty),
-        (Some(&[]), &longer, long),
-    ];
-    for (stream, priorities, fault) in rows {
-        assert_eq!(rt; fault_of(alloc, stream, priorities), Some(fault));
-    }
-    Ok(())
-}
-
-#[test]
-fn answers_a_failed_call_as_a_failure(rt: HostRuntime) -> Result<(), Fail> {
-    let alloc = rt.alloc();
-    // the calls are enter, take, take of the one file, and then of the other
-    for call in 0..6u64 {
-        let failing = Vec::from_array(alloc, [call])?;
-        let mut place = place_with(alloc, Some(&STREAM), PRIORITIES.as_bytes(), failing).expect(
-            &rt, "files",
-        );
-        let fault = read_source(alloc, "s", "p", &mut place).err();
-        assert_eq!(rt; fault, Some(SourceFault::Failed), "at call {call}");
-    }
-    Ok(())
+fn reads_the_example_files_or_refuses_the_priority_file_first(rt: HostRuntime) {
+    assert_eq!(rt; first_wrong(rt.alloc(), &FILES), None);
 }

@@ -4,8 +4,8 @@ use example_session::STREAM;
 use layer_split::{
     GroupCut, NamedRun, Run, SplitFault, Splitter, layer_bytes, message, read_run_table, split,
 };
-use pet_base::{Kind, MAX_LAYERS};
-use std::test::Fail;
+use pet_base::{Kind, MAX_LAYERS, NoMemory};
+use std::alloc::Global;
 use stream_tests::{EXAMPLE_PIECES, piece, pieces_on_end, priority_of, three_layers};
 
 const P: u32 = 4;
@@ -21,12 +21,14 @@ const B1: u32 = 1 << 14;
 
 /// The kinds and places of layers 1 and 2; pieces that stand on end, each a kind, its code and its bytes; and for each
 /// group its runs, a layer, a start and a length each, and the lengths of its layers. Layer 0 has the other kinds.
-const SPLIT: [(
+type Split = (
     u32,
     u32,
-    &[(Kind, u8, u64)],
-    &[(&[(u8, u64, u32)], [u32; 3])],
-); 6] = [
+    &'static [(Kind, u8, u64)],
+    &'static [(&'static [(u8, u64, u32)], [u32; 3])],
+);
+
+static SPLIT: [Split; 6] = [
     (
         P,
         B,
@@ -92,7 +94,7 @@ const SPLIT: [(
 ];
 
 /// Whether a group has these runs, and layers of these lengths.
-fn is_cut(cut: &GroupCut, runs: &[(u8, u64, u32)], lengths: &[u32; 3]) -> bool {
+pub(crate) fn is_cut(cut: &GroupCut, runs: &[(u8, u64, u32)], lengths: &[u32; 3]) -> bool {
     cut.lengths.as_slice() == lengths.as_slice()
         && cut.runs.len() == runs.len()
         && cut
@@ -102,120 +104,169 @@ fn is_cut(cut: &GroupCut, runs: &[(u8, u64, u32)], lengths: &[u32; 3]) -> bool {
             .all(|(run, wanted)| (run.layer, run.at, run.len) == *wanted)
 }
 
-#[test]
-fn splits_streams_into_groups_and_layers(rt: HostRuntime) -> Result<(), Fail> {
-    for (second, third, kinds, groups) in SPLIT {
-        let priority = priority_of(6, &[(HEAD_I_D, 2), (second, 3), (third, 5)]).expect(
-            &rt,
-            "a priority",
-        );
-        let pieces = pieces_on_end(rt.alloc(), kinds)?;
-        let cuts = split(rt.alloc(), &pieces, &priority).expect(&rt, "cuts");
-        assert_eq!(rt; cuts.len(), groups.len());
-        for (cut, (runs, lengths)) in cuts.iter().zip(groups) {
-            assert!(rt; is_cut(cut, runs, lengths));
+/// The groups of such a stream.
+fn cuts_of(alloc: Global, (second, third, kinds, _): &Split) -> Result<Vec<GroupCut>, SplitFault> {
+    let rules = [(HEAD_I_D, 2), (*second, 3), (*third, 5)];
+    match (priority_of(6, &rules), pieces_on_end(alloc, kinds)) {
+        (Some(priority), Ok(pieces)) => split(alloc, &pieces, &priority),
+        _ => Err(SplitFault::NoMemory),
+    }
+}
+
+/// Whether a stream has these groups.
+fn is_split(alloc: Global, case: &Split) -> bool {
+    match cuts_of(alloc, case) {
+        Ok(cuts) => {
+            cuts.len() == case.3.len()
+                && cuts
+                    .iter()
+                    .zip(case.3)
+                    .all(|(cut, (runs, lengths))| is_cut(cut, runs, lengths))
+        }
+        Err(_) => false,
+    }
+}
+
+/// The number of the first row that is split otherwise.
+fn first_wrong(alloc: Global, cases: &[Split]) -> Option<usize> {
+    for row in 0..cases.len() {
+        if !is_split(alloc, &cases[row]) {
+            return Some(row);
         }
     }
-    Ok(())
+    None
 }
 
 #[test]
-fn gives_the_layers_and_the_message_of_the_example_stream(rt: HostRuntime) -> Result<(), Fail> {
-    let runs = Vec::from_array(
-        rt.alloc(),
-        [
-            Run {
-                layer: 0,
-                at: 0,
-                len: 18,
-            },
-            Run {
-                layer: 1,
-                at: 18,
-                len: 7,
-            },
-            Run {
-                layer: 2,
-                at: 25,
-                len: 15,
-            },
-            Run {
-                layer: 0,
-                at: 40,
-                len: 4,
-            },
-        ],
-    )?;
+fn splits_streams_into_groups_and_layers(rt: HostRuntime) {
+    assert_eq!(rt; first_wrong(rt.alloc(), &SPLIT), None);
+}
+
+/// The runs of the example stream.
+const RUNS: [Run; 4] = [
+    Run {
+        layer: 0,
+        at: 0,
+        len: 18,
+    },
+    Run {
+        layer: 1,
+        at: 18,
+        len: 7,
+    },
+    Run {
+        layer: 2,
+        at: 25,
+        len: 15,
+    },
+    Run {
+        layer: 0,
+        at: 40,
+        len: 4,
+    },
+];
+
+/// Its run table.
+const TABLE: [u8; 24] = [
+    0, 0, 0, 4, 0, 0, 0, 0, 0x12, 1, 0, 0, 0, 7, 2, 0, 0, 0, 0x0F, 0, 0, 0, 0, 4,
+];
+
+/// Layer 0 of the example stream, and its message behind that.
+fn layer_and_message(alloc: Global) -> Result<Vec<u8>, NoMemory> {
+    let runs = Vec::from_array(alloc, RUNS)?;
     let mut lengths: ArrayVec<u32, MAX_LAYERS> = ArrayVec::new();
     lengths.push(46);
     lengths.push(7);
     lengths.push(15);
     let cut = GroupCut { runs, lengths };
-    let mut bytes = Vec::new(rt.alloc());
-    layer_bytes(&STREAM, &cut, 0, &mut bytes).expect(&rt, "memory");
-    let table = [
-        0, 0, 0, 4, 0, 0, 0, 0, 0x12, 1, 0, 0, 0, 7, 2, 0, 0, 0, 0x0F, 0, 0, 0, 0, 4,
-    ];
-    assert_eq!(rt; bytes.len(), 46);
-    assert!(rt; bytes.starts_with(&table));
-    let mut words = Vec::new(rt.alloc());
-    message(&STREAM, &cut, &mut words).expect(&rt, "memory");
-    assert_eq!(rt; words.len(), 70);
-    assert!(rt; words.get(46..54) == Some([0, 0, 1, 0, 0, 0x10, 0x55, 0].as_slice()));
-    Ok(())
+    let mut bytes = Vec::new(alloc);
+    layer_bytes(&STREAM, &cut, 0, &mut bytes)?;
+    message(&STREAM, &cut, &mut bytes)?;
+    Ok(bytes)
 }
 
-fn named_run(layer: u8, len: u32) -> NamedRun {
-    NamedRun { layer, len }
+/// Whether these are a layer of 46 bytes that begins with the run table, and a message of 70 whose layer 1 stands at 46.
+fn are_layer_and_message(bytes: &[u8]) -> bool {
+    bytes.len() == 116
+        && bytes.starts_with(&TABLE)
+        && bytes.get(92..100) == Some([0, 0, 1, 0, 0, 0x10, 0x55, 0].as_slice())
 }
 
 #[test]
-fn reads_the_run_table_of_the_example_stream(rt: HostRuntime) -> Result<(), Fail> {
-    let mut layer_0 = Vec::new(rt.alloc());
-    layer_0.extend_from_slice(&[
-        0, 0, 0, 4, 0, 0, 0, 0, 0x12, 1, 0, 0, 0, 7, 2, 0, 0, 0, 0x0F, 0, 0, 0, 0, 4,
-    ])?;
-    layer_0.extend_from_slice(&[0; 22])?;
-    let named = read_run_table(rt.alloc(), &layer_0, &[46, 7, 15]).expect(&rt, "memory");
-    let expected = [
-        named_run(0, 18),
-        named_run(1, 7),
-        named_run(2, 15),
-        named_run(0, 4),
-    ];
-    assert_eq!(rt;
-        named.expect(&rt, "a table that fits").as_slice(),
-        expected.as_slice()
-    );
-    let unfit = read_run_table(rt.alloc(), &layer_0, &[46, 8, 14]).expect(&rt, "memory");
-    assert!(rt; unfit.is_none());
-    Ok(())
+fn gives_the_layers_and_the_message_of_the_example_stream(rt: HostRuntime) {
+    let bytes = layer_and_message(rt.alloc()).expect(&rt, "memory");
+    assert!(rt; are_layer_and_message(&bytes));
 }
 
-#[test]
-fn refuses_a_group_of_one_byte_too_many(rt: HostRuntime) -> Result<(), Fail> {
-    let priority = three_layers(6, [2, 3, 5]).expect(&rt, "a priority");
-    let longest = [piece(Kind::Head, 0xB3, 0, 4_194_295)];
-    let too_long = [piece(Kind::Head, 0xB3, 0, 4_194_296)];
-    assert!(rt; split(rt.alloc(), &longest, &priority).is_ok());
-    let refused = split(rt.alloc(), &too_long, &priority);
-    assert!(rt; matches!(&refused, Err(SplitFault::GroupTooLong(0))));
-    Ok(())
-}
+/// A layer 0 of 46 bytes that begins with the run table of the example stream.
+const LAYER_0: [u8; 46] = [
+    0, 0, 0, 4, 0, 0, 0, 0, 0x12, 1, 0, 0, 0, 7, 2, 0, 0, 0, 0x0F, 0, 0, 0, 0, 4, 0, 0, 0, 0, 0, 0,
+    0, 0, 0, 0, 0, 0, 0, 0, 0, 0, 0, 0, 0, 0, 0, 0,
+];
 
-#[test]
-fn refuses_one_group_too_many_again_at_the_next_call(rt: HostRuntime) -> Result<(), Fail> {
-    let priority = three_layers(6, [2, 3, 5]).expect(&rt, "a priority");
-    let mut splitter = Splitter::new(rt.alloc(), &priority).expect(&rt, "memory");
-    let head = piece(Kind::Head, 0xB8, 0, 4);
-    let picture = piece(Kind::I, 0, 4, 6);
-    for _group in 0..65_535u32 {
-        assert!(rt; splitter.add(&head).is_ok());
-        assert!(rt; splitter.add(&picture).is_ok());
+const NAMED: [NamedRun; 4] = [
+    NamedRun { layer: 0, len: 18 },
+    NamedRun { layer: 1, len: 7 },
+    NamedRun { layer: 2, len: 15 },
+    NamedRun { layer: 0, len: 4 },
+];
+
+/// Whether the run table of such a layer 0 fits layers of these lengths, and has the runs; or whether it does not fit.
+fn fits(alloc: Global, lengths: &[u32; 3], fits: bool) -> bool {
+    match read_run_table(alloc, &LAYER_0, lengths) {
+        Ok(Some(runs)) => fits && runs.as_slice() == NAMED.as_slice(),
+        Ok(None) => !fits,
+        Err(NoMemory) => false,
     }
-    let refused = splitter.add(&head);
-    assert!(rt; matches!(&refused, Err(SplitFault::TooManyGroups)));
-    let again = splitter.finish();
-    assert!(rt; matches!(&again, Err(SplitFault::TooManyGroups)));
+}
+
+#[test]
+fn reads_the_run_table_of_the_example_stream(rt: HostRuntime) {
+    assert!(rt; fits(rt.alloc(), &[46, 7, 15], true));
+    assert!(rt; fits(rt.alloc(), &[46, 8, 14], false));
+}
+
+/// Why a stream of one head of so many bytes is refused.
+fn fault_of(alloc: Global, length: u64) -> Option<SplitFault> {
+    match three_layers(6, [2, 3, 5]) {
+        Some(priority) => split(alloc, &[piece(Kind::Head, 0xB3, 0, length)], &priority).err(),
+        None => Some(SplitFault::NoMemory),
+    }
+}
+
+#[test]
+fn refuses_a_group_of_one_byte_too_many(rt: HostRuntime) {
+    assert!(rt; fault_of(rt.alloc(), 4_194_295).is_none());
+    assert!(rt;
+        matches!(
+            fault_of(rt.alloc(), 4_194_296),
+            Some(SplitFault::GroupTooLong(0))
+        )
+    );
+}
+
+/// Adds so many groups of a head and a picture.
+fn add_groups(splitter: &mut Splitter, count: u32) -> Result<(), SplitFault> {
+    for _group in 0..count {
+        splitter.add(&piece(Kind::Head, 0xB8, 0, 4))?;
+        splitter.add(&piece(Kind::I, 0, 4, 6))?;
+    }
     Ok(())
+}
+
+/// Whether the head of a group too many is refused, and the end of the stream behind it, for the groups.
+fn refuses_again(mut splitter: Splitter) -> bool {
+    add_groups(&mut splitter, 65_535).is_ok()
+        && matches!(
+            splitter.add(&piece(Kind::Head, 0xB8, 0, 4)),
+            Err(SplitFault::TooManyGroups)
+        )
+        && matches!(splitter.finish(), Err(SplitFault::TooManyGroups))
+}
+
+#[test]
+fn refuses_one_group_too_many_again_at_the_next_call(rt: HostRuntime) {
+    let priority = three_layers(6, [2, 3, 5]).expect(&rt, "a priority");
+    let splitter = Splitter::new(rt.alloc(), &priority).expect(&rt, "memory");
+    assert!(rt; refuses_again(splitter));
 }
