@@ -11,13 +11,9 @@ pub use marks::{
 };
 
 #[cfg(test)]
-mod fixtures;
-#[cfg(test)]
-mod plan_fixtures;
+mod cases;
 #[cfg(test)]
 mod plan_tests;
-#[cfg(test)]
-mod send_fixtures;
 #[cfg(test)]
 mod send_link_tests;
 #[cfg(test)]

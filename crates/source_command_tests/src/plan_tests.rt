@@ -1,20 +1,26 @@
 //! `plan` and `check` over objects in memory. Plans and session numbers were computed outside.
-use crate::fixtures::place_of;
-use crate::plan_fixtures::{NO_LAYERS, check_on, plan_on};
+use crate::cases::{ALL_GO, Case, Files, NO_TYPE, Run, Stream, first_wrong};
 use command_plan::{CheckEnd, PlanEnd};
 use example_session::{PLAN, PRIORITIES, STREAM};
 use mpeg_scan::Scan;
-use pet_base::MemorySink;
 use priority_file::PriorityFault;
-use std::alloc::{AllocError, Global};
-use std::test::Fail;
 use stream_session::SessionFault;
 
-/// A head and an I picture.
-const ONE_PICTURE: [u8; 11] = [0, 0, 1, 0xB3, 0, 0, 1, 0, 0, 8, 0x44];
+/// The example stream; a head and an I picture; heads in one piece of 64,931 and of 64,933 bytes; groups of ten bytes.
+const EXAMPLE: Stream = (&STREAM, &[], 0);
 
-/// A head and a picture of no type.
-const NO_TYPE: [u8; 10] = [0, 0, 1, 0xB3, 0, 0, 1, 0, 0, 0x28];
+const ONE_PICTURE: Stream = (&[0, 0, 1, 0xB3, 0, 0, 1, 0, 0, 8, 0x44], &[], 0);
+
+const WIDEST: Stream = (&[0, 0, 1, 0xB3], &[0xFF], 64_927);
+
+const TOO_WIDE: Stream = (&[0, 0, 1, 0xB3], &[0xFF], 64_929);
+
+const MANY: Stream = (&[], &[0, 0, 1, 0xB8, 0, 0, 1, 0, 0, 8], 65_536);
+
+const EMPTY: Stream = (&[], &[], 0);
+
+/// A priority file without layers.
+const NO_LAYERS: &str = "packets = 4097\n";
 
 /// One packet, which shows all layers.
 const ALL_IN_ONE: &str =
@@ -41,154 +47,308 @@ const ANY_ORDER_PLAN: &str =
 const FIRST_B_PLAN: &str =
     "session 7155c4f4ede0094a groups 1 packets 6\ngroup 0 words 34 stripes 15 bound 16 datagram 89\nlayer 0 base bytes 46 need 2 count 2\nlayer 1 P bytes 14 need 3 count 3\nlayer 2 B bytes 8 need 5 count 4\nlengths 2x12 3x2 4x1\n";
 
-/// A head of so many bytes.
-fn head_of(alloc: Global, len: usize) -> Result<Vec<u8>, AllocError> {
-    let mut bytes = Vec::from_slice(alloc, &[0, 0, 1, 0xB3])?;
-    bytes.resize(len, 0xFF)?;
-    Ok(bytes)
-}
+const PLANNED: Run = Run::Plan(PlanEnd::Done);
 
-/// So many groups of ten bytes.
-fn groups_of(alloc: Global, count: u32) -> Result<Vec<u8>, AllocError> {
-    let mut bytes = Vec::new(alloc);
-    for _ in 0..count {
-        bytes.extend_from_slice(&[0, 0, 1, 0xB8, 0, 0, 1, 0, 0, 8])?;
-    }
-    Ok(bytes)
-}
+const NO_PLACE: Run = Run::Plan(PlanEnd::PlaceFault);
+
+const CHECKED: Run = Run::Check(CheckEnd::Done);
+
+const NO_PLACE_CHECKED: Run = Run::Check(CheckEnd::PlaceFault);
+
+/// Streams and priorities, and their plan or why there is none.
+static PLANS: [Case; 10] = [
+    (
+        (Some(EXAMPLE), Some(PRIORITIES), None),
+        ALL_GO,
+        PLANNED,
+        PLAN,
+        None,
+        0,
+    ),
+    (
+        (Some(EXAMPLE), Some(NEEDS_IN_ANY_ORDER), None),
+        ALL_GO,
+        PLANNED,
+        ANY_ORDER_PLAN,
+        None,
+        0,
+    ),
+    (
+        (Some(EXAMPLE), Some(FIRST_B_WITH_P), None),
+        ALL_GO,
+        PLANNED,
+        FIRST_B_PLAN,
+        None,
+        0,
+    ),
+    // one run, and two empty layers
+    (
+        (Some(ONE_PICTURE), Some(PRIORITIES), None),
+        ALL_GO,
+        PLANNED,
+        ONE_PICTURE_PLAN,
+        None,
+        0,
+    ),
+    (
+        (Some(WIDEST), Some(ALL_IN_ONE), None),
+        ALL_GO,
+        PLANNED,
+        WIDEST_PLAN,
+        None,
+        0,
+    ),
+    (
+        (Some(TOO_WIDE), Some(ALL_IN_ONE), None),
+        ALL_GO,
+        Run::Plan(PlanEnd::BadPlan(SessionFault::TooWide(0))),
+        "",
+        None,
+        0,
+    ),
+    (
+        (Some(MANY), Some(PRIORITIES), None),
+        ALL_GO,
+        Run::Plan(PlanEnd::BadPlan(SessionFault::TooManyGroups)),
+        "",
+        None,
+        0,
+    ),
+    (
+        (Some(EMPTY), Some(PRIORITIES), None),
+        ALL_GO,
+        Run::Plan(PlanEnd::BadStream(Scan::Empty)),
+        "",
+        None,
+        0,
+    ),
+    (
+        (Some((NO_TYPE, &[], 0)), Some(PRIORITIES), None),
+        ALL_GO,
+        Run::Plan(PlanEnd::BadStream(Scan::PictureType(4, 5))),
+        "",
+        None,
+        0,
+    ),
+    // a bad priority file comes before a bad stream
+    (
+        (Some(EMPTY), Some(NO_LAYERS), None),
+        ALL_GO,
+        Run::Plan(PlanEnd::BadPriority(PriorityFault::MissingKey)),
+        "",
+        None,
+        0,
+    ),
+];
 
 #[test]
-fn plans_or_refuses_a_stream(rt: HostRuntime) -> Result<(), Fail> {
-    let alloc = rt.alloc();
-    let widest = head_of(alloc, 64_931)?;
-    let too_wide = head_of(alloc, 64_933)?;
-    let many = groups_of(alloc, 65_536)?;
-    let wide_plan = PlanEnd::BadPlan(SessionFault::TooWide(0));
-    let many_plan = PlanEnd::BadPlan(SessionFault::TooManyGroups);
-    let no_type = PlanEnd::BadStream(Scan::PictureType(4, 5));
-    let empty = PlanEnd::BadStream(Scan::Empty);
-    let no_layers = PlanEnd::BadPriority(PriorityFault::MissingKey);
-    let rows: [(&[u8], &str, PlanEnd, &str); 10] = [
-        (&STREAM, PRIORITIES, PlanEnd::Done, PLAN),
-        (&STREAM, NEEDS_IN_ANY_ORDER, PlanEnd::Done, ANY_ORDER_PLAN),
-        (&STREAM, FIRST_B_WITH_P, PlanEnd::Done, FIRST_B_PLAN),
-        // one run, and two empty layers
-        (&ONE_PICTURE, PRIORITIES, PlanEnd::Done, ONE_PICTURE_PLAN),
-        (&widest, ALL_IN_ONE, PlanEnd::Done, WIDEST_PLAN),
-        (&too_wide, ALL_IN_ONE, wide_plan, ""),
-        (&many, PRIORITIES, many_plan, ""),
-        (&[], PRIORITIES, empty, ""),
-        (&NO_TYPE, PRIORITIES, no_type, ""),
-        // a bad priority file comes before a bad stream
-        (&[], NO_LAYERS, no_layers, ""),
-    ];
-    for (stream, priorities, end, printed) in rows {
-        let files: [(&str, &[u8]); 2] = [("s", stream), ("f", priorities.as_bytes())];
-        let mut place = place_of(alloc, &files, &[])?;
-        let mut out = MemorySink::new(alloc, Vec::new(alloc));
-        assert_eq!(rt; plan_on(alloc, &mut place, &mut out), end);
-        assert_eq!(rt; out.bytes(), printed.as_bytes());
-    }
-    Ok(())
+fn plans_or_refuses_a_stream(rt: HostRuntime) {
+    assert_eq!(rt; first_wrong(rt.alloc(), &PLANS), None);
 }
 
-#[test]
-fn checks_plans_of_the_example(rt: HostRuntime) -> Result<(), Fail> {
-    let alloc = rt.alloc();
-    let not_least = CheckEnd::NotLeast(0);
-    let rows: [(&str, CheckEnd, &str); 7] = [
-        (PLAN, CheckEnd::Done, "least 1\n"),
-        ("lengths 2x11 1x1 3x1 1x1 5x1 3x1\n", not_least, ""),
-        ("lengths 2x012\n", CheckEnd::Text(1), ""),
-        ("", CheckEnd::Lines(0), ""),
+const NOT_LEAST: Run = Run::Check(CheckEnd::NotLeast(0));
+
+/// Plan files of the example session.
+static CHECKS: [Case; 7] = [
+    (
+        (Some(EXAMPLE), Some(PRIORITIES), Some(PLAN)),
+        ALL_GO,
+        CHECKED,
+        "least 1\n",
+        None,
+        0,
+    ),
+    (
         (
-            "lengths 2x12 3x1 5x1 3x1\nlengths 2x12 3x1 5x1 3x1",
-            CheckEnd::Lines(2),
-            "",
+            Some(EXAMPLE),
+            Some(PRIORITIES),
+            Some("lengths 2x11 1x1 3x1 1x1 5x1 3x1\n"),
         ),
-        // too few words, and too many
-        ("lengths 2x12 3x1 5x1\n", not_least, ""),
+        ALL_GO,
+        NOT_LEAST,
+        "",
+        None,
+        0,
+    ),
+    (
+        (Some(EXAMPLE), Some(PRIORITIES), Some("lengths 2x012\n")),
+        ALL_GO,
+        Run::Check(CheckEnd::Text(1)),
+        "",
+        None,
+        0,
+    ),
+    (
+        (Some(EXAMPLE), Some(PRIORITIES), Some("")),
+        ALL_GO,
+        Run::Check(CheckEnd::Lines(0)),
+        "",
+        None,
+        0,
+    ),
+    (
         (
-            "lengths 2x12 3x1 5x1 3x1 4294967295x4294967295\n",
-            not_least,
-            "",
+            Some(EXAMPLE),
+            Some(PRIORITIES),
+            Some("lengths 2x12 3x1 5x1 3x1\nlengths 2x12 3x1 5x1 3x1"),
         ),
-    ];
-    for (plan, end, printed) in rows {
-        let files: [(&str, &[u8]); 3] = [
-            ("s", &STREAM),
-            ("f", PRIORITIES.as_bytes()),
-            ("p", plan.as_bytes()),
-        ];
-        let mut place = place_of(alloc, &files, &[])?;
-        let mut out = MemorySink::new(alloc, Vec::new(alloc));
-        assert_eq!(rt; check_on(alloc, &mut place, &mut out), end, "{plan}");
-        assert_eq!(rt; out.bytes(), printed.as_bytes(), "{plan}");
-    }
-    Ok(())
-}
+        ALL_GO,
+        Run::Check(CheckEnd::Lines(2)),
+        "",
+        None,
+        0,
+    ),
+    // too few words, and too many
+    (
+        (
+            Some(EXAMPLE),
+            Some(PRIORITIES),
+            Some("lengths 2x12 3x1 5x1\n"),
+        ),
+        ALL_GO,
+        NOT_LEAST,
+        "",
+        None,
+        0,
+    ),
+    (
+        (
+            Some(EXAMPLE),
+            Some(PRIORITIES),
+            Some("lengths 2x12 3x1 5x1 3x1 4294967295x4294967295\n"),
+        ),
+        ALL_GO,
+        NOT_LEAST,
+        "",
+        None,
+        0,
+    ),
+];
 
 #[test]
-fn judges_one_file_after_the_other(rt: HostRuntime) -> Result<(), Fail> {
-    let alloc = rt.alloc();
-    let rules = PRIORITIES.as_bytes();
-    let refused = PriorityFault::MissingKey;
-    let rows: [(&[(&str, &[u8])], PlanEnd, CheckEnd); 5] = [
-        (&[], PlanEnd::PlaceFault, CheckEnd::PlaceFault),
-        // a bad priority file, and a stream that is missing
-        (
-            &[("f", NO_LAYERS.as_bytes())],
-            PlanEnd::BadPriority(refused),
-            CheckEnd::BadPriority(refused),
-        ),
-        (&[("f", rules)], PlanEnd::PlaceFault, CheckEnd::PlaceFault),
-        // a bad stream, and a plan file that is missing
-        (
-            &[("f", rules), ("s", &[])],
-            PlanEnd::BadStream(Scan::Empty),
-            CheckEnd::BadStream(Scan::Empty),
-        ),
-        (
-            &[("f", rules), ("s", &STREAM)],
-            PlanEnd::Done,
-            CheckEnd::PlaceFault,
-        ),
-    ];
-    for (files, plan_end, check_end) in rows {
-        let mut place = place_of(alloc, files, &[])?;
-        let mut out = MemorySink::new(alloc, Vec::new(alloc));
-        assert_eq!(rt; check_on(alloc, &mut place, &mut out), check_end);
-        assert!(rt; out.bytes().is_empty());
-        assert_eq!(rt; plan_on(alloc, &mut place, &mut out), plan_end);
-    }
-    Ok(())
+fn checks_plans_of_the_example(rt: HostRuntime) {
+    assert_eq!(rt; first_wrong(rt.alloc(), &CHECKS), None);
 }
 
-/// Of each file there are three calls: it is entered, has all its bytes taken, and is at its end.
+/// Files that are missing or bad, each judged before the next is read.
+static JUDGED: [Case; 10] = [
+    ((None, None, None), ALL_GO, NO_PLACE_CHECKED, "", None, 0),
+    ((None, None, None), ALL_GO, NO_PLACE, "", None, 0),
+    // a bad priority file, and a stream that is missing
+    (
+        (None, Some(NO_LAYERS), None),
+        ALL_GO,
+        Run::Check(CheckEnd::BadPriority(PriorityFault::MissingKey)),
+        "",
+        None,
+        0,
+    ),
+    (
+        (None, Some(NO_LAYERS), None),
+        ALL_GO,
+        Run::Plan(PlanEnd::BadPriority(PriorityFault::MissingKey)),
+        "",
+        None,
+        0,
+    ),
+    (
+        (None, Some(PRIORITIES), None),
+        ALL_GO,
+        NO_PLACE_CHECKED,
+        "",
+        None,
+        0,
+    ),
+    (
+        (None, Some(PRIORITIES), None),
+        ALL_GO,
+        NO_PLACE,
+        "",
+        None,
+        0,
+    ),
+    // a bad stream, and a plan file that is missing
+    (
+        (Some(EMPTY), Some(PRIORITIES), None),
+        ALL_GO,
+        Run::Check(CheckEnd::BadStream(Scan::Empty)),
+        "",
+        None,
+        0,
+    ),
+    (
+        (Some(EMPTY), Some(PRIORITIES), None),
+        ALL_GO,
+        Run::Plan(PlanEnd::BadStream(Scan::Empty)),
+        "",
+        None,
+        0,
+    ),
+    (
+        (Some(EXAMPLE), Some(PRIORITIES), None),
+        ALL_GO,
+        NO_PLACE_CHECKED,
+        "",
+        None,
+        0,
+    ),
+    (
+        (Some(EXAMPLE), Some(PRIORITIES), None),
+        ALL_GO,
+        PLANNED,
+        PLAN,
+        None,
+        0,
+    ),
+];
+
 #[test]
-fn fails_where_a_call_of_the_outside_does(rt: HostRuntime) -> Result<(), Fail> {
-    let alloc = rt.alloc();
-    let files: [(&str, &[u8]); 3] = [
-        ("s", &STREAM),
-        ("f", PRIORITIES.as_bytes()),
-        ("p", PLAN.as_bytes()),
-    ];
-    for call in 0..9u64 {
-        let mut place = place_of(alloc, &files, &[call])?;
-        let mut out = MemorySink::new(alloc, Vec::new(alloc));
-        assert_eq!(rt; check_on(alloc, &mut place, &mut out), CheckEnd::PlaceFault);
-        assert!(rt; out.bytes().is_empty());
-    }
-    for call in 0..6u64 {
-        let mut place = place_of(alloc, &files, &[call])?;
-        let mut out = MemorySink::new(alloc, Vec::new(alloc));
-        assert_eq!(rt; plan_on(alloc, &mut place, &mut out), PlanEnd::PlaceFault);
-        assert!(rt; out.bytes().is_empty());
-    }
-    let mut place = place_of(alloc, &files, &[15])?;
-    let mut out = MemorySink::new(alloc, Vec::from_slice(alloc, &[0, 1])?);
-    assert_eq!(rt; check_on(alloc, &mut place, &mut out), CheckEnd::OutFault);
-    assert_eq!(rt; plan_on(alloc, &mut place, &mut out), PlanEnd::OutFault);
-    assert_eq!(rt; plan_on(alloc, &mut place, &mut out), PlanEnd::PlaceFault);
-    Ok(())
+fn judges_one_file_after_the_other(rt: HostRuntime) {
+    assert_eq!(rt; first_wrong(rt.alloc(), &JUDGED), None);
+}
+
+const ALL: Files = (Some(EXAMPLE), Some(PRIORITIES), Some(PLAN));
+
+/// Of each file there are three calls: it is entered, has all its bytes taken, and is at its end. What is printed is put in one.
+static FAILING: [Case; 21] = [
+    (ALL, [&[0], &[], &[]], NO_PLACE_CHECKED, "", None, 0),
+    (ALL, [&[1], &[], &[]], NO_PLACE_CHECKED, "", None, 0),
+    (ALL, [&[2], &[], &[]], NO_PLACE_CHECKED, "", None, 0),
+    (ALL, [&[3], &[], &[]], NO_PLACE_CHECKED, "", None, 0),
+    (ALL, [&[4], &[], &[]], NO_PLACE_CHECKED, "", None, 0),
+    (ALL, [&[5], &[], &[]], NO_PLACE_CHECKED, "", None, 0),
+    (ALL, [&[6], &[], &[]], NO_PLACE_CHECKED, "", None, 0),
+    (ALL, [&[7], &[], &[]], NO_PLACE_CHECKED, "", None, 0),
+    (ALL, [&[8], &[], &[]], NO_PLACE_CHECKED, "", None, 0),
+    (ALL, [&[9], &[], &[]], CHECKED, "least 1\n", None, 0),
+    (ALL, [&[0], &[], &[]], NO_PLACE, "", None, 0),
+    (ALL, [&[1], &[], &[]], NO_PLACE, "", None, 0),
+    (ALL, [&[2], &[], &[]], NO_PLACE, "", None, 0),
+    (ALL, [&[3], &[], &[]], NO_PLACE, "", None, 0),
+    (ALL, [&[4], &[], &[]], NO_PLACE, "", None, 0),
+    (ALL, [&[5], &[], &[]], NO_PLACE, "", None, 0),
+    (ALL, [&[6], &[], &[]], PLANNED, PLAN, None, 0),
+    (
+        ALL,
+        [&[], &[], &[0]],
+        Run::Check(CheckEnd::OutFault),
+        "",
+        None,
+        0,
+    ),
+    (ALL, [&[], &[], &[1]], CHECKED, "least 1\n", None, 0),
+    (
+        ALL,
+        [&[], &[], &[0]],
+        Run::Plan(PlanEnd::OutFault),
+        "",
+        None,
+        0,
+    ),
+    (ALL, [&[], &[], &[1]], PLANNED, PLAN, None, 0),
+];
+
+#[test]
+fn fails_where_a_call_of_the_outside_does(rt: HostRuntime) {
+    assert_eq!(rt; first_wrong(rt.alloc(), &FAILING), None);
 }

@@ -1,82 +1,88 @@
 //! `send` by a link in memory. The packets, their session and the marks were made outside.
-use crate::send_fixtures::{GROUPS, ends_on, link_of, source_of};
+use crate::cases::{
+    ALL_GO, Case, ONE_GROUP, Run, TWO_GROUPS, are_first, first_wrong, link_of, place_of, runs,
+};
+use crate::send_tests::{EXAMPLE, SENT};
 use crate::untold_place::UntoldPlace;
 use crate::{NO_MARK, SECOND_MARK, changed_at};
 use command_send::SendEnd;
-use example_session::{PRIORITIES, STREAM, packets};
-use std::test::Fail;
+use example_session::{PRIORITIES, STREAM};
+use pet_base::{MemorySink, NoMemory};
+use std::alloc::Global;
+use std::marker::Brand;
+use std::sync::ledger::Blank;
 
-const SENT: &str = "session a5ac9461b03bcf36 groups 1 datagrams 6\n";
+const DONE: Run = Run::SendByLink(SendEnd::Done);
 
-/// Whether these are the first packets of the example session, each without the two bytes of its entry.
-fn are_first(sent: &[Vec<u8>]) -> bool {
-    let packets = packets();
-    sent.len() <= packets.len()
-        && sent.iter().zip(&packets).all(|(datagram, entry)| entry.ends_with(datagram)
-            && datagram.len() == 89)
-}
+const FAULT: Run = Run::SendByLink(SendEnd::LinkFault);
+
+/// The link is aimed and then sends six datagrams; no call has the number 7.
+static SENT_BY_LINK: [Case; 9] = [
+    (EXAMPLE, ALL_GO, DONE, SENT, None, 6),
+    (EXAMPLE, [&[], &[0], &[]], FAULT, "", None, 0),
+    (EXAMPLE, [&[], &[1], &[]], FAULT, "", None, 0),
+    (EXAMPLE, [&[], &[2], &[]], FAULT, "", None, 1),
+    (EXAMPLE, [&[], &[3], &[]], FAULT, "", None, 2),
+    (EXAMPLE, [&[], &[4], &[]], FAULT, "", None, 3),
+    (EXAMPLE, [&[], &[5], &[]], FAULT, "", None, 4),
+    (EXAMPLE, [&[], &[6], &[]], FAULT, "", None, 5),
+    (EXAMPLE, [&[], &[7], &[]], DONE, SENT, None, 6),
+];
 
 #[test]
-fn sends_each_packet_of_the_example_session_once(rt: HostRuntime) -> Result<(), Fail> {
-    let alloc = rt.alloc();
-    let mut place = source_of(alloc, &STREAM, PRIORITIES, &[])?;
+fn sends_each_packet_once_up_to_a_call_that_fails(rt: HostRuntime) {
+    assert_eq!(rt; first_wrong(rt.alloc(), &SENT_BY_LINK), None);
+}
+
+/// Whether `send` by a link stops before the first packet where this call of the place fails, or sends all.
+fn sends_all_or_nothing(alloc: Global, call: u64) -> Result<bool, NoMemory> {
+    let mut place = place_of(alloc, &EXAMPLE, &[call])?;
     let mut link = link_of(alloc, &[])?;
-    let ended = ends_on(alloc, true, &mut place, &mut link, SendEnd::Done, SENT);
-    assert!(rt; ended);
-    assert!(rt; are_first(link.sent()) && link.sent().len() == 6);
-    assert_eq!(rt; place.bytes_of("x:1"), None);
-    Ok(())
+    let mut out = MemorySink::new(alloc, Vec::new(alloc));
+    let run = Run::SendByLink(SendEnd::PlaceFault);
+    let stopped = runs::<Brand>(alloc, run, &mut place, &mut link, &mut out, Blank::new(1));
+    Ok(
+        (stopped && out.bytes().is_empty() && are_first(link.sent(), link.sent().len()))
+            || are_first(link.sent(), 6),
+    )
 }
 
 #[test]
-fn sends_the_first_packets_where_the_link_fails(rt: HostRuntime) -> Result<(), Fail> {
-    let alloc = rt.alloc();
-    // the link is aimed and then sends six datagrams; no call has the number 7
-    for failing in 0..8 {
-        let mut place = source_of(alloc, &STREAM, PRIORITIES, &[])?;
-        let mut link = link_of(alloc, &[failing])?;
-        let (end, printed, many) = if failing < 7 {
-            (SendEnd::LinkFault, "", failing.saturating_sub(1))
-        } else {
-            (SendEnd::Done, SENT, 6)
-        };
-        let ended = ends_on(alloc, true, &mut place, &mut link, end, printed);
-        assert!(rt; ended, "call {failing}");
-        assert!(rt; are_first(link.sent()), "call {failing}");
-        assert!(rt; link.sent().len() as u64 == many, "call {failing}");
-    }
-    Ok(())
-}
-
-#[test]
-fn sends_all_or_nothing_where_a_file_fails(rt: HostRuntime) -> Result<(), Fail> {
-    let alloc = rt.alloc();
+fn sends_all_or_nothing_where_a_file_fails(rt: HostRuntime) {
     // the calls up to the second opening of the stream are those before the first packet
-    for failing in 0..16 {
-        let mut place = source_of(alloc, &STREAM, PRIORITIES, &[failing])?;
-        let mut link = link_of(alloc, &[])?;
-        let stopped = ends_on(alloc, true, &mut place, &mut link, SendEnd::PlaceFault, "");
-        assert!(rt; are_first(link.sent()), "call {failing}");
-        assert!(rt; stopped || link.sent().len() == 6, "call {failing}");
+    for call in 0..16 {
+        assert!(rt;
+            sends_all_or_nothing(rt.alloc(), call).unwrap_or(false),
+            "call {call}"
+        );
     }
-    Ok(())
+}
+
+/// Whether `send` by a link of a stream that is opened twice ends so over a place that tells nothing.
+fn sends_untold(
+    alloc: Global,
+    (first, second): (&[u8], Option<&[u8]>),
+    end: SendEnd,
+    printed: &str,
+    many: usize,
+) -> Result<bool, NoMemory> {
+    let mut place = UntoldPlace::new(alloc, PRIORITIES.as_bytes(), first, second);
+    let mut link = link_of(alloc, &[])?;
+    let mut out = MemorySink::new(alloc, Vec::new(alloc));
+    let run = Run::SendByLink(end);
+    let ended = runs::<Brand>(alloc, run, &mut place, &mut link, &mut out, Blank::new(1));
+    Ok(ended && out.bytes() == printed.as_bytes() && link.sent().len() == many)
 }
 
 #[test]
-fn sends_the_groups_before_a_change_where_nothing_is_told(rt: HostRuntime) -> Result<(), Fail> {
+fn sends_the_groups_before_a_change_where_nothing_is_told(rt: HostRuntime) {
     let alloc = rt.alloc();
+    let example: &[u8] = &STREAM;
+    let again = (example, Some(example));
+    assert!(rt; sends_untold(alloc, again, SendEnd::Done, SENT, 6).unwrap_or(false));
     let fewer = changed_at(1, SECOND_MARK, NO_MARK);
-    let rows: [(&[u8], Option<&[u8]>, SendEnd, &str, usize); 3] = [
-        (&STREAM, Some(&STREAM), SendEnd::Done, SENT, 6),
-        (&GROUPS[..22], Some(&GROUPS[..11]), fewer, "", 6),
-        (&STREAM, None, SendEnd::PlaceFault, "", 0),
-    ];
-    for (first, second, end, printed, many) in rows {
-        let mut place = UntoldPlace::new(alloc, PRIORITIES.as_bytes(), first, second);
-        let mut link = link_of(alloc, &[])?;
-        let ended = ends_on(alloc, true, &mut place, &mut link, end, printed);
-        assert!(rt; ended, "{many}");
-        assert!(rt; link.sent().len() == many, "{many}");
-    }
-    Ok(())
+    let groups = (TWO_GROUPS, Some(ONE_GROUP));
+    assert!(rt; sends_untold(alloc, groups, fewer, "", 6).unwrap_or(false));
+    let fault = SendEnd::PlaceFault;
+    assert!(rt; sends_untold(alloc, (example, None), fault, "", 0).unwrap_or(false));
 }

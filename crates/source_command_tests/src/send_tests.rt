@@ -1,158 +1,236 @@
 //! `send` over files in memory, and over a place that tells nothing. Session numbers, packets and marks were made outside.
-use crate::send_fixtures::{GROUPS, ends, source_of};
+use crate::cases::{
+    ALL_GO, Case, Files, GROUPS, NO_TYPE, ONE_GROUP, Run, TWO_GROUPS, first_wrong, link_of,
+    packet_file, place_of, runs,
+};
 use crate::untold_place::UntoldPlace;
 use crate::{CHANGED_MARK, EXAMPLE_MARK, FIRST_MARK, NO_MARK, SECOND_MARK, THIRD_MARK, changed_at};
 use command_send::SendEnd;
-use example_session::{PRIORITIES, STREAM, packets};
+use example_session::{PRIORITIES, STREAM};
 use mpeg_scan::Scan;
-use pet_base::MemoryPlace;
+use pet_base::{MemorySink, NoMemory};
 use priority_file::PriorityFault;
-use std::alloc::{AllocError, Global};
-use std::test::Fail;
+use std::alloc::Global;
+use std::marker::Brand;
+use std::sync::ledger::Blank;
+use stream_session::GroupMark;
 
-const SENT: &str = "session a5ac9461b03bcf36 groups 1 datagrams 6\n";
+pub(crate) const SENT: &str = "session a5ac9461b03bcf36 groups 1 datagrams 6\n";
 
-/// The packets of the example session in their order.
-fn example_packets(alloc: Global) -> Result<Vec<u8>, AllocError> {
-    let mut bytes = Vec::new(alloc);
-    for packet in &packets() {
-        bytes.extend_from_slice(packet)?;
+pub(crate) const EXAMPLE: Files = (Some((&STREAM, &[], 0)), Some(PRIORITIES), None);
+
+const NO_PACKETS: Option<&str> = Some("layer = []");
+
+const UNNAMED: Run = Run::Send(SendEnd::BadPriority(PriorityFault::MissingKey));
+
+const NO_PLACE: Run = Run::Send(SendEnd::PlaceFault);
+
+/// The example session, and files that are missing or bad: the priority file is refused first, and then the stream.
+static FILES: [Case; 7] = [
+    (EXAMPLE, ALL_GO, Run::Send(SendEnd::Done), SENT, Some(6), 0),
+    (
+        (Some((NO_TYPE, &[], 0)), NO_PACKETS, None),
+        ALL_GO,
+        UNNAMED,
+        "",
+        None,
+        0,
+    ),
+    ((None, NO_PACKETS, None), ALL_GO, UNNAMED, "", None, 0),
+    (
+        (None, Some(PRIORITIES), None),
+        ALL_GO,
+        NO_PLACE,
+        "",
+        None,
+        0,
+    ),
+    (
+        (Some((&STREAM, &[], 0)), None, None),
+        ALL_GO,
+        NO_PLACE,
+        "",
+        None,
+        0,
+    ),
+    (
+        (Some((NO_TYPE, &[], 0)), Some(PRIORITIES), None),
+        ALL_GO,
+        Run::Send(SendEnd::BadStream(Scan::PictureType(4, 5))),
+        "",
+        None,
+        0,
+    ),
+    (
+        (Some((&[], &[], 0)), Some(PRIORITIES), None),
+        ALL_GO,
+        Run::Send(SendEnd::BadStream(Scan::Empty)),
+        "",
+        None,
+        0,
+    ),
+];
+
+#[test]
+fn sends_the_example_session_or_refuses_the_files(rt: HostRuntime) {
+    assert_eq!(rt; first_wrong(rt.alloc(), &FILES), None);
+}
+
+/// How `send` ends, or the group that has changed, and its marks.
+type Told = Result<SendEnd, (u32, GroupMark, GroupMark)>;
+
+/// A stream, what it is when it is opened again, where it can be, how `send` ends, what it prints, and the bytes of the output.
+type Again = (
+    &'static [u8],
+    Option<&'static [u8]>,
+    Told,
+    &'static str,
+    usize,
+);
+
+/// The example stream with another byte at offset 10.
+const CHANGED: &[u8] = &[
+    0x00, 0x00, 0x01, 0xB3, 0x11, 0x22, 0x00, 0x00, 0x01, 0xB8, 0x34, 0x00, 0x00, 0x01, 0x00, 0x00,
+    0x08, 0x44, 0x00, 0x00, 0x01, 0x00, 0x00, 0x10, 0x55, 0x00, 0x00, 0x01, 0x00, 0x00, 0x18, 0x66,
+    0x00, 0x00, 0x01, 0x00, 0x00, 0x18, 0x77, 0x77, 0x00, 0x00, 0x01, 0xB7,
+];
+
+/// A code of a system stream, behind the first piece of the second group and within it.
+const PACK_BEHIND: &[u8] = &[
+    0, 0, 1, 0xB8, 1, 0, 0, 1, 0, 0, 8, 0, 0, 1, 0xB8, 2, 0, 0, 1, 0, 0, 8, 0, 0, 1, 0xBA,
+];
+
+const PACK_WITHIN: &[u8] = &[
+    0, 0, 1, 0xB8, 1, 0, 0, 1, 0, 0, 8, 0, 0, 1, 0xB8, 2, 0, 0, 1, 0xBA,
+];
+
+const FEWER: Told = Err((1, SECOND_MARK, NO_MARK));
+
+static READ_AGAIN: [Again; 10] = [
+    (&STREAM, Some(&STREAM), Ok(SendEnd::Done), SENT, 546),
+    (
+        &STREAM,
+        Some(CHANGED),
+        Err((0, EXAMPLE_MARK, CHANGED_MARK)),
+        "",
+        0,
+    ),
+    // the stream is refused before its group has ended
+    (
+        &STREAM,
+        Some(NO_TYPE),
+        Err((0, EXAMPLE_MARK, NO_MARK)),
+        "",
+        0,
+    ),
+    (TWO_GROUPS, Some(ONE_GROUP), FEWER, "", 426),
+    (GROUPS, Some(PACK_BEHIND), FEWER, "", 426),
+    (
+        GROUPS,
+        Some(PACK_WITHIN),
+        Err((0, FIRST_MARK, NO_MARK)),
+        "",
+        0,
+    ),
+    // the stream is refused behind all groups of the first reading
+    (
+        ONE_GROUP,
+        Some(PACK_BEHIND),
+        Ok(SendEnd::Done),
+        "session e4fb3eb1b0c008ae groups 1 datagrams 6\n",
+        426,
+    ),
+    (
+        TWO_GROUPS,
+        Some(GROUPS),
+        Err((2, NO_MARK, THIRD_MARK)),
+        "",
+        852,
+    ),
+    (
+        GROUPS,
+        Some(GROUPS),
+        Ok(SendEnd::Done),
+        "session 079b6fddf2344468 groups 3 datagrams 18\n",
+        1278,
+    ),
+    (&STREAM, None, Ok(SendEnd::PlaceFault), "", 0),
+];
+
+/// The end that is told so.
+pub(crate) fn end_of(told: Told) -> SendEnd {
+    match told {
+        Ok(end) => end,
+        Err((group, first, second)) => changed_at(group, first, second),
     }
-    Ok(bytes)
 }
 
-#[test]
-fn sends_the_example_session(rt: HostRuntime) -> Result<(), Fail> {
-    let alloc = rt.alloc();
-    let packets = example_packets(alloc)?;
-    let mut place = source_of(alloc, &STREAM, PRIORITIES, &[])?;
-    assert!(rt; ends(alloc, &mut place, SendEnd::Done, SENT)?);
-    assert_eq!(rt; place.bytes_of("d"), Some(packets.as_slice()));
-    Ok(())
+/// Whether `send` of a stream that is opened twice ends so over a place that tells nothing.
+fn compares(
+    alloc: Global,
+    (first, second): (&[u8], Option<&[u8]>),
+    told: Told,
+    printed: &str,
+    sent: usize,
+) -> Result<bool, NoMemory> {
+    let mut place = UntoldPlace::new(alloc, PRIORITIES.as_bytes(), first, second);
+    let mut link = link_of(alloc, &[])?;
+    let mut out = MemorySink::new(alloc, Vec::new(alloc));
+    let run = Run::Send(end_of(told));
+    let ended = runs::<Brand>(alloc, run, &mut place, &mut link, &mut out, Blank::new(1));
+    Ok(
+        ended
+            && out.bytes() == printed.as_bytes()
+            && place.output().map(|bytes| bytes.len()) == Some(sent)
+            && link.sent().is_empty(),
+    )
 }
 
-#[test]
-fn compares_both_readings_where_nothing_is_told(rt: HostRuntime) -> Result<(), Fail> {
-    let alloc = rt.alloc();
-    let mut changed = STREAM;
-    changed[10] = 0x34;
-    let no_type = [0, 0, 1, 0xB3, 0, 0, 1, 0, 0, 0x28];
-    let other = changed_at(0, EXAMPLE_MARK, CHANGED_MARK);
-    let refused = changed_at(0, EXAMPLE_MARK, NO_MARK);
-    let fewer = changed_at(1, SECOND_MARK, NO_MARK);
-    let more = changed_at(2, NO_MARK, THIRD_MARK);
-    // a code of a system stream, behind the first piece of the second group and within it
-    let pack_behind = [
-        0, 0, 1, 0xB8, 1, 0, 0, 1, 0, 0, 8, 0, 0, 1, 0xB8, 2, 0, 0, 1, 0, 0, 8, 0, 0, 1, 0xBA,
-    ];
-    let pack_within = [
-        0, 0, 1, 0xB8, 1, 0, 0, 1, 0, 0, 8, 0, 0, 1, 0xB8, 2, 0, 0, 1, 0xBA,
-    ];
-    let none = changed_at(0, FIRST_MARK, NO_MARK);
-    let done = SendEnd::Done;
-    let fault = SendEnd::PlaceFault;
-    let one = "session e4fb3eb1b0c008ae groups 1 datagrams 6\n";
-    let three = "session 079b6fddf2344468 groups 3 datagrams 18\n";
-    // a stream, what it is when it is opened again, where it can be, how `send` ends, and the bytes of the output
-    let rows: [(&[u8], Option<&[u8]>, SendEnd, &str, usize); 10] = [
-        (&STREAM, Some(&STREAM), done, SENT, 546),
-        (&STREAM, Some(&changed), other, "", 0),
-        // the stream is refused before its group has ended
-        (&STREAM, Some(&no_type), refused, "", 0),
-        (&GROUPS[..22], Some(&GROUPS[..11]), fewer, "", 426),
-        (&GROUPS, Some(&pack_behind), fewer, "", 426),
-        (&GROUPS, Some(&pack_within), none, "", 0),
-        // the stream is refused behind all groups of the first reading
-        (&GROUPS[..11], Some(&pack_behind), done, one, 426),
-        (&GROUPS[..22], Some(&GROUPS), more, "", 852),
-        (&GROUPS, Some(&GROUPS), done, three, 1278),
-        (&STREAM, None, fault, "", 0),
-    ];
-    for (first, second, end, printed, sent) in rows {
-        let mut place = UntoldPlace::new(alloc, PRIORITIES.as_bytes(), first, second);
-        assert!(rt; ends(alloc, &mut place, end, printed)?, "{sent}");
-        assert_eq!(rt; place.output().map(|bytes| bytes.len()), Some(sent));
+/// The number of the first row that is compared otherwise.
+fn first_other(alloc: Global, rows: &[Again]) -> Option<usize> {
+    for row in 0..rows.len() {
+        let (first, second, told, printed, sent) = rows[row];
+        if !compares(alloc, (first, second), told, printed, sent).unwrap_or(false) {
+            return Some(row);
+        }
     }
-    Ok(())
+    None
 }
 
 #[test]
-fn leaves_a_front_where_a_call_fails(rt: HostRuntime) -> Result<(), Fail> {
-    let alloc = rt.alloc();
-    let packets = example_packets(alloc)?;
+fn compares_both_readings_where_nothing_is_told(rt: HostRuntime) {
+    assert_eq!(rt; first_other(rt.alloc(), &READ_AGAIN), None);
+}
+
+/// How many bytes `send` of the example session leaves where this call of the place fails, and whether it stopped there. None
+/// where these are no front of the packets, or are not all of them though it did not stop.
+fn front(alloc: Global, call: u64) -> Result<Option<(bool, usize)>, NoMemory> {
+    let packets = packet_file(alloc, 6)?;
+    let mut place = place_of(alloc, &EXAMPLE, &[call])?;
+    let mut link = link_of(alloc, &[])?;
+    let mut out = MemorySink::new(alloc, Vec::new(alloc));
+    let blank = Blank::new(1);
+    let stopped = runs::<Brand>(alloc, NO_PLACE, &mut place, &mut link, &mut out, blank);
+    let held = place.bytes_of("d").unwrap_or(&[]);
+    let is_front = packets.as_slice().starts_with(held) && out.bytes().is_empty() == stopped;
+    let is_so = is_front && (stopped || held.len() == packets.len());
+    Ok(if is_so {
+        Some((stopped, held.len()))
+    } else {
+        None
+    })
+}
+
+#[test]
+fn leaves_a_front_where_a_call_fails(rt: HostRuntime) {
     let mut parts = 0u32;
     // more calls than there are: at the last numbers none fails
-    for failing in 0..64 {
-        let mut place = source_of(alloc, &STREAM, PRIORITIES, &[failing])?;
-        let stopped = ends(alloc, &mut place, SendEnd::PlaceFault, "")?;
-        let held = place.bytes_of("d").unwrap_or(&[]);
-        assert!(rt; packets.as_slice().starts_with(held), "call {failing}");
-        assert!(rt; stopped || held == packets.as_slice(), "call {failing}");
-        if stopped && !held.is_empty() {
-            parts = parts.saturating_add(1);
+    for call in 0..64 {
+        let left = front(rt.alloc(), call).unwrap_or(None);
+        assert!(rt; left.is_some(), "call {call}");
+        if let Some((true, held)) = left {
+            parts = parts.saturating_add(u32::from(held > 0));
         }
     }
     assert!(rt; parts > 0);
-    Ok(())
-}
-
-/// The files that are there, and how `send` then ends. It writes no file.
-#[derive(Drop)]
-struct RefusedCase<'a> {
-    stream: Option<&'a [u8]>,
-    priorities: Option<&'a [u8]>,
-    end: SendEnd,
-}
-
-#[test]
-fn refuses_the_priority_file_first_and_then_the_stream(rt: HostRuntime) -> Result<(), Fail> {
-    let alloc = rt.alloc();
-    let no_type = [0, 0, 1, 0xB3, 0, 0, 1, 0, 0, 0x28];
-    let no_packets = b"layer = []";
-    let unnamed = SendEnd::BadPriority(PriorityFault::MissingKey);
-    let cases = [
-        RefusedCase {
-            stream: Some(&no_type),
-            priorities: Some(no_packets),
-            end: unnamed,
-        },
-        // a bad priority file with a missing stream
-        RefusedCase {
-            stream: None,
-            priorities: Some(no_packets),
-            end: unnamed,
-        },
-        RefusedCase {
-            stream: None,
-            priorities: Some(PRIORITIES.as_bytes()),
-            end: SendEnd::PlaceFault,
-        },
-        RefusedCase {
-            stream: Some(&STREAM),
-            priorities: None,
-            end: SendEnd::PlaceFault,
-        },
-        RefusedCase {
-            stream: Some(&no_type),
-            priorities: Some(PRIORITIES.as_bytes()),
-            end: SendEnd::BadStream(Scan::PictureType(4, 5)),
-        },
-        RefusedCase {
-            stream: Some(&[]),
-            priorities: Some(PRIORITIES.as_bytes()),
-            end: SendEnd::BadStream(Scan::Empty),
-        },
-    ];
-    for case in &cases {
-        let mut place = MemoryPlace::new(alloc, Vec::new(alloc));
-        if let Some(stream) = case.stream {
-            place.add("s", stream).ok().ok_or("memory")?;
-        }
-        if let Some(priorities) = case.priorities {
-            place.add("f", priorities).ok().ok_or("memory")?;
-        }
-        assert!(rt; ends(alloc, &mut place, case.end, "")?, "{:?}", case.end);
-        assert_eq!(rt; place.bytes_of("d"), None);
-    }
-    Ok(())
 }

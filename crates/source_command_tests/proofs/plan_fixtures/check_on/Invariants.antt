@@ -1,4 +1,0 @@
-use Rattle.source_command_tests.proofs.plan_fixtures.check_on.Given as goal
-
-abbrev pub ghosts-check_counted : goal.ghosts-check_counted
-ghosts-check_counted a = record { name = a.blank.name; parts = a.blank.parts }
