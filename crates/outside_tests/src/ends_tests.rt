@@ -41,18 +41,26 @@ fn a_text_is_printed_whole_or_fails(rt: HostRuntime) {
     }
 }
 
+/// Whether a file that is not there is made and written.
+fn is_written(place: &mut FilePlace<'_, HostRuntime>, name: &str) -> bool {
+    place.enter(name).is_err() && place.create(name).is_ok() && place.put(b"abc").is_ok()
+}
+
+/// Whether what was written is read, and no more.
+fn is_read(place: &mut FilePlace<'_, HostRuntime>, name: &str) -> bool {
+    let mut buffer = [0u8; 4];
+    place.enter(name).is_ok()
+        && place.take(&mut buffer) == Ok(3)
+        && buffer == *b"abc\0"
+        && place.take(&mut buffer) == Ok(0)
+}
+
 #[test]
 fn a_file_is_written_and_read(rt: HostRuntime) -> Result<(), Fail> {
     let name = "pet_ends_test_file";
     let mut place = FilePlace::new(&rt);
-    let mut buffer = [0u8; 4];
-    assert_eq!(rt; place.enter(name), Err(Failed));
-    assert_eq!(rt; place.create(name), Ok(()));
-    assert_eq!(rt; place.put(b"abc"), Ok(()));
-    assert_eq!(rt; place.enter(name), Ok(()));
-    assert_eq!(rt; place.take(&mut buffer), Ok(3));
-    assert_eq!(rt; buffer.as_slice(), b"abc\0".as_slice());
-    assert_eq!(rt; place.take(&mut buffer), Ok(0));
+    assert!(rt; is_written(&mut place, name));
+    assert!(rt; is_read(&mut place, name));
     fs::remove_file(&rt, name)?;
     Ok(())
 }

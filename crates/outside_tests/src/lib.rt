@@ -19,5 +19,3 @@ mod ends_tests;
 mod files_tests;
 #[cfg(test)]
 mod link_tests;
-#[cfg(test)]
-mod same;

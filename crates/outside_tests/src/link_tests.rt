@@ -79,57 +79,89 @@ fn datagrams_arrive_whole_and_in_order(rt: HostRuntime) -> Result<(), Fail> {
     Ok(())
 }
 
+/// Whether nothing comes.
+fn is_quiet(link: &mut UdpLink<'_, HostRuntime>, room: &mut [u8]) -> bool
+    requires { MAX_ENTRY ≤ length room.old }
+{
+    link.bind("127.0.0.1:0").is_ok() && link.next(room) == Ok(Got::Quiet)
+}
+
 #[test]
 fn it_is_quiet_after_three_seconds(rt: HostRuntime) -> Result<(), Fail> {
     let mut room = room(rt.alloc())?;
     let mut link = UdpLink::new(&rt);
-    link.bind("127.0.0.1:0")?;
     let start = Instant::now(&rt)?;
-    assert_eq!(rt; link.next(&mut room), Ok(Got::Quiet));
+    assert!(rt; is_quiet(&mut link, &mut room));
     assert!(rt; start.elapsed(&rt)? >= Duration::from_secs(3));
     Ok(())
 }
 
-#[test]
-fn an_address_that_cannot_be_used_is_a_failure(rt: HostRuntime) -> Result<(), Fail> {
-    let alloc = rt.alloc();
-    let mut first = UdpLink::new(&rt);
-    let mut second = UdpLink::new(&rt);
+/// An address of no machine, no port, a port that is no number of 16 bits, and none of the forms.
+const UNBOUND: [&str; 5] = ["192.0.2.1:0", "127.0.0.1", "127.0.0.1:65536", ":", ""];
+
+const UNAIMED: [&str; 4] = ["127.0.0.1", "127.0.0.1:65536", "[::1]", ""];
+
+/// The first of these addresses at which the link can receive.
+fn first_bound(link: &mut UdpLink<'_, HostRuntime>, addresses: &[&str]) -> Option<usize> {
+    for row in 0..addresses.len() {
+        if link.bind(addresses[row]).is_ok() {
+            return Some(row);
+        }
+    }
+    None
+}
+
+/// The first of these addresses to which it can send.
+fn first_aimed(link: &mut UdpLink<'_, HostRuntime>, addresses: &[&str]) -> Option<usize> {
+    for row in 0..addresses.len() {
+        if link.aim(addresses[row]).is_ok() {
+            return Some(row);
+        }
+    }
+    None
+}
+
+/// Whether a port in use cannot be bound again.
+fn refuses_a_port_in_use(net: &HostRuntime, alloc: Global) -> Result<bool, Fail> {
+    let mut first = UdpLink::new(net);
     let port = first.bind("127.0.0.1:0")?;
     let taken = format!(in alloc; "127.0.0.1:{port}")?;
-    // a port in use, an address of no machine, no port, a port that is no number of 16 bits, and none of the forms
-    for address in [
-        &taken,
-        "192.0.2.1:0",
-        "127.0.0.1",
-        "127.0.0.1:65536",
-        ":",
-        "",
-    ] {
-        assert_eq!(rt; second.bind(address), Err(Failed), "{address}");
-    }
-    for address in ["127.0.0.1", "127.0.0.1:65536", "[::1]", ""] {
-        assert_eq!(rt; second.aim(address), Err(Failed), "{address}");
-    }
+    Ok(UdpLink::new(net).bind(&taken).is_err())
+}
+
+#[test]
+fn an_address_that_cannot_be_used_is_a_failure(rt: HostRuntime) -> Result<(), Fail> {
+    let mut link = UdpLink::new(&rt);
+    assert!(rt; refuses_a_port_in_use(&rt, rt.alloc())?);
+    assert_eq!(rt; first_bound(&mut link, &UNBOUND), None);
+    assert_eq!(rt; first_aimed(&mut link, &UNAIMED), None);
     Ok(())
+}
+
+/// Whether the link is no end that receives, and does not send what is too long.
+fn refuses_both(far: &mut UdpLink<'_, HostRuntime>, too_long: &[u8], room: &mut [u8]) -> bool
+    requires { MAX_ENTRY ≤ length room.old }
+{
+    far.next(room).is_err() && far.send(too_long).is_err()
+}
+
+/// Whether three datagrams are sent.
+fn sends_three(far: &mut UdpLink<'_, HostRuntime>) -> bool {
+    far.send(b"abc").is_ok() && far.send(b"abc").is_ok() && far.send(b"abc").is_ok()
 }
 
 #[test]
 fn a_side_that_is_not_ready_fails_and_an_end_that_nobody_has_does_not(
     rt: HostRuntime,
 ) -> Result<(), Fail> {
-    let alloc = rt.alloc();
-    let mut room = room(alloc)?;
-    let too_long = long(alloc, LONGEST + 1)?;
-    let Some((near, mut far)) = pair(&rt, alloc, "127.0.0.1")? else {
+    let mut room = room(rt.alloc())?;
+    let too_long = long(rt.alloc(), LONGEST + 1)?;
+    let Some((near, mut far)) = pair(&rt, rt.alloc(), "127.0.0.1")? else {
         return Err(Failed.into());
     };
-    assert_eq!(rt; far.next(&mut room), Err(Failed));
-    assert_eq!(rt; UdpLink::new(&rt).send(b"abc"), Err(Failed));
-    assert_eq!(rt; far.send(&too_long), Err(Failed));
+    assert!(rt; refuses_both(&mut far, &too_long, &mut room));
+    assert!(rt; UdpLink::new(&rt).send(b"abc").is_err());
     drop(near);
-    for _ in 0..3 {
-        assert_eq!(rt; far.send(b"abc"), Ok(()));
-    }
+    assert!(rt; sends_three(&mut far));
     Ok(())
 }

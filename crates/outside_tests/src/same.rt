@@ -1,8 +1,0 @@
-//! What a test compares.
-use std::fmt::Debug;
-use std::process::Abort;
-
-/// Ends the test where what was found is not what was wanted, and prints both.
-pub(crate) fn same<T: PartialEq + Debug + Drop>(rt: &impl Abort, found: T, wanted: T) {
-    assert_eq!(rt; found, wanted);
-}
