@@ -13,4 +13,6 @@ mod run_fixtures;
 #[cfg(test)]
 mod run_tests;
 #[cfg(test)]
+mod text_fixtures;
+#[cfg(test)]
 mod text_tests;

@@ -1,13 +1,12 @@
-//! What the tests of `run` share: a place that has files, and `run` on objects in memory.
+//! What the tests of `run` share: `run` on objects in memory, and whether it ends so.
 ghost use Rattle.std.specs.Prelude.{◌≡◌, ◌<◌};
 
-use pet_base::{Link, MemoryLink, MemoryPlace, MemorySink, Place, Steps};
+use pet_base::{Link, MemoryLink, MemoryPlace, MemorySink, NoMemory, Place, Steps};
 use pet_text::Status;
 use pet_tool::run;
 use std::alloc::{AllocError, Global};
 use std::marker::Brand;
 use std::sync::ledger::{Blank, Ledger};
-use std::test::Fail;
 
 /// Two groups of 11 bytes, each a group of pictures and an I picture.
 pub(crate) const GROUPS: [u8; 22] = [
@@ -23,50 +22,112 @@ pub(crate) const NO_RUN: [u8; 53] = [
     0x8B, 0x76, 0x91, 0xE3, 0x2A,
 ];
 
-/// A place with a stream `s`, priorities `f` and a file `p`.
+/// Words of no form.
+pub(crate) static USAGE: [&[&str]; 21] = [
+    &[],
+    &["plan", "s"],
+    &["plan", "s", ""],
+    &["Plan", "s", "f"],
+    &["check", "s", "f"],
+    &["send", "s", "f", "d"],
+    &["send", "s", "f", "file:s"],
+    &["send", "s", "f", "file:f"],
+    &["send", "s", "f", "file:"],
+    &["receive", "file:a", "0123", "l", "t"],
+    &["receive", "a", "0001020304050607", "l", "t"],
+    &["receive", "file:a", "0001020304050607", "a", "t"],
+    &["receive", "file:a", "0001020304050607", "l", "a"],
+    &["receive", "file:a", "0001020304050607", "l", "l"],
+    &["receive", "file:a", "0001020304050607", "l"],
+    &["receive", "file:a", "000102030405060G", "l", "t"],
+    &["receive", "udp:x", "0001020304050607", "l", "t"],
+    &["send", "s", "f", "udp:x:0"],
+    &["merge", "a", "b", "a"],
+    &["merge", "a", "b", "b"],
+    &["video", "a", "a"],
+];
+
+/// A stream `s`, priorities `f` and a file `p`.
+pub(crate) type Files = (&'static [u8], &'static str, &'static str);
+
+/// Words, the status that they end with and its number, and the lines that they print.
+pub(crate) type Step = (&'static [&'static str], Status, u8, &'static str);
+
+/// Files; the calls of the link and of the output that fail; words with their end; how many datagrams are sent by the link; and
+/// whether there is then a file `d`.
+pub(crate) type Case = (Files, [&'static [u64]; 2], Step, usize, bool);
+
+/// No call fails.
+pub(crate) const ALL_GO: [&[u64]; 2] = [&[], &[]];
+
+/// The number of the first of these cases that is not so.
+pub(crate) fn first_wrong(alloc: Global, cases: &[Case]) -> Option<usize> {
+    for row in 0..cases.len() {
+        if !is_so(alloc, &cases[row]).unwrap_or(false) {
+            return Some(row);
+        }
+    }
+    None
+}
+
+/// Whether this case is so.
+pub(crate) fn is_so(alloc: Global, case: &Case) -> Result<bool, NoMemory> {
+    let mut place = place_of(alloc, case.0)?;
+    Ok(ends(alloc, &mut place, case.1, &case.2, case.3)? && place.bytes_of("d").is_some() == case.4)
+}
+
+/// A place that has these files.
 pub(crate) fn place_of(
     alloc: Global,
-    stream: &[u8],
-    priorities: &str,
-    plan: &str,
-) -> Result<MemoryPlace, Fail> {
+    (stream, priorities, plan): Files,
+) -> Result<MemoryPlace, NoMemory> {
     let mut place = MemoryPlace::new(alloc, Vec::new(alloc));
-    place.add("s", stream).ok().ok_or("memory")?;
-    place.add("f", priorities.as_bytes()).ok().ok_or("memory")?;
-    place.add("p", plan.as_bytes()).ok().ok_or("memory")?;
+    place.add("s", stream)?;
+    place.add("f", priorities.as_bytes())?;
+    place.add("p", plan.as_bytes())?;
     Ok(place)
 }
 
-/// Whether these words end with this status on the place, and print these lines.
-pub(crate) fn ends(
+/// Whether these words end and print so on the place, one after the other.
+pub(crate) fn all_end(
     alloc: Global,
-    texts: &[&str],
-    place: &mut impl Place,
-    status: Status,
-    printed: &str,
-) -> Result<bool, AllocError> {
-    let mut out = MemorySink::new(alloc, Vec::new(alloc));
-    let told = run_on(alloc, texts, place, &mut out)?;
-    Ok(told == status && out.bytes() == printed.as_bytes())
+    place: &mut MemoryPlace,
+    steps: &[Step],
+) -> Result<bool, NoMemory> {
+    for step in steps {
+        if !ends(alloc, place, ALL_GO, step, 0)? {
+            return Ok(false);
+        }
+    }
+    Ok(true)
 }
 
-/// How these words end on the place, with what is printed on the sink.
-pub(crate) fn run_on(
+/// Whether the words end and print so on the place, where these calls of the link and of the output fail, and send so many
+/// datagrams.
+fn ends(
     alloc: Global,
-    texts: &[&str],
-    place: &mut impl Place,
-    out: &mut MemorySink,
-) -> Result<Status, AllocError> {
-    let mut link = MemoryLink::new(alloc, Vec::new(alloc), Vec::new(alloc));
-    run_by(alloc, texts, place, &mut link, out)
+    place: &mut MemoryPlace,
+    failing: [&[u64]; 2],
+    (texts, status, code, printed): &Step,
+    sent: usize,
+) -> Result<bool, NoMemory> {
+    let mut link = MemoryLink::new(alloc, Vec::new(alloc), Vec::from_slice(alloc, failing[0])?);
+    let mut out = MemorySink::new(alloc, Vec::from_slice(alloc, failing[1])?);
+    let told = run_by(alloc, texts, place, &mut link, &mut out)?;
+    Ok(
+        told == *status
+            && told.code() == *code
+            && out.bytes() == printed.as_bytes()
+            && link.sent().len() == sent,
+    )
 }
 
-/// The same, by this link.
-pub(crate) fn run_by(
+/// How these words end on the place and the link, with what is printed on the sink.
+fn run_by(
     alloc: Global,
     texts: &[&str],
-    place: &mut impl Place,
-    link: &mut impl Link,
+    place: &mut MemoryPlace,
+    link: &mut MemoryLink,
     out: &mut MemorySink,
 ) -> Result<Status, AllocError> {
     let mut words = Vec::new(alloc);
@@ -77,7 +138,7 @@ pub(crate) fn run_by(
     Ok(run_counted::<Brand>(alloc, &words, place, link, out, blank))
 }
 
-/// How these words end on the place and the link, with the lines on the sink.
+/// The same of words, on a counter of its own.
 fn run_counted<L: Ledger>(
     alloc: Global,
     words: &[String],

@@ -1,15 +1,12 @@
 //! Words, statuses and lines of `pet_text`, each as it stands.
+use crate::text_fixtures::{FAULTS, OTHERS};
 use arrayvec::ArrayVec;
-use mpeg_scan::Scan;
+use pet_base::NoMemory;
 use pet_text::{
-    Command, End, PlanKind, Status, WordsFault, bound_line, fault_line, merged_line, read_words,
+    Command, End, Status, WordsFault, bound_line, fault_line, merged_line, read_words,
     receive_line, video_line,
 };
-use priority_file::PriorityFault;
 use std::alloc::{AllocError, Global};
-use std::test::Fail;
-use store_merge::StoreKind;
-use stream_session::GroupMark;
 
 const SESSION: &str = "0001020304050607";
 
@@ -72,214 +69,289 @@ fn session_of(command: &Command) -> Option<[u8; 8]> {
     }
 }
 
-#[test]
-fn reads_the_words_of_each_command(rt: HostRuntime) -> Result<(), Fail> {
-    let alloc = rt.alloc();
-    let session = Some([0, 1, 2, 3, 4, 5, 6, 7]);
-    let rows: [(&[&str], [&str; 4], Option<[u8; 8]>); 8] = [
-        (
-            &["receive", "file:a", SESSION, "b", "c"],
-            ["receive", "a", "b", "c"],
-            session,
-        ),
-        (
-            &["receive", "file:a", "0123456789abcdef", "l", "t"],
-            ["receive", "a", "l", "t"],
-            Some([0x01, 0x23, 0x45, 0x67, 0x89, 0xab, 0xcd, 0xef]),
-        ),
-        (&["plan", "s", "f"], ["plan", "s", "f", ""], None),
-        (&["check", "s", "f", "p"], ["check", "s", "f", "p"], None),
-        (&["send", "s", "f", "file:d"], ["send", "s", "f", "d"], None),
-        (&["merge", "a", "b", "c"], ["merge", "a", "b", "c"], None),
-        (&["merge", "a", "a", "c"], ["merge", "a", "a", "c"], None),
-        (&["video", "t", "o"], ["video", "t", "o", ""], None),
-    ];
-    for (texts, names, session) in rows {
-        let command = read_words(alloc, &words(alloc, texts)?).expect(&rt, "a command");
-        assert_eq!(rt; names_of(&command), names);
-        assert_eq!(rt; session_of(&command), session);
+/// Words, what the command is called with the names that it has, the session that it names, and whether its datagrams come from
+/// or go to a link.
+type Row = (
+    &'static [&'static str],
+    [&'static str; 4],
+    Option<[u8; 8]>,
+    bool,
+);
+
+const NAMED: Option<[u8; 8]> = Some([0, 1, 2, 3, 4, 5, 6, 7]);
+
+/// The words of each command, and addresses up to their last colon. Port 0, which is one that is to be found, is only received at.
+static READ: [Row; 23] = [
+    (
+        &["receive", "file:a", SESSION, "b", "c"],
+        ["receive", "a", "b", "c"],
+        NAMED,
+        false,
+    ),
+    (
+        &["receive", "file:a", "0123456789abcdef", "l", "t"],
+        ["receive", "a", "l", "t"],
+        Some([0x01, 0x23, 0x45, 0x67, 0x89, 0xab, 0xcd, 0xef]),
+        false,
+    ),
+    (&["plan", "s", "f"], ["plan", "s", "f", ""], None, false),
+    (
+        &["check", "s", "f", "p"],
+        ["check", "s", "f", "p"],
+        None,
+        false,
+    ),
+    (
+        &["send", "s", "f", "file:d"],
+        ["send", "s", "f", "d"],
+        None,
+        false,
+    ),
+    (
+        &["merge", "a", "b", "c"],
+        ["merge", "a", "b", "c"],
+        None,
+        false,
+    ),
+    (
+        &["merge", "a", "a", "c"],
+        ["merge", "a", "a", "c"],
+        None,
+        false,
+    ),
+    (&["video", "t", "o"], ["video", "t", "o", ""], None, false),
+    (
+        &["send", "s", "f", "udp:x:1"],
+        ["send", "s", "f", "x:1"],
+        None,
+        true,
+    ),
+    (
+        &["receive", "udp:x:1", SESSION, "x:1", "t"],
+        ["receive", "x:1", "x:1", "t"],
+        NAMED,
+        true,
+    ),
+    (
+        &["send", "s", "f", "udp:127.0.0.1:65535"],
+        ["send", "s", "f", "127.0.0.1:65535"],
+        None,
+        true,
+    ),
+    (
+        &["receive", "udp:127.0.0.1:65535", SESSION, "x:1", "t"],
+        ["receive", "127.0.0.1:65535", "x:1", "t"],
+        NAMED,
+        true,
+    ),
+    (
+        &["send", "s", "f", "udp:[::1]:9"],
+        ["send", "s", "f", "[::1]:9"],
+        None,
+        true,
+    ),
+    (
+        &["receive", "udp:[::1]:9", SESSION, "x:1", "t"],
+        ["receive", "[::1]:9", "x:1", "t"],
+        NAMED,
+        true,
+    ),
+    (
+        &["send", "s", "f", "udp:::1:9"],
+        ["send", "s", "f", "::1:9"],
+        None,
+        true,
+    ),
+    (
+        &["receive", "udp:::1:9", SESSION, "x:1", "t"],
+        ["receive", "::1:9", "x:1", "t"],
+        NAMED,
+        true,
+    ),
+    (
+        &["send", "s", "f", "udp::::9"],
+        ["send", "s", "f", ":::9"],
+        None,
+        true,
+    ),
+    (
+        &["receive", "udp::::9", SESSION, "x:1", "t"],
+        ["receive", ":::9", "x:1", "t"],
+        NAMED,
+        true,
+    ),
+    (
+        &["send", "s", "f", "udp:a b:10"],
+        ["send", "s", "f", "a b:10"],
+        None,
+        true,
+    ),
+    (
+        &["receive", "udp:a b:10", SESSION, "x:1", "t"],
+        ["receive", "a b:10", "x:1", "t"],
+        NAMED,
+        true,
+    ),
+    (
+        &["send", "s", "f", "udp:udp:x:1"],
+        ["send", "s", "f", "udp:x:1"],
+        None,
+        true,
+    ),
+    (
+        &["receive", "udp:udp:x:1", SESSION, "x:1", "t"],
+        ["receive", "udp:x:1", "x:1", "t"],
+        NAMED,
+        true,
+    ),
+    (
+        &["receive", "udp:x:0", SESSION, "l", "t"],
+        ["receive", "x:0", "l", "t"],
+        NAMED,
+        true,
+    ),
+];
+
+/// Whether the words are the command.
+fn is_read(alloc: Global, (texts, names, session, by_link): &Row) -> Result<bool, AllocError> {
+    Ok(match read_words(alloc, &words(alloc, texts)?) {
+        Ok(command) => {
+            names_of(&command) == *names
+                && session_of(&command) == *session
+                && is_by_link(&command) == *by_link
+        }
+        Err(_) => false,
+    })
+}
+
+/// The number of the first row whose words are another command.
+fn first_wrong(alloc: Global, rows: &[Row]) -> Option<usize> {
+    for row in 0..rows.len() {
+        if !(is_read(alloc, &rows[row]).unwrap_or(false)) {
+            return Some(row);
+        }
     }
-    Ok(())
+    None
 }
 
 #[test]
-fn refuses_other_words(rt: HostRuntime) -> Result<(), Fail> {
-    let alloc = rt.alloc();
-    let cases: [&[&str]; 31] = [
-        &[],
-        &["plan", "s"],
-        &["receive", "file:a", "0123", "l", "t"],
-        &["receive", "file:a", "A5AC9461B03BCF36", "l", "t"],
-        &["receive", "file:", "a5ac9461b03bcf36", "l", "t"],
-        &["receive", "file:a", SESSION, "l"],
-        &["receive", "file:a", SESSION, "", "t"],
-        &["receive", "file:a", SESSION, "l", ""],
-        &["receive", "file:a", SESSION, "l", "l"],
-        &["receive", "file:a", SESSION, "a", "t"],
-        &["receive", "file:a", SESSION, "l", "a"],
-        &["receive", "file:a", SESSION, "l", "t", "u"],
-        &["merge", "a", "b"],
-        &["merge", "a", "b", "a"],
-        &["merge", "a", "b", "b"],
-        &["merge", "", "b", "c"],
-        &["merge", "a", "", "c"],
-        &["merge", "a", "b", ""],
-        &["merge", "a", "b", "c", "d"],
-        &["plan", "s", ""],
-        &["video", "t"],
-        &["video", "", "o"],
-        &["video", "t", ""],
-        &["video", "t", "t"],
-        &["video", "t", "o", "p"],
-        &["PLAN", "s", "f"],
-        &["send", "s", "f"],
-        &["send", "s", "f", "d"],
-        &["send", "s", "f", "file:"],
-        &["send", "s", "f", "file:s"],
-        &["send", "s", "f", "file:f"],
-    ];
-    for case in &cases {
-        let fault = read_words(alloc, &words(alloc, *case)?).err();
-        assert_eq!(rt; fault, Some(WordsFault::Usage));
+fn reads_the_words_of_each_command(rt: HostRuntime) {
+    assert_eq!(rt; first_wrong(rt.alloc(), &READ), None);
+}
+
+static REFUSED: [&[&str]; 33] = [
+    &[],
+    &["plan", "s"],
+    &["receive", "file:a", "0123", "l", "t"],
+    &["receive", "file:a", "A5AC9461B03BCF36", "l", "t"],
+    &["receive", "file:", "a5ac9461b03bcf36", "l", "t"],
+    &["receive", "file:a", SESSION, "l"],
+    &["receive", "file:a", SESSION, "", "t"],
+    &["receive", "file:a", SESSION, "l", ""],
+    &["receive", "file:a", SESSION, "l", "l"],
+    &["receive", "file:a", SESSION, "a", "t"],
+    &["receive", "file:a", SESSION, "l", "a"],
+    &["receive", "file:a", SESSION, "l", "t", "u"],
+    &["merge", "a", "b"],
+    &["merge", "a", "b", "a"],
+    &["merge", "a", "b", "b"],
+    &["merge", "", "b", "c"],
+    &["merge", "a", "", "c"],
+    &["merge", "a", "b", ""],
+    &["merge", "a", "b", "c", "d"],
+    &["plan", "s", ""],
+    &["video", "t"],
+    &["video", "", "o"],
+    &["video", "t", ""],
+    &["video", "t", "t"],
+    &["video", "t", "o", "p"],
+    &["PLAN", "s", "f"],
+    &["send", "s", "f"],
+    &["send", "s", "f", "d"],
+    &["send", "s", "f", "file:"],
+    &["send", "s", "f", "file:s"],
+    &["send", "s", "f", "file:f"],
+    &["send", "s", "f", "udp:x:0"],
+    &["receive", "udp:x:1", SESSION, "l", "l"],
+];
+
+/// Whether the words have the form of no command.
+fn is_refused(alloc: Global, texts: &[&str]) -> bool {
+    match words(alloc, texts) {
+        Ok(words) => read_words(alloc, &words).err() == Some(WordsFault::Usage),
+        Err(_) => false,
     }
-    Ok(())
+}
+
+/// The number of the first words that are a command.
+fn first_read(alloc: Global, rows: &[&[&str]]) -> Option<usize> {
+    for row in 0..rows.len() {
+        if !(is_refused(alloc, rows[row])) {
+            return Some(row);
+        }
+    }
+    None
 }
 
 #[test]
-fn reads_an_address_up_to_its_last_colon(rt: HostRuntime) -> Result<(), Fail> {
-    let alloc = rt.alloc();
-    let forms = [
-        "x:1",
-        "127.0.0.1:65535",
-        "[::1]:9",
-        "::1:9",
-        ":::9",
-        "a b:10",
-        "udp:x:1",
-    ];
-    for address in forms {
-        let word = format!(in alloc; "udp:{address}")?;
-        let send = words(alloc, &["send", "s", "f", word.as_str()])?;
-        let receive = words(alloc, &["receive", word.as_str(), SESSION, "x:1", "t"])?;
-        let send = read_words(alloc, &send).expect(&rt, "a command");
-        let receive = read_words(alloc, &receive).expect(&rt, "a command");
-        assert_eq!(rt; names_of(&send), ["send", "s", "f", address]);
-        assert_eq!(rt; names_of(&receive), ["receive", address, "x:1", "t"]);
-        assert!(rt; is_by_link(&send) && is_by_link(&receive));
+fn refuses_other_words(rt: HostRuntime) {
+    assert_eq!(rt; first_read(rt.alloc(), &REFUSED), None);
+}
+
+/// The number of the first word that is an address.
+fn first_address(alloc: Global, rows: &[&str]) -> Option<usize> {
+    for row in 0..rows.len() {
+        if !(is_refused(alloc, &["send", "s", "f", rows[row]])
+            && is_refused(alloc, &["receive", rows[row], SESSION, "l", "t"]))
+        {
+            return Some(row);
+        }
     }
-    // port 0, which is one that is to be found, is only received at
-    let receive = words(alloc, &["receive", "udp:x:0", SESSION, "l", "t"])?;
-    let receive = read_words(alloc, &receive).expect(&rt, "a command");
-    assert_eq!(rt; names_of(&receive), ["receive", "x:0", "l", "t"]);
-    let send = words(alloc, &["send", "s", "f", "udp:x:0"])?;
-    assert_eq!(rt; read_words(alloc, &send).err(), Some(WordsFault::Usage));
-    Ok(())
+    None
 }
 
 #[test]
-fn refuses_other_addresses(rt: HostRuntime) -> Result<(), Fail> {
-    let alloc = rt.alloc();
-    let others = [
-        "udp:",
-        "udp:x",
-        "udp:x:",
-        "udp::1",
-        "udp:1",
-        "udp:x:65536",
-        "udp:x:01",
-        "udp:x:00",
-        "udp:x:+1",
-        "udp:x:-1",
-        "udp:x: 1",
-        "udp:x:1 ",
-        "udp:x:1a",
-        "udp:x:99999",
-        "udp:x:100000",
-        "UDP:x:1",
-        "udp:x:18446744073709551617",
-        "file:",
-    ];
-    for word in others {
-        let send = words(alloc, &["send", "s", "f", word])?;
-        let receive = words(alloc, &["receive", word, SESSION, "l", "t"])?;
-        assert_eq!(rt; read_words(alloc, &send).err(), Some(WordsFault::Usage));
-        assert_eq!(rt; read_words(alloc, &receive).err(), Some(WordsFault::Usage));
-    }
-    let same = words(alloc, &["receive", "udp:x:1", SESSION, "l", "l"])?;
-    assert_eq!(rt; read_words(alloc, &same).err(), Some(WordsFault::Usage));
-    Ok(())
+fn refuses_other_addresses(rt: HostRuntime) {
+    assert_eq!(rt; first_address(rt.alloc(), &OTHERS), None);
 }
 
-#[test]
-fn prints_the_lines_of_receive_merge_and_video(rt: HostRuntime) -> Result<(), Fail> {
-    let alloc = rt.alloc();
+/// The lines of `receive`, `merge` and `video`.
+fn lines(alloc: Global) -> Result<Vec<u8>, NoMemory> {
     let mut text = Vec::new(alloc);
-    bound_line(alloc, 40_000, &mut text).ok().ok_or("memory")?;
-    receive_line(alloc, 3, 2, 1, &mut text)
-        .ok()
-        .ok_or("memory")?;
-    merged_line(alloc, 7, &mut text).ok().ok_or("memory")?;
-    video_line(alloc, 44, &mut text).ok().ok_or("memory")?;
-    assert_eq!(rt;
-        text.as_slice(),
-        b"bound 40000\nread 3 kept 2 shown 1\nmerged 7\nvideo 44\n".as_slice()
-    );
-    Ok(())
+    bound_line(alloc, 40_000, &mut text)?;
+    receive_line(alloc, 3, 2, 1, &mut text)?;
+    merged_line(alloc, 7, &mut text)?;
+    video_line(alloc, 44, &mut text)?;
+    Ok(text)
+}
+
+const LINES: &[u8] = b"bound 40000\nread 3 kept 2 shown 1\nmerged 7\nvideo 44\n";
+
+#[test]
+fn prints_the_lines_of_receive_merge_and_video(rt: HostRuntime) {
+    let text = lines(rt.alloc()).expect(&rt, "memory");
+    assert!(rt; text.as_slice() == LINES);
+}
+
+/// Whether a status has this number and this line.
+fn is_told(status: &Status, code: u8, text: &str) -> bool {
+    let mut line: ArrayVec<u8, 64> = ArrayVec::new();
+    fault_line(status, &mut line);
+    line.as_slice() == text.as_bytes() && status.code() == code
+}
+
+/// The number of the first status that is told otherwise.
+fn first_untold(rows: &[(Status, u8, &str)]) -> Option<usize> {
+    for row in 0..rows.len() {
+        let (status, code, text) = rows[row];
+        if !is_told(&status, code, text) {
+            return Some(row);
+        }
+    }
+    None
 }
 
 #[test]
-fn prints_the_fault_lines(rt: HostRuntime) -> Result<(), Fail> {
-    let first = GroupMark {
-        length: 34,
-        digest: [1; 8],
-    };
-    let second = GroupMark::none();
-    let cases = [
-        (Status::Incomplete, 12, "fault incomplete\n"),
-        (Status::LinkFault, 4, "fault link\n"),
-        (
-            Status::BadStream(Scan::PictureType(4, 5)),
-            6,
-            "fault stream PictureType 4 5\n",
-        ),
-        (
-            Status::BadStream(Scan::TooLong),
-            6,
-            "fault stream TooLong 268435456\n",
-        ),
-        (Status::BadStream(Scan::Empty), 6, "fault stream Empty 0\n"),
-        (
-            Status::BadPriority(PriorityFault::KindTwice),
-            7,
-            "fault priority KindTwice\n",
-        ),
-        (
-            Status::BadPlan(PlanKind::TooManyGroups, 65_535),
-            8,
-            "fault plan TooManyGroups 65535\n",
-        ),
-        (
-            Status::BadStore(1, 24, StoreKind::Cut),
-            9,
-            "fault store 1 Cut 24\n",
-        ),
-        (
-            Status::BadStore(2, 18_446_744_073_709_551_615, StoreKind::Session),
-            9,
-            "fault store 2 Session 18446744073709551615\n",
-        ),
-        (Status::OtherSession, 10, "fault session\n"),
-        (Status::Clash(3, 65_535), 11, "fault clash 3 65535\n"),
-        (Status::BadTable(65_534), 15, "fault table 65534\n"),
-        (Status::NotLeast(0), 16, "fault least 0\n"),
-        (Status::Changed(0, first, second), 17, "fault changed 0\n"),
-        (Status::Full(4_294_967_295), 19, "fault full 4294967295\n"),
-    ];
-    for case in cases.as_slice() {
-        let mut line: ArrayVec<u8, 64> = ArrayVec::new();
-        fault_line(&case.0, &mut line);
-        assert_eq!(rt; line.as_slice(), case.2.as_bytes());
-        assert_eq!(rt; case.0.code(), case.1);
-    }
-    Ok(())
+fn prints_the_fault_lines(rt: HostRuntime) {
+    assert_eq!(rt; first_untold(&FAULTS), None);
 }
