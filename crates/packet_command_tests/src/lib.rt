@@ -9,6 +9,12 @@ mod head;
 pub use head::{STORE_HEAD, store_head};
 
 #[cfg(test)]
+mod cases;
+#[cfg(test)]
+mod files;
+#[cfg(test)]
+mod links;
+#[cfg(test)]
 mod merge_fixtures;
 #[cfg(test)]
 mod merge_tests;
@@ -20,8 +26,6 @@ mod receive_link_tests;
 mod receive_tests;
 #[cfg(test)]
 mod run_table_fixtures;
-#[cfg(test)]
-mod store_fixtures;
 #[cfg(test)]
 mod untold;
 #[cfg(test)]

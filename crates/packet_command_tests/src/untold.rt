@@ -8,7 +8,7 @@ use std::cell::Cell;
 /// A link that receives these datagrams, and counts on a shared counter how often it is asked for one.
 #[derive(Drop)]
 pub(crate) struct UntoldLink<'a> {
-    pub(crate) feed: &'a [&'a [u8]],
+    pub(crate) feed: &'a [Vec<u8>],
     pub(crate) asked: &'a Cell<u32>,
     pub(crate) port: u16,
 }
@@ -45,14 +45,14 @@ impl Link for UntoldLink<'_> {
     }
 }
 
-/// A place whose files are empty, and whose output is the file of layers `b` or another. It notes the counter at each put to `b`.
+/// A place whose files are empty, and whose output is the file of layers `c` or another. It notes the counter at each put to `c`.
 #[derive(Drop)]
 pub(crate) struct UntoldPlace<'a> {
     pub(crate) asked: &'a Cell<u32>,
     pub(crate) moments: Vec<u32>,
     /// Whether there is an input.
     pub(crate) input: bool,
-    /// Whether there is an output, and whether it is `b`.
+    /// Whether there is an output, and whether it is `c`.
     pub(crate) output: Option<bool>,
     pub(crate) faults: u64,
 }
@@ -93,7 +93,7 @@ impl Place for UntoldPlace<'_> {
     }
 
     fn create(&mut self, name: &str) -> Result<(), Failed> {
-        self.output = Some(name == "b");
+        self.output = Some(name == "c");
         Ok(())
     }
 
