@@ -1,5 +1,5 @@
 -- Every command may end so before it has done anything: no memory was found to read its words.
-use Rattle.std.proofs.Common.{◌≡◌, Option, Some, None, refl, sym, subst, inl, arith}
+use Rattle.std.proofs.Common.{◌≡◌, Option, Some, None, refl, inl, arith}
 use Rattle.pet_base.specs.OutsideSeen.{OutsideSeen}
 use Rattle.command_files.specs.Printed.{PrintsLine}
 use Rattle.command_files.specs.laws.WroteLaws.{Wrote-nothing}
@@ -9,7 +9,6 @@ use Rattle.command_send.specs.declared.command.SendEnd.TheVariants as send
 use Rattle.command_receive.specs.declared.command.ReceiveEnd.TheVariants as receive
 use Rattle.command_merge.specs.declared.command.MergeEnd.TheVariants as merge
 use Rattle.command_video.specs.declared.command.VideoEnd.TheVariants as video
-use Rattle.pet_text.specs.declared.status.Status.{Status}
 use Rattle.pet_text.specs.declared.status.Status.TheVariants.{NoMemory}
 use Rattle.pet_text.specs.declared.words.Command.{Command}
 use Rattle.pet_text.specs.declared.words.Command.TheVariants.{Plan, Check, Send, Receive, Merge, Video}
@@ -71,9 +70,6 @@ module _ (before after : OutsideSeen) (line : PrintsLine (fault_text NoMemory) b
     line = line;
   }
 
-  some_no_memory : (command : Option Command) → (command ≡ None → ⊥) → Does command before after NoMemory
-  some_no_memory None some = absurd (some refl)
-  some_no_memory (Some command) some = no_memory command
-
-  pub does_no_memory : (command : Option Command) (status : Status) → (command ≡ None → ⊥) → status ≡ NoMemory → Does command before after status
-  does_no_memory command status some is = subst (λ (s : Status). Does command before after s) (sym is) (some_no_memory command some)
+  pub does_no_memory : (command : Option Command) → (command ≡ None → ⊥) → Does command before after NoMemory
+  does_no_memory None some = absurd (some refl)
+  does_no_memory (Some command) some = no_memory command

@@ -1,6 +1,6 @@
 //! The top call.
 ghost use Rattle.std.specs.Prelude.{◌≡◌, ◌≢◌, ◌↔◌, ℕ, List, None, Some};
-ghost use Rattle.pet_base.specs.OutsideSeen.{outside_seen};
+ghost use Rattle.pet_base.specs.OutsideSeen.{OutsideSeen, outside_seen};
 ghost use Rattle.pet_base.specs.Lent.{seen, AreSame};
 ghost use Rattle.command_files.specs.Printed.{PrintsLine};
 ghost use Rattle.command_merge.specs.Merges.{Merges};
@@ -62,7 +62,7 @@ pub fn run<P: Place, K: Link, S: Sink, L: Ledger>(
     run_words(alloc, words, &mut outside)
 }
 
-/// Reads the words, and runs the command that they give.
+/// Reads the words, runs the command that they give, and prints the line of its status.
 fn run_words<P: Place, K: Link, S: Sink, L: Ledger>(
     alloc: Global,
     words: &[String],
@@ -73,21 +73,37 @@ fn run_words<P: Place, K: Link, S: Sink, L: Ledger>(
         (seen outside.new) result }
     ensures same { AreSame outside.old outside.new }
 {
+    let status = status_of_words(alloc, words, outside);
+    tell(status, outside)
+}
+
+/// Reads the words, and runs the command that they give. All is done that it does but the line of its status.
+fn status_of_words<P: Place, K: Link, S: Sink, L: Ledger>(
+    alloc: Global,
+    words: &[String],
+    outside: &mut Outside<P, K, S, L>,
+) -> Status
+    ensures usage { (result ≡ Status.Usage) ↔ (command_of (texts_of words.now) ≡ None) }
+    ensures does { (told : OutsideSeen) → PrintsLine (fault_text result) (seen outside.new) told
+        → Does (command_of (texts_of words.now)) (seen outside.old) told result }
+    ensures same { AreSame outside.old outside.new }
+{
     match read_words(alloc, words) {
         Ok(command) => run_command(alloc, &command, outside),
-        Err(WordsFault::Usage) => tell(Status::Usage, outside),
-        Err(WordsFault::NoMemory) => tell(Status::NoMemory, outside),
+        Err(WordsFault::Usage) => Status::Usage,
+        Err(WordsFault::NoMemory) => Status::NoMemory,
     }
 }
 
-/// Runs a command that words give.
+/// Runs a command that words give. All is done that it does but the line of its status.
 fn run_command<P: Place, K: Link, S: Sink, L: Ledger>(
     alloc: Global,
     command: &Command,
     outside: &mut Outside<P, K, S, L>,
 ) -> Status
     requires given { (words : List (List ℕ)) × (command_of words ≡ Some command.now) }
-    ensures does { Does (Some command.now) (seen outside.old) (seen outside.new) result }
+    ensures does { (told : OutsideSeen) → PrintsLine (fault_text result) (seen outside.new) told
+        → Does (Some command.now) (seen outside.old) told result }
     ensures known { result ≢ Status.Usage }
     ensures same { AreSame outside.old outside.new }
 {
@@ -141,23 +157,23 @@ fn run_command<P: Place, K: Link, S: Sink, L: Ledger>(
     }
 }
 
-/// Runs `plan`, and prints the line of its status.
+/// Runs `plan`, and answers the status of its end.
 fn run_plan<P: Place, K: Link, S: Sink, L: Ledger>(
     alloc: Global,
     stream: &str,
     priority: &str,
     outside: &mut Outside<P, K, S, L>,
 ) -> Status
-    ensures does { Runs (Plans stream.now priority.now) status_of_plan (seen outside.old)
-        (seen outside.new) result }
+    ensures does { (told : OutsideSeen) → PrintsLine (fault_text result) (seen outside.new) told
+        → Runs (Plans stream.now priority.now) status_of_plan (seen outside.old) told result }
     ensures known { result ≢ Status.Usage }
     ensures same { AreSame outside.old outside.new }
 {
     let end = plan(alloc, stream, priority, outside);
-    tell(plan_status(&end), outside)
+    plan_status(&end)
 }
 
-/// Runs `check`, and prints the line of its status.
+/// Runs `check`, and answers the status of its end.
 fn run_check<P: Place, K: Link, S: Sink, L: Ledger>(
     alloc: Global,
     stream: &str,
@@ -165,16 +181,16 @@ fn run_check<P: Place, K: Link, S: Sink, L: Ledger>(
     plan: &str,
     outside: &mut Outside<P, K, S, L>,
 ) -> Status
-    ensures does { Runs (Checks stream.now priority.now plan.now) status_of_check (seen outside.old)
-        (seen outside.new) result }
+    ensures does { (told : OutsideSeen) → PrintsLine (fault_text result) (seen outside.new) told
+        → Runs (Checks stream.now priority.now plan.now) status_of_check (seen outside.old) told result }
     ensures known { result ≢ Status.Usage }
     ensures same { AreSame outside.old outside.new }
 {
     let end = check(alloc, stream, priority, plan, outside);
-    tell(check_status(&end), outside)
+    check_status(&end)
 }
 
-/// Runs `send`, and prints the line of its status.
+/// Runs `send`, and answers the status of its end.
 fn run_send<P: Place, K: Link, S: Sink, L: Ledger>(
     alloc: Global,
     stream: &str,
@@ -183,16 +199,16 @@ fn run_send<P: Place, K: Link, S: Sink, L: Ledger>(
     outside: &mut Outside<P, K, S, L>,
 ) -> Status
     requires differ { IsOther (way_of to) stream.now }
-    ensures does { Runs (Sends stream.now priority.now (way_of to.entry)) status_of_send
-        (seen outside.old) (seen outside.new) result }
+    ensures does { (told : OutsideSeen) → PrintsLine (fault_text result) (seen outside.new) told
+        → Runs (Sends stream.now priority.now (way_of to.entry)) status_of_send (seen outside.old) told result }
     ensures known { result ≢ Status.Usage }
     ensures same { AreSame outside.old outside.new }
 {
     let end = send(alloc, stream, priority, to, outside);
-    tell(send_status(&end), outside)
+    send_status(&end)
 }
 
-/// Runs `receive`, and prints the line of its status.
+/// Runs `receive`, and answers the status of its end.
 fn run_receive<P: Place, K: Link, S: Sink, L: Ledger>(
     alloc: Global,
     from: Route<'_>,
@@ -201,16 +217,16 @@ fn run_receive<P: Place, K: Link, S: Sink, L: Ledger>(
     store: &str,
     outside: &mut Outside<P, K, S, L>,
 ) -> Status
-    ensures does { Runs (Receives (way_of from.entry) session layers.now store.now)
-        status_of_receive (seen outside.old) (seen outside.new) result }
+    ensures does { (told : OutsideSeen) → PrintsLine (fault_text result) (seen outside.new) told
+        → Runs (Receives (way_of from.entry) session layers.now store.now) status_of_receive (seen outside.old) told result }
     ensures known { result ≢ Status.Usage }
     ensures same { AreSame outside.old outside.new }
 {
     let end = receive(alloc, from, session, layers, store, outside);
-    tell(receive_status(&end), outside)
+    receive_status(&end)
 }
 
-/// Runs `merge`, and prints the line of its status.
+/// Runs `merge`, and answers the status of its end.
 fn run_merge<P: Place, K: Link, S: Sink, L: Ledger>(
     alloc: Global,
     first: &str,
@@ -218,29 +234,29 @@ fn run_merge<P: Place, K: Link, S: Sink, L: Ledger>(
     out: &str,
     outside: &mut Outside<P, K, S, L>,
 ) -> Status
-    ensures does { Runs (Merges first.now second.now out.now) status_of_merge (seen outside.old)
-        (seen outside.new) result }
+    ensures does { (told : OutsideSeen) → PrintsLine (fault_text result) (seen outside.new) told
+        → Runs (Merges first.now second.now out.now) status_of_merge (seen outside.old) told result }
     ensures known { result ≢ Status.Usage }
     ensures same { AreSame outside.old outside.new }
 {
     let end = merge(alloc, first, second, out, outside);
-    tell(merge_status(&end), outside)
+    merge_status(&end)
 }
 
-/// Runs `video`, and prints the line of its status.
+/// Runs `video`, and answers the status of its end.
 fn run_video<P: Place, K: Link, S: Sink, L: Ledger>(
     alloc: Global,
     store: &str,
     out: &str,
     outside: &mut Outside<P, K, S, L>,
 ) -> Status
-    ensures does { Runs (Videos store.now out.now) status_of_video (seen outside.old)
-        (seen outside.new) result }
+    ensures does { (told : OutsideSeen) → PrintsLine (fault_text result) (seen outside.new) told
+        → Runs (Videos store.now out.now) status_of_video (seen outside.old) told result }
     ensures known { result ≢ Status.Usage }
     ensures same { AreSame outside.old outside.new }
 {
     let end = video(alloc, store, out, outside);
-    tell(video_status(&end), outside)
+    video_status(&end)
 }
 
 /// Prints the line that tells of the status, where it has one. A failure of the output does not change the status.

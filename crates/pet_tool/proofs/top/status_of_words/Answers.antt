@@ -1,0 +1,10 @@
+use Rattle.pet_base.specs.Lent.{seen}
+use Rattle.pet_text.specs.Words.{texts_of, command_of}
+use Rattle.pet_tool.proofs.NoMemory.{does_no_memory}
+use Rattle.pet_tool.proofs.top.status_of_words.Goals as goal
+
+pub returns-in-Err-NoMemory-clause-does : goal.returns-in-Err-NoMemory-clause-does
+returns-in-Err-NoMemory-clause-does g c told line =
+    let read = c.in-Err-NoMemory in
+    does_no_memory (seen c.args.outside.now) told line (command_of (texts_of c.args.words.now))
+    (λ none. let usage = read.ensures.usage.1 none in let is = read.field-0-is in cc)
