@@ -28,6 +28,11 @@ pub not_change : {P : Type 0} (change : Option Change) → is_some change ≡ fa
 not_change None none p = p
 not_change (Some c) none p = absurd cc
 
+-- what holds where one was found
+pub when_change : {P : Type 0} (change : Option Change) → is_some change ≡ true → IfSome change (λ _. P) → P
+when_change None some p = absurd cc
+when_change (Some c) some p = p
+
 -- what `send_group` answered where it found none
 pub sends_none : (A : Type 0) (B : Change → Type 0) (change : Option Change) → is_some change ≡ false → MatchOption change A B → A
 sends_none A B None none a = a

@@ -1,10 +1,21 @@
 -- What the second pass leaves as it was.
-use Rattle.std.proofs.Common.{◌≡◌, ◌≤◌, refl, ap, ◌∙◌, arith}
+use Rattle.std.proofs.Common.{◌≡◌, ℕ, ◌≤◌, List, Option, inr, refl, sym, ap, subst, ◌∙◌, arith}
+use Rattle.std.specs.Prelude.{◌⊎◌, IfSome, Result, Ok, Err, IfErr, IsErrAnd}
 use Rattle.pet_base.specs.Seen.{OnlyReads}
-use Rattle.pet_base.specs.laws.SeenLaws.{KeepsNames-same, KeepsNames-then, OnlyReads-KeepsNames, OnlyWrites-KeepsNames}
+use Rattle.pet_base.specs.Causes.{Blames}
+use Rattle.pet_base.specs.declared.place.Side.TheVariants.{Read, Written}
+use Rattle.pet_base.specs.declared.link.LinkSide.TheVariants.{Aimed}
+use Rattle.pet_base.specs.laws.SeenLaws.{HadFault-since, KeepsNames-same, KeepsNames-then, OnlyReads-KeepsNames, OnlyWrites-KeepsNames}
 use Rattle.pet_base.specs.LinkSeen.{LinkSeen, OnlySends}
-use Rattle.datagram_route.specs.Sending.{Routes, OnlyGrows}
+use Rattle.command_files.specs.laws.PrintedLaws.{Rose-since}
+use Rattle.datagram_route.specs.declared.fault.RouteStop.{RouteStop}
+use Rattle.datagram_route.specs.declared.fault.RouteStop.TheVariants as stop
+use Rattle.datagram_route.specs.RouteFaults.{IsStop}
+use Rattle.datagram_route.specs.Sending.{Routes, OnlyGrows, OutputFailed, SendingFailed}
+use Rattle.datagram_route.specs.Way.{Way, OnFile, OnLink}
+use Rattle.datagram_route.specs.laws.SendingLaws.{output_failed, sending_failed}
 use Rattle.command_send.specs.Second.{OnlyPasses}
+use Rattle.command_send.specs.Sending.{PassFailed}
 
 sends_same : (old new : LinkSeen) → new ≡ old → OnlySends old new
 sends_same old new same = record { feed = ap (λ l. l.feed) same; port = ap (λ l. l.port) same; bound = ap (λ l. l.bound) same; aimed = ap (λ l. l.aimed) same }
@@ -38,3 +49,49 @@ passes_grows old new grows = record {
   place_later = grows.place_later;
   link_later = grows.link_later;
 }
+
+-- a stop of a later part of the pass is one of the whole
+stop_later : (way : Way) (first before after : Routes) (why : RouteStop) → OnlyGrows first before → IsStop (OutputFailed way before.place after.place) (SendingFailed way before.link after.link) ⊥ why
+    → IsStop (OutputFailed way first.place after.place) (SendingFailed way first.link after.link) ⊥ why
+stop_later way first before after stop.NoMemory grows failed = tt
+stop_later way first before after stop.Place grows failed = output_failed way first before after grows failed
+stop_later way first before after stop.Link grows failed = sending_failed way first before after grows failed
+stop_later way first before after stop.Out grows failed = failed
+
+-- through `?`, which hands the same fault on
+pub handed_on : {A E : Type 0} (Q : E → Type 0) (result : Result A E) (why : E) → IsErrAnd result (λ answer. answer ≡ why) → Q why → IfErr result Q
+handed_on Q (Ok x) why is q = tt
+handed_on Q (Err answer) why is q = subst Q (sym is) q
+
+pub stop_on : {A : Type 0} (way : Way) (first before after : Routes) (result : Result A RouteStop) (why : RouteStop) → IsErrAnd result (λ answer. answer ≡ why) → OnlyGrows first before
+    → IsStop (OutputFailed way before.place after.place) (SendingFailed way before.link after.link) ⊥ why
+    → IfErr result (IsStop (OutputFailed way first.place after.place) (SendingFailed way first.link after.link) ⊥)
+stop_on way first before after result why is grows failed =
+    handed_on (IsStop (OutputFailed way first.place after.place) (SendingFailed way first.link after.link) ⊥) result why is (stop_later way first before after why grows failed)
+
+-- and also of a pass that has read
+place_failed : (way : Way) (first before after : Routes) → OnlyPasses first before → OutputFailed way before.place after.place → PassFailed way first.place after.place
+place_failed (OnFile name) first before after passes failed =
+    HadFault-since first.place before.place after.place (Blames Written before.place.target) (λ b. Blames Read first.place.source b ⊎ Blames Written first.place.target b) passes.place_later
+    (λ b h. inr (subst (λ (o : Option (List ℕ)). Blames Written o b) passes.names.target h)) failed
+place_failed (OnLink address) first before after passes failed = absurd failed
+
+link_failed : (way : Way) (first before after : Routes) → OnlyPasses first before → SendingFailed way before.link after.link → SendingFailed way first.link after.link
+link_failed (OnFile name) first before after passes failed = failed
+link_failed (OnLink address) first before after passes failed = record {
+  rose = Rose-since first.link.faults before.link.faults after.link.faults passes.link_later failed.rose;
+  blame = subst (λ (o : Option (List ℕ)). IfSome after.link.blamed (Blames Aimed o)) passes.link.aimed failed.blame;
+}
+
+stop_passed : (way : Way) (first before after : Routes) (why : RouteStop) → OnlyPasses first before → IsStop (OutputFailed way before.place after.place) (SendingFailed way before.link after.link) ⊥ why
+    → IsStop (PassFailed way first.place after.place) (SendingFailed way first.link after.link) ⊥ why
+stop_passed way first before after stop.NoMemory passes failed = tt
+stop_passed way first before after stop.Place passes failed = place_failed way first before after passes failed
+stop_passed way first before after stop.Link passes failed = link_failed way first before after passes failed
+stop_passed way first before after stop.Out passes failed = failed
+
+pub stop_after : {A : Type 0} (way : Way) (first before after : Routes) (result : Result A RouteStop) (why : RouteStop) → IsErrAnd result (λ answer. answer ≡ why) → OnlyPasses first before
+    → IsStop (OutputFailed way before.place after.place) (SendingFailed way before.link after.link) ⊥ why
+    → IfErr result (IsStop (PassFailed way first.place after.place) (SendingFailed way first.link after.link) ⊥)
+stop_after way first before after result why is passes failed =
+    handed_on (IsStop (PassFailed way first.place after.place) (SendingFailed way first.link after.link) ⊥) result why is (stop_passed way first before after why passes failed)

@@ -1,8 +1,11 @@
 use Rattle.std.proofs.Common.{refl, arith}
 use Rattle.pet_base.specs.laws.Through.{on_any_err}
 use Rattle.command_send.proofs.GroupsSoFar.{cost_all}
+use Rattle.command_send.proofs.Passes.{passes_same, passes_then, passes_grows, handed_on, stop_after}
 use Rattle.command_send.proofs.ReadPortions.{part_start, gone_start, part_end, sent_end, taken_write}
-use Rattle.datagram_route.specs.Sending.{routes}
+use Rattle.command_send.specs.Sending.{PassFailed}
+use Rattle.datagram_route.specs.RouteFaults.{IsStop}
+use Rattle.datagram_route.specs.Sending.{routes, SendingFailed}
 use Rattle.datagram_route.specs.Way.{way_of}
 use Rattle.command_send.proofs.second.send_again.Goals as goal
 
@@ -41,3 +44,43 @@ returns-clause-sent g c =
     let now = routes g.P.Place g.K.Link c.finish.new.place c.finish.new.link in
     let read = c.in_ok-read_again.ensures.stands in
     sent_end (way_of c.args.found.now.to) c.args.found.now.source c.args.found.now.marks.items read.0 c.finish.new.self.change first now (taken_write read.0 first.place mid.place now.place c.finish.ensures.others.place.rest read.1) (c.in_ok-finish.ensures.all read.0 first read.2)
+
+pub returns-in_err-buffer-clause-others : goal.returns-in_err-buffer-clause-others
+returns-in_err-buffer-clause-others g c = passes_same (routes g.P.Place g.K.Link c.args.place.now c.args.link.now)
+
+pub returns-in_err-new-clause-others : goal.returns-in_err-new-clause-others
+returns-in_err-new-clause-others g c = passes_same (routes g.P.Place g.K.Link c.args.place.now c.args.link.now)
+
+pub returns-in_err-read_again-clause-part : goal.returns-in_err-read_again-clause-part
+returns-in_err-read_again-clause-part g c = on_any_err c.from_residual-in_err-read_again.result c.in_err-read_again.ensures.part
+
+pub returns-in_err-read_again-clause-others : goal.returns-in_err-read_again-clause-others
+returns-in_err-read_again-clause-others g c = c.read_again.ensures.others
+
+pub returns-in_err-read_again-clause-cause : goal.returns-in_err-read_again-clause-cause
+returns-in_err-read_again-clause-cause g c =
+    let way = way_of c.args.found.now.to in
+    let first = routes g.P.Place g.K.Link c.args.place.now c.args.link.now in
+    let mid = routes g.P.Place g.K.Link c.read_again.new.place c.read_again.new.link in
+    handed_on (IsStop (PassFailed way first.place mid.place) (SendingFailed way first.link mid.link) ⊥) c.from_residual-in_err-read_again.result c.in_err-read_again.field-0.0 c.from_residual-in_err-read_again.ensures.1 c.in_err-read_again.ensures.cause
+
+pub returns-in_err-finish-clause-others : goal.returns-in_err-finish-clause-others
+returns-in_err-finish-clause-others g c =
+    let first = routes g.P.Place g.K.Link c.args.place.now c.args.link.now in
+    let mid = routes g.P.Place g.K.Link c.read_again.new.place c.read_again.new.link in
+    let now = routes g.P.Place g.K.Link c.finish.new.place c.finish.new.link in
+    passes_then first mid now c.read_again.ensures.others (passes_grows mid now c.finish.ensures.others)
+
+pub returns-in_err-finish-clause-cause : goal.returns-in_err-finish-clause-cause
+returns-in_err-finish-clause-cause g c =
+    let first = routes g.P.Place g.K.Link c.args.place.now c.args.link.now in
+    let mid = routes g.P.Place g.K.Link c.read_again.new.place c.read_again.new.link in
+    let now = routes g.P.Place g.K.Link c.finish.new.place c.finish.new.link in
+    stop_after (way_of c.args.found.now.to) first mid now c.from_residual-in_err-finish.result c.in_err-finish.field-0.0 c.from_residual-in_err-finish.ensures.1 c.read_again.ensures.others c.in_err-finish.ensures.cause
+
+pub returns-clause-others : goal.returns-clause-others
+returns-clause-others g c =
+    let first = routes g.P.Place g.K.Link c.args.place.now c.args.link.now in
+    let mid = routes g.P.Place g.K.Link c.read_again.new.place c.read_again.new.link in
+    let now = routes g.P.Place g.K.Link c.finish.new.place c.finish.new.link in
+    passes_then first mid now c.read_again.ensures.others (passes_grows mid now c.finish.ensures.others)

@@ -1,11 +1,14 @@
-use Rattle.std.proofs.Common.{◌+◌, ◌++◌, ◌∙◌, sym, subst, refl, arith}
-use Rattle.std.specs.Prelude.{Option}
+use Rattle.std.proofs.Common.{◌+◌, ◌++◌, ◌∙◌, ap, sym, subst, refl, arith}
+use Rattle.std.specs.Prelude.{Option, is_some}
+use Rattle.std.proofs.lemmas.Option.{slice_get_within}
+use Rattle.stream_session.specs.Tables.{table_of}
 use Rattle.datagram_route.specs.laws.SendingLaws.{grows_same, grows_then, grows_open}
 use Rattle.pet_base.specs.laws.Through.{on_any_err}
 use Rattle.group_cutter.specs.CutGroups.{CutGroup}
 use Rattle.group_cutter.specs.Cutting.{HasCut, groups_in}
 use Rattle.command_send.specs.Second.{SendsGroup, Differs}
-use Rattle.command_send.proofs.LeastChange.{stands_change, sends_none}
+use Rattle.command_send.proofs.LeastChange.{stands_change, sends_none, when_change}
+use Rattle.command_send.proofs.Passes.{stop_on}
 use Rattle.command_send.proofs.GroupsSoFar.{cost_next, gone_more, gone_part, part_gone, knows_more, knows_whole, knows_filled}
 use Rattle.datagram_route.specs.Sending.{routes}
 use Rattle.datagram_route.specs.Way.{way_of}
@@ -76,3 +79,51 @@ loop-group-preserved g c =
 pub send_group-requires-clause-open : goal.send_group-requires-clause-open
 send_group-requires-clause-open g c =
     grows_open (way_of c.args.found.now.to) (routes g.P.Place g.K.Link c.args.place.now c.args.link.now) (routes g.P.Place g.K.Link c.loop-group.place c.loop-group.link) c.loop-group.invariant.others c.requires.open
+
+pub returns-in_err-group-clause-others : goal.returns-in_err-group-clause-others
+returns-in_err-group-clause-others g c = c.loop-group.invariant.others
+
+pub returns-in_err-group-clause-cost : goal.returns-in_err-group-clause-cost
+returns-in_err-group-clause-cost g c = omega (arith, c.loop-group.invariant.left)
+
+pub returns-in_err-change-clause-others : goal.returns-in_err-change-clause-others
+returns-in_err-change-clause-others g c =
+    grows_then (routes g.P.Place g.K.Link c.args.place.now c.args.link.now) (routes g.P.Place g.K.Link c.loop-group.place c.loop-group.link) (routes g.P.Place g.K.Link c.send_group.new.place c.send_group.new.link) c.loop-group.invariant.others c.send_group.ensures.others
+
+pub returns-in_err-change-clause-cause : goal.returns-in_err-change-clause-cause
+returns-in_err-change-clause-cause g c =
+    stop_on (way_of c.args.found.now.to) (routes g.P.Place g.K.Link c.args.place.now c.args.link.now) (routes g.P.Place g.K.Link c.loop-group.place c.loop-group.link) (routes g.P.Place g.K.Link c.send_group.new.place c.send_group.new.link)
+    c.from_residual-in_err-change.result c.in_err-change.field-0.0 c.from_residual-in_err-change.ensures.1 c.loop-group.invariant.others c.in_err-change.ensures.cause
+
+pub returns-then-is_some-clause-others : goal.returns-then-is_some-clause-others
+returns-then-is_some-clause-others g c =
+    grows_then (routes g.P.Place g.K.Link c.args.place.now c.args.link.now) (routes g.P.Place g.K.Link c.loop-group.place c.loop-group.link) (routes g.P.Place g.K.Link c.send_group.new.place c.send_group.new.link) c.loop-group.invariant.others c.send_group.ensures.others
+
+pub returns-then-is_some-clause-cost : goal.returns-then-is_some-clause-cost
+returns-then-is_some-clause-cost g c =
+    omega (arith, c.send_group.ensures.cost, c.loop-group.invariant.left, cost_next c.args.found.now.source.tables.items c.loop-group.groups.sent)
+
+pub returns-then-is_some-clause-left : goal.returns-then-is_some-clause-left
+returns-then-is_some-clause-left g c =
+    let idle = when_change c.in_ok-change.change (sym c.is_some.ensures ∙ c.if-is_some.true) c.in_ok-change.ensures.idle in
+    omega (arith, idle, c.loop-group.invariant.left)
+
+pub returns-clause-others : goal.returns-clause-others
+returns-clause-others g c = c.loop-group.invariant.others
+
+pub returns-clause-cost : goal.returns-clause-cost
+returns-clause-cost g c = omega (arith, c.loop-group.invariant.left)
+
+pub returns-clause-left : goal.returns-clause-left
+returns-clause-left g c = omega (arith, c.loop-group.invariant.left)
+
+pub overflow_add-groups : goal.overflow_add-groups
+overflow_add-groups g c =
+    let source = c.args.found.now.source in
+    let before = routes g.P.Place g.K.Link c.loop-group.place c.loop-group.link in
+    let after = routes g.P.Place g.K.Link c.send_group.new.place c.send_group.new.link in
+    let sends = sends_none (SendsGroup (way_of c.args.found.now.to) source c.args.found.now.marks.items c.loop-group.groups.sent c.in-Some.group before after) (Differs source c.args.found.now.marks.items c.loop-group.groups.sent c.in-Some.group before after) c.in_ok-change.change (sym c.is_some.ensures ∙ c.if-is_some.false) c.in_ok-change.ensures.sends in
+    omega (arith, slice_get_within source.tables.items c.loop-group.groups.sent (table_of source.priority c.in-Some.group.cut) sends.0.table, c.args.found.now.few)
+
+pub loop-group-smaller : goal.loop-group-smaller
+loop-group-smaller g c = c.in_ok-group.ensures.fewer (ap is_some c.in-Some.is)

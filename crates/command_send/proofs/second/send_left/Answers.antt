@@ -8,6 +8,7 @@ use Rattle.command_send.specs.Sending.{HasSentSome}
 use Rattle.command_send.specs.Second.{SendsGroup, SendsGroupPart, Differs}
 use Rattle.std.specs.Prelude.{MatchOption}
 use Rattle.command_send.proofs.LeastChange.{sends_none, left_change, ends_lost}
+use Rattle.command_send.proofs.Passes.{stop_on}
 use Rattle.command_send.proofs.FoundGroups.{all_found}
 use Rattle.command_send.proofs.GroupsSoFar.{cost_next, some_more, left_part, left_split, left_length}
 use Rattle.datagram_route.specs.Sending.{routes}
@@ -88,3 +89,25 @@ returns-clause-all g c stream first before at all h =
 pub send_group-requires-clause-open : goal.send_group-requires-clause-open
 send_group-requires-clause-open g c =
     grows_open (way_of c.args.found.now.to) (routes g.P.Place g.K.Link c.args.place.now c.args.link.now) (routes g.P.Place g.K.Link c.loop-group.place c.loop-group.link) c.loop-group.invariant.others c.requires.open
+
+pub returns-in_err-change-clause-others : goal.returns-in_err-change-clause-others
+returns-in_err-change-clause-others g c =
+    grows_then (routes g.P.Place g.K.Link c.args.place.now c.args.link.now) (routes g.P.Place g.K.Link c.loop-group.place c.loop-group.link) (routes g.P.Place g.K.Link c.send_group.new.place c.send_group.new.link) c.loop-group.invariant.others c.send_group.ensures.others
+
+pub returns-in_err-change-clause-cause : goal.returns-in_err-change-clause-cause
+returns-in_err-change-clause-cause g c =
+    stop_on (way_of c.args.found.now.to) (routes g.P.Place g.K.Link c.args.place.now c.args.link.now) (routes g.P.Place g.K.Link c.loop-group.place c.loop-group.link) (routes g.P.Place g.K.Link c.send_group.new.place c.send_group.new.link)
+    c.from_residual.result c.in_err-change.field-0.0 c.from_residual.ensures.1 c.loop-group.invariant.others c.in_err-change.ensures.cause
+
+pub returns-then-is_some-clause-others : goal.returns-then-is_some-clause-others
+returns-then-is_some-clause-others g c =
+    grows_then (routes g.P.Place g.K.Link c.args.place.now c.args.link.now) (routes g.P.Place g.K.Link c.loop-group.place c.loop-group.link) (routes g.P.Place g.K.Link c.send_group.new.place c.send_group.new.link) c.loop-group.invariant.others c.send_group.ensures.others
+
+pub returns-then-is_some-clause-cost : goal.returns-then-is_some-clause-cost
+returns-then-is_some-clause-cost g c = omega (arith, c.send_group.ensures.cost, c.loop-group.invariant.left, cost_next c.args.found.now.source.tables.items c.loop-group.number)
+
+pub returns-clause-others : goal.returns-clause-others
+returns-clause-others g c = c.loop-group.invariant.others
+
+pub returns-clause-cost : goal.returns-clause-cost
+returns-clause-cost g c = omega (arith, c.loop-group.invariant.left)

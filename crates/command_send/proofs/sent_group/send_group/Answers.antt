@@ -5,6 +5,7 @@ use Rattle.group_cutter.specs.CutGroups.{CutGroup}
 use Rattle.stream_session.specs.laws.MarkLaws.{mark_found}
 use Rattle.stream_session.specs.Marks.{mark_of}
 use Rattle.stream_session.specs.Tables.{table_of}
+use Rattle.datagram_route.specs.Sending.{routes}
 use Rattle.command_send.proofs.sent_group.send_group.Goals as goal
 
 not_both : true ≡ false → ⊥
@@ -20,7 +21,7 @@ returns-then-not-has_table-clause-sends g c =
       first_is = c.first_mark-first.ensures;
       marked = inr (c.none.ensures, sym c.first_mark-first.ensures ∙ same ∙ second, λ e. not_both (sym (c.has_table.ensures.1 (e ∙ ap (λ (x : CutGroup). Some (table_of c.args.found.now.source.priority x.cut)) (sym c.group.view_is))) ∙ c.if-not-has_table.true));
       differ = λ e. mark_found group.bytes c.requires.filled (sym second ∙ sym same ∙ e ∙ c.none.ensures);
-      still = refl;
+      still = refl {a = routes g.P.Place g.K.Link c.args.place.now c.args.link.now};
     }
 
 pub returns-in_err-put_packets-clause-part : goal.returns-in_err-put_packets-clause-part
