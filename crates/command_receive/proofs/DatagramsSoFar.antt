@@ -10,6 +10,7 @@ use Rattle.pet_base.specs.LinkSeen.{LinkSeen}
 use Rattle.pet_base.specs.laws.SeenLaws.{Grows-then}
 use Rattle.datagram_route.specs.Way.{Way, OnFile, OnLink}
 use Rattle.datagram_route.specs.Coming.{coming, HasInput, HaveCome, KeepsFeed, OnlyTakes, TakesDatagram}
+use Rattle.datagram_route.specs.Sending.{AreFirst}
 use Rattle.datagram_route.specs.RouteFaults.{IsFailure, InputFailed, ReceivingFailed, stop_of_route, stop_of_place}
 use Rattle.datagram_route.specs.declared.fault.RouteFailed.{RouteFailed}
 use Rattle.datagram_route.specs.declared.fault.RouteFailed.TheVariants as failed
@@ -24,7 +25,6 @@ use Rattle.pet_field.specs.Gf16.{gf16_coding}
 use Rattle.met_packets.specs.Gf16.{HasKeptIn, IsArrivalText, IsLayersText, IsTextAt}
 use Rattle.met_packets.specs.LayersText.{order_after, order_after_all}
 use Rattle.command_files.specs.Outputs.{Puts}
-use Rattle.command_receive.specs.Receives.{AreFirst}
 use Rattle.command_receive.specs.SoFar.{SoFar, HasReceived, CameFirst, PartSoFar, StoppedSoFar, PartOfOne, LinkReceives}
 use Rattle.met_packets.specs.Steps.{steps_of, steps_of_all}
 use Rattle.command_files.specs.laws.OutputLaws.{puts_nothing}
@@ -102,7 +102,7 @@ received_all set n into first before now all left next_left r a b s few step rea
 pub received_many : (set : KeptSet) (n : ℕ) (first now : Seen) (all left : Option (List (List ℕ))) (r : ReceiverState ℕ) (a b : ℕ) → SoFar set n first now all left r a b → n ≡ MAX_DATAGRAMS → HasReceived set n first now all left r a b
 received_many set n first now all left r a b s is = record { so_far = s; few = omega (arith, is); ended = λ lt. absurd (omega (arith, is, lt)) }
 
-first_of_told : (read : List (List ℕ)) (rest : Option (List ℕ)) → IfSome (option_map datagrams rest) (λ all. (more : List (List ℕ)) × (all ≡ read ++ more)) → IfSome rest (AreFirst read)
+first_of_told : (read : List (List ℕ)) (rest : Option (List ℕ)) → IfSome (option_map datagrams rest) (AreFirst read) → IfSome rest (λ bytes. AreFirst read (datagrams bytes))
 first_of_told read None is = tt
 first_of_told read (Some bytes) is = is
 

@@ -13,6 +13,7 @@ use Rattle.command_files.specs.Wrote.{File, Wrote}
 use Rattle.command_files.specs.laws.WroteLaws.{Wrote-file, Wrote-as_front, Wrote-then}
 use Rattle.datagram_route.specs.Way.{Way, OnFile, OnLink}
 use Rattle.datagram_route.specs.Coming.{coming, HaveCome}
+use Rattle.datagram_route.specs.Sending.{AreFirst}
 use Rattle.pet_receive.specs.Arrivals.{ReceiverState, kept_set}
 use Rattle.kept_sets.specs.KeptSet.{KeptSet, kept_in_all}
 use Rattle.pet_receive.specs.ShownBytes.{IsComplete, shown_in_all}
@@ -21,7 +22,7 @@ use Rattle.pet_text.specs.Lines.{bound_text}
 use Rattle.command_receive.specs.Numbers.{AreTotals}
 use Rattle.command_receive.specs.Opened.{Begun, Opened, IsBoundTo, KeepsLink, PrintedPort}
 use Rattle.store_merge.specs.Files.{HasFile, store_file}
-use Rattle.command_receive.specs.Receives.{AreRead, AreFirst, HaveLeft, IsRead, IsReadFirst, layers_file, kept_file, Reads, ReadsUntilFault, LeavesFront}
+use Rattle.command_receive.specs.Receives.{AreRead, HaveLeft, IsRead, IsReadFirst, layers_file, kept_file, Reads, ReadsUntilFault, LeavesFront}
 use Rattle.command_receive.specs.SoFar.{HasReceived, CameFirst, PartSoFar, WholeSoFar, LinkReceives}
 
 none_some : {A : Type 0} (x : A) → None ≡ Some x → ⊥
@@ -61,7 +62,8 @@ is_read (OnLink address) n read before opened new stored begun link len come end
 -- the first of it
 is_read_first : (from : Way) (read : List (List ℕ)) (before opened new : OutsideSeen) → Begun from before opened → CameFirst from read opened.place opened.link new.link → IsReadFirst from read before new
 is_read_first (OnFile name) read before opened new begun came =
-    there before.place.files name (AreFirst read) begun.found (subst (λ (b : Option (List ℕ)). IfSome b (AreFirst read)) begun.rest came)
+    let first = λ (bytes : List ℕ). AreFirst read (datagrams bytes) in
+    there before.place.files name first begun.found (subst (λ (b : Option (List ℕ)). IfSome b first) begun.rest came)
 is_read_first (OnLink address) read before opened new begun came =
     subst (λ (o : Option (List (List ℕ))). HaveLeft read o new.link.feed) begun.others.feed came
 
@@ -69,7 +71,7 @@ is_read_first (OnLink address) read before opened new begun came =
 first_of_all : (from : Way) (read : List (List ℕ)) (before after : OutsideSeen) → IsRead from read before after → IsReadFirst from read before after
 first_of_all (OnFile name) read before after is = front_of before.place.files is
   where
-    front_of : (files : Option Files) → HasFile files name (AreRead read) → HasFile files name (AreFirst read)
+    front_of : (files : Option Files) → HasFile files name (AreRead read) → HasFile files name (λ bytes. AreFirst read (datagrams bytes))
     front_of None are = tt
     front_of (Some f) are = (are.0, are.1, (are.2.0, are.2.1))
 first_of_all (OnLink address) read before after is = ([], omega arith, subst (λ (l : List (List ℕ)). HaveCome l before.link.feed after.link.feed) (sym (append-nil read)) is.0)

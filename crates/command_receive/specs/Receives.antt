@@ -12,6 +12,7 @@ use Rattle.command_files.specs.Wrote.{File, Wrote}
 use Rattle.datagram_route.specs.Way.{Way, OnFile, OnLink}
 use Rattle.datagram_route.specs.Coming.{HaveCome, KeepsFeed}
 use Rattle.datagram_route.specs.RouteFaults.{BoundFailed}
+use Rattle.datagram_route.specs.Sending.{AreFirst}
 use Rattle.kept_sets.specs.KeptSet.{kept_in_all}
 use Rattle.pet_receive.specs.ShownBytes.{IsComplete, shown_in_all}
 use Rattle.store_merge.specs.Files.{HasFile, store_file}
@@ -27,10 +28,6 @@ use Rattle.command_receive.specs.declared.command.ReceiveEnd.TheVariants.{Done, 
 abbrev pub AreRead : List (List ℕ) → List ℕ → Type 0
 AreRead read bytes = (more : List (List ℕ)) × (datagrams bytes ≡ read ++ more) × (length read < MAX_DATAGRAMS → more ≡ [])
 
--- the first datagrams of the input are these
-abbrev pub AreFirst : List (List ℕ) → List ℕ → Type 0
-AreFirst read bytes = (more : List (List ℕ)) × (datagrams bytes ≡ read ++ more)
-
 -- These have left the link, and at most one more: that at which the command failed.
 abbrev pub HaveLeft : List (List ℕ) → Option (List (List ℕ)) → Option (List (List ℕ)) → Type 0
 HaveLeft read old new = (last : List (List ℕ)) × (length last ≤ 1) × HaveCome (read ++ last) old new
@@ -43,7 +40,7 @@ IsRead (OnLink address) read before after =
 
 -- FROM is there and these are its first datagrams; or these have left the link
 abbrev pub IsReadFirst : Way → List (List ℕ) → OutsideSeen → OutsideSeen → Type 0
-IsReadFirst (OnFile name) read before after = HasFile before.place.files name (AreFirst read)
+IsReadFirst (OnFile name) read before after = HasFile before.place.files name (λ bytes. AreFirst read (datagrams bytes))
 IsReadFirst (OnLink address) read before after = HaveLeft read before.link.feed after.link.feed
 
 -- the file of layers, with this text

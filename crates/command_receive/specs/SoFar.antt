@@ -3,12 +3,14 @@
 use Rattle.std.specs.Prelude.{◌≡◌, ◌⊎◌, ℕ, ◌+◌, ◌<◌, ◌≤◌, List, [], length, Option, IfSome}
 use Rattle.pet_base.specs.declared.limits.TheConstants.{MAX_DATAGRAMS}
 use Rattle.pet_base.specs.Causes.{Blames}
+use Rattle.pet_base.specs.Entries.{datagrams}
 use Rattle.pet_base.specs.declared.place.Side.TheVariants.{Read, Written}
 use Rattle.pet_base.specs.Seen.{Seen, Blame}
 use Rattle.pet_base.specs.LinkSeen.{LinkSeen, OnlyReceives}
 use Rattle.command_files.specs.Outputs.{IsPrefix, Puts, PutsPart}
 use Rattle.datagram_route.specs.Way.{Way, OnFile, OnLink}
 use Rattle.datagram_route.specs.Coming.{HaveCome}
+use Rattle.datagram_route.specs.Sending.{AreFirst}
 use Rattle.datagram_route.specs.declared.fault.RouteStop.{RouteStop}
 use Rattle.datagram_route.specs.declared.fault.RouteStop.TheVariants as stop
 use Rattle.pet_receive.specs.Arrivals.{ReceiverState, kept_set}
@@ -17,7 +19,7 @@ use Rattle.kept_sets.specs.Verdicts.{after_all}
 use Rattle.met_packets.specs.Gf16.{HasKeptIn, IsLayersText, IsTextAt}
 use Rattle.met_packets.specs.LayersText.{order_after_all}
 use Rattle.met_packets.specs.Steps.{steps_of_all}
-use Rattle.command_receive.specs.Receives.{HaveLeft, AreFirst}
+use Rattle.command_receive.specs.Receives.{HaveLeft}
 
 -- The datagrams that have come since, of those that were to come first: the receiver has kept what they bring, and the output has
 -- grown by their layers text.
@@ -40,7 +42,7 @@ pub record HasReceived (set : KeptSet) (n : ℕ) (first now : Seen) (all left : 
 
 -- these datagrams stand at the front of the input, or have left the link
 abbrev pub CameFirst : Way → List (List ℕ) → Seen → LinkSeen → LinkSeen → Type 0
-CameFirst (OnFile name) read place link_first link_now = IfSome place.rest (AreFirst read)
+CameFirst (OnFile name) read place link_first link_now = IfSome place.rest (λ bytes. AreFirst read (datagrams bytes))
 CameFirst (OnLink address) read place link_first link_now = HaveLeft read link_first.feed link_now.feed
 
 -- a front of the layers text of some datagrams that came first
