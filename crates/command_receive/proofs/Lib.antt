@@ -1,4 +1,5 @@
 mod DatagramsSoFar
 mod FilesRead
 mod Stops
+mod Begun
 mod Ends
