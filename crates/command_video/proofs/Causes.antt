@@ -72,10 +72,6 @@ module _ (store out : List ℕ) (old read : Seen) (set : KeptSet) (is : HasStore
 
     -- by what the putting answered
     pub when_put : (result : Result ℕ VideoEnd) → IfOk result (λ n. (video : List ℕ) × AreVideos set (groups_told set) video × Puts video made new × (n ≡ length video))
-        → IfOk result (λ n. (w : WritesVideo store out old new) × (n ≡ length w.video))
-    when_put (Ok n) done = all_put n done
-    when_put (Err end) done = tt
-
-    pub when_not_put : (result : Result ℕ VideoEnd) → IfErr result (IsPutEnd (HadFault made new (Blames Written made.target)) set made new) → IfErr result (IsCause store out old new)
-    when_not_put (Ok n) end = tt
-    when_not_put (Err e) end = not_put e end
+        → IfErr result (IsPutEnd (HadFault made new (Blames Written made.target)) set made new) → IfOk result (λ n. (w : WritesVideo store out old new) × (n ≡ length w.video)) × IfErr result (IsCause store out old new)
+    when_put (Ok n) done end = (all_put n done, tt)
+    when_put (Err e) done end = (tt, not_put e end)
