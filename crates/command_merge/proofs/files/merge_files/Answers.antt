@@ -1,7 +1,24 @@
 use Rattle.std.proofs.Common.{◌∙◌, arith}
-use Rattle.command_merge.proofs.Causes.{end_is, stores_of, not_joined, not_written, written}
+use Rattle.command_merge.proofs.Causes.{end_is, first_failed, second_failed, stores_of, not_joined, not_written, written}
 use Rattle.command_merge.specs.Merges.{CanJoin, IsCause}
 use Rattle.command_merge.proofs.files.merge_files.Goals as goal
+
+pub returns-in_err-union-clause-cause : goal.returns-in_err-union-clause-cause
+returns-in_err-union-clause-cause g c =
+    let old = g.P.Place.seen c.args.place.now in
+    let new = g.P.Place.seen c.read_first.new.place in
+    let end = c.in_err-union.field-0.0 in
+    end_is (IsCause c.args.first.now c.args.second.now c.args.out.now old new) c.from_residual-in_err-union.result end c.from_residual-in_err-union.ensures.1
+    (first_failed c.args.first.now c.args.second.now c.args.out.now old new end c.in_err-union.ensures.end c.read_first.ensures.others.files)
+
+pub returns-in_err-other-clause-cause : goal.returns-in_err-other-clause-cause
+returns-in_err-other-clause-cause g c =
+    let old = g.P.Place.seen c.args.place.now in
+    let mid = g.P.Place.seen c.read_first.new.place in
+    let new = g.P.Place.seen c.read_second.new.place in
+    let end = c.in_err-other.field-0.0 in
+    end_is (IsCause c.args.first.now c.args.second.now c.args.out.now old new) c.from_residual-in_err-other.result end c.from_residual-in_err-other.ensures.1
+    (second_failed c.args.first.now c.args.second.now c.args.out.now old mid new _ end c.in_ok-union.ensures.read c.read_first.ensures.later c.read_first.ensures.others.files c.in_err-other.ensures.end c.read_second.ensures.others.files)
 
 pub returns-in_err-absorb-clause-cause : goal.returns-in_err-absorb-clause-cause
 returns-in_err-absorb-clause-cause g c =
