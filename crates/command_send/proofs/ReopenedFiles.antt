@@ -1,6 +1,7 @@
 -- The route is made ready, the stream is the input again, and its groups are sent, seen from before.
 use Rattle.std.proofs.Common.{◌≡◌, ℕ, ◌≤◌, Bool, true, false, cond, List, [], ◌∷◌, ◌++◌, length, Option, None, Some, refl, sym, ap, subst, ◌∙◌, inl, inr, arith}
 use Rattle.std.specs.Prelude.{option_map, ◌⊎◌, Result, Ok, Err, OnOk, OnErr, IfErr, IfSome}
+use Rattle.std.proofs.lemmas.Option.{IfSome_then}
 use Rattle.std.specs.Str.{bytes_eq}
 use Rattle.pet_base.specs.declared.place.Side.TheVariants.{Read, Written}
 use Rattle.pet_base.specs.declared.link.LinkSide.TheVariants.{Aimed}
@@ -156,16 +157,12 @@ blames_aimed address (Some a) aimed b is blames = sym (some_same (Aimed, address
     some_same : {A : Type 0} (x y : A) → Some x ≡ Some y → x ≡ y
     some_same x y e = cc
 
-if_some : {A : Type 0} (o : Option A) (P Q : A → Type 0) → ((x : A) → P x → Q x) → IfSome o P → IfSome o Q
-if_some None P Q h p = p
-if_some (Some x) P Q h p = h x p
-
 -- a fault of the link that was aimed
 aimed_again : (stream : List ℕ) (way : Way) (old mid new : Routes) → IsReopened stream way old mid → SendingFailed way mid.link new.link → AimedFailed way old.link new.link
 aimed_again stream (OnFile to) old mid new opened had = absurd had
 aimed_again stream (OnLink address) old mid new opened had = record {
   rose = Rose-since old.link.faults mid.link.faults new.link.faults opened.way_open.later had.rose;
-  blame = if_some new.link.blamed _ _ (λ b blames. blames_aimed address old.link.aimed mid.link.aimed b opened.way_open.aimed blames) had.blame;
+  blame = IfSome_then new.link.blamed had.blame (λ b blames. blames_aimed address old.link.aimed mid.link.aimed b opened.way_open.aimed blames);
 }
 
 resent : (p b : List ℕ) (source : Source) (marks : List GroupMark) → IsFirstPass p b source marks → (groups : List CutGroup) → AgreeBelow marks groups (length groups) → HaveTables source groups → AreResent p b groups (sent_datagrams source groups)

@@ -1,9 +1,10 @@
 use Rattle.std.proofs.Common.{◌≤◌, List, length, map, sym, subst, ◌∙◌}
+use Rattle.std.proofs.lemmas.Result.{IfOk-weaker, IfErr-weaker}
 use Rattle.pet_base.specs.declared.limits.TheConstants.{MAX_GROUPS}
 use Rattle.stripe_plan.specs.Sizes.{Sizes}
 use Rattle.command_plan.specs.Checks.{IsCause}
 use Rattle.stream_session.specs.laws.SourceLaws.{session_in, source_few}
-use Rattle.command_plan.proofs.AnswersThrough.{each_ok, each_err, each_err_and}
+use Rattle.command_plan.proofs.AnswersThrough.{each_err_and}
 use Rattle.command_plan.proofs.CheckCauses.{cause_of_source, no_lists, not_certified, certified, lists_lent}
 use Rattle.command_plan.proofs.checking.certified_groups.Goals as goal
 
@@ -42,7 +43,7 @@ returns-clause-groups g c =
     let between = g.P.Place.seen c.read_source.new.place in
     let source = c.in_ok-source.ensures.source in
     let session = session_in old c.args.stream.now c.args.priority.now c.in_ok-source.source source in
-    each_ok c.certify.result _ _
+    IfOk-weaker c.certify.result _ _
     (λ n least.
     certified old between c.args.stream.now c.args.priority.now c.args.plan.now c.as_slice-tables.result.now (map (λ list. list.items) c.as_slice.result.now) n session (c.as_slice-tables.ensures.value ∙ source.tables)
     c.read_source.ensures.others.files (lists_lent (λ list. list.items) between c.args.plan.now _ _ c.as_slice.ensures.value c.in_ok-lists.ensures.lists) least)
@@ -55,7 +56,7 @@ returns-clause-cause g c =
     let new = g.P.Place.seen c.read_lists.new.place in
     let source = c.in_ok-source.ensures.source in
     let session = session_in old c.args.stream.now c.args.priority.now c.in_ok-source.source source in
-    each_err c.certify.result _ _
+    IfErr-weaker c.certify.result _ _
     (λ end not.
     not_certified old between new c.args.stream.now c.args.priority.now c.args.plan.now c.as_slice-tables.result.now (map (λ list. list.items) c.as_slice.result.now) end session
     (c.as_slice-tables.ensures.value ∙ source.tables) c.read_source.ensures.others.files (lists_lent (λ list. list.items) between c.args.plan.now _ _ c.as_slice.ensures.value c.in_ok-lists.ensures.lists) not)
