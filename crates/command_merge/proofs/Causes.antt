@@ -1,5 +1,5 @@
 -- Why the command ends so, by the step that failed.
-use Rattle.std.proofs.Common.{◌≡◌, ◌≢◌, ◌⊎◌, ℕ, ◌≤◌, List, [], ◌∷◌, Option, None, Some, sym, ap, subst, ◌∙◌, arith, inl, inr, Result, Ok, Err}
+use Rattle.std.proofs.Common.{◌≡◌, ◌≢◌, ◌⊎◌, ℕ, ◌≤◌, List, [], ◌∷◌, Option, None, Some, refl, sym, ap, subst, ◌∙◌, arith, inl, inr, Result, Ok, Err}
 use Rattle.std.specs.Prelude.{IfErr, IsErrAnd}
 use Rattle.pet_base.specs.Seen.{Seen, Files, Blame, HadFault}
 use Rattle.pet_base.specs.declared.faults.Stop.{Stop}
@@ -68,12 +68,11 @@ not_joined first second out old new s absorb.NoMemory same is = inl same
 
 -- OUT was not written
 module _ (first second out : List ℕ) (old mid new : Seen) (c : CanJoin first second old) (set : KeptSet) (is : set ≡ union c.stores.a c.stores.b) (before : mid.files ≡ old.files) where
-  pub not_written : (s : Stop) → old.faults ≤ mid.faults → (new.files ≡ mid.files) ⊎ Wrote [] (Some (store_file out set)) mid new → Licensed (Failed (writing out ∷ []) mid new) s → IsCause first second out old new (stop_end s)
-  not_written stop.NoMemory later (inl same) cause = inl (same ∙ before)
-  not_written stop.NoMemory later (inr front) cause =
-      inr (c, subst (λ (t : KeptSet). Wrote [] (Some (store_file out t)) old new) is (Wrote-then [] [] (Some (store_file out set)) old mid new (Wrote-nothing old mid before) front))
-  not_written stop.Failed later (inl same) cause = (inr (inr (c, later_fault _ old mid new later cause)), inl (same ∙ before))
-  not_written stop.Failed later (inr front) cause = (
+  pub not_written : (s : Stop) → old.faults ≤ mid.faults → (s ≡ stop.NoMemory → new.files ≡ mid.files) → (new.files ≡ mid.files) ⊎ Wrote [] (Some (store_file out set)) mid new
+      → Licensed (Failed (writing out ∷ []) mid new) s → IsCause first second out old new (stop_end s)
+  not_written stop.NoMemory later memory front cause = inl (memory refl ∙ before)
+  not_written stop.Failed later memory (inl same) cause = (inr (inr (c, later_fault _ old mid new later cause)), inl (same ∙ before))
+  not_written stop.Failed later memory (inr front) cause = (
     inr (inr (c, later_fault _ old mid new later cause)),
     inr (c, subst (λ (t : KeptSet). Wrote [] (Some (store_file out t)) old new) is (Wrote-then [] [] (Some (store_file out set)) old mid new (Wrote-nothing old mid before) front)),
   )

@@ -1,11 +1,10 @@
 -- What each end tells, by the line that was printed.
-use Rattle.std.proofs.Common.{◌≡◌, ℕ, List, [], take, ap, ◌∙◌, inr}
+use Rattle.std.proofs.Common.{◌≡◌, ℕ, List, take, ap, ◌∙◌, inr}
 use Rattle.std.specs.Io.KnownBytes.{append_known}
 use Rattle.pet_base.specs.OutsideSeen.{OutsideSeen}
 use Rattle.command_files.specs.Printed.{Unprinted}
 use Rattle.kept_sets.specs.KeptSet.{kept_in_all}
 use Rattle.pet_text.specs.Lines.{merged_text}
-use Rattle.command_files.specs.laws.WroteLaws.{Wrote-as_front}
 use Rattle.command_merge.specs.Line.{EndsWith}
 use Rattle.command_merge.specs.Merges.{IsCause, WritesUnion, union_of, EndsMerge}
 use Rattle.command_merge.specs.declared.command.MergeEnd.{MergeEnd}
@@ -31,7 +30,7 @@ ends_written first second out before after w n is OutFault ends = (
   w,
   record { count = ends.0.0; printed = ends.0.1 ∙ ap (λ (k : ℕ). append_known before.written (take ends.0.0 (merged_text k))) is; rose = ends.1 },
 )
-ends_written first second out before after w n is NoMemory ends = (inr (w.joins, Wrote-as_front [] _ before.place after.place w.file), ends)
+ends_written first second out before after w n is NoMemory ends = (inr w, ends)
 ends_written first second out before after w n is PlaceFault ends = absurd ends
 ends_written first second out before after w n is (BadFirst at kind) ends = absurd ends
 ends_written first second out before after w n is (BadSecond at kind) ends = absurd ends

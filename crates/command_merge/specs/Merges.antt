@@ -34,6 +34,11 @@ pub record CanJoin (first second : List ℕ) (old : Seen) : Type 0 where
 abbrev pub union_of : {first second : List ℕ} {old : Seen} → CanJoin first second old → KeptSet
 union_of c = union c.stores.a c.stores.b
 
+-- The stores can be joined, and OUT has the store of the union.
+pub record WritesUnion (first second out : List ℕ) (old new : Seen) : Type 0 where
+  pub joins : CanJoin first second old
+  pub file : Wrote (store_file out (union_of joins) ∷ []) None old new
+
 -- no file has changed, or OUT has a front of the store of the union
 abbrev pub LeavesFront : List ℕ → List ℕ → List ℕ → Seen → Seen → Type 0
 LeavesFront first second out old new = (new.files ≡ old.files) ⊎ ((c : CanJoin first second old) × Wrote [] (Some (store_file out (union_of c))) old new)
@@ -44,11 +49,11 @@ FailedInTurn first second out old new =
     Failed (reading first ∷ []) old new ⊎ (HasFirst first old × Failed (reading second ∷ []) old new) ⊎ (CanJoin first second old × Failed (writing out ∷ []) old new)
 
 -- Why `merge` ends so before it prints, and what it leaves of OUT. The files are judged in order: the first store, the second, and both
--- together.
+-- together. OUT is made once its bytes are there, so memory may then be wanting for the printed line alone.
 abbrev pub IsCause : List ℕ → List ℕ → List ℕ → Seen → Seen → MergeEnd → Type 0
 IsCause first second out old new Done = ⊥
 IsCause first second out old new OutFault = ⊥
-IsCause first second out old new NoMemory = LeavesFront first second out old new
+IsCause first second out old new NoMemory = (new.files ≡ old.files) ⊎ WritesUnion first second out old new
 IsCause first second out old new PlaceFault = FailedInTurn first second out old new × LeavesFront first second out old new
 IsCause first second out old new (BadFirst at kind) = HasBadStore old.files first (At at kind) × (new.files ≡ old.files)
 IsCause first second out old new (BadSecond at kind) = HasFirst first old × HasBadStore old.files second (At at kind) × (new.files ≡ old.files)
@@ -60,11 +65,6 @@ IsCause first second out old new (Full group) = (s : HasStores first second old)
 -- the line of the union
 abbrev pub union_line : KeptSet → List ℕ
 union_line set = merged_text (kept_in_all set)
-
--- The stores can be joined, and OUT has the store of the union.
-pub record WritesUnion (first second out : List ℕ) (old new : Seen) : Type 0 where
-  pub joins : CanJoin first second old
-  pub file : Wrote (store_file out (union_of joins) ∷ []) None old new
 
 -- OUT has the store of the union, and its line was printed, or a front of it where the output failed. At every other end its cause
 -- holds of the files, and nothing was printed.

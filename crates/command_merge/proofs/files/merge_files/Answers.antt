@@ -1,4 +1,4 @@
-use Rattle.std.proofs.Common.{◌∙◌, arith}
+use Rattle.std.proofs.Common.{Err, ap, ◌∙◌, arith}
 use Rattle.command_merge.proofs.Causes.{end_is, first_failed, second_failed, stores_of, not_joined, not_written, written}
 use Rattle.command_merge.specs.Merges.{CanJoin, IsCause}
 use Rattle.command_merge.proofs.files.merge_files.Goals as goal
@@ -42,7 +42,7 @@ returns-in_err-write_store_file-clause-cause g c =
     let joins : CanJoin c.args.first.now c.args.second.now old = record { stores = stores; fits = c.in_ok-absorb.ensures.joined } in
     end_is (IsCause c.args.first.now c.args.second.now c.args.out.now old new) c.from_residual-in_err-write_store_file.result _ c.from_residual-in_err-write_store_file.ensures.1
     (not_written c.args.first.now c.args.second.now c.args.out.now old read new joins _ c.in_ok-absorb.ensures.kept (c.read_second.ensures.others.files ∙ before) c.in_err-write_store_file.field-0.0
-    (omega (arith, c.read_first.ensures.later, c.read_second.ensures.later)) c.in_err-write_store_file.ensures.front c.in_err-write_store_file.ensures.cause)
+    (omega (arith, c.read_first.ensures.later, c.read_second.ensures.later)) (λ is. c.in_err-write_store_file.ensures.memory (ap Err is)) c.in_err-write_store_file.ensures.front c.in_err-write_store_file.ensures.cause)
 
 pub returns-clause-done : goal.returns-clause-done
 returns-clause-done g c =
