@@ -6,10 +6,9 @@ use example_session::{SESSION, packets};
 use pet_base::{MAX_SESSION, MemoryPlace, NoMemory, Steps};
 use pet_field::Gf16Plain;
 use pet_receive::Receiver;
-use std::alloc::Global;
+use std::alloc::{AllocError, Global};
 use std::marker::Brand;
 use std::sync::ledger::{Blank, Ledger};
-use std::test::Fail;
 use store_merge::{StoreKind, StoreStop, read_store_file, write_store_file};
 
 /// A receiver that these packets of the example session have come to.
@@ -29,18 +28,18 @@ fn kept<'f, L: Ledger>(
     Ok(receiver)
 }
 
+/// The packets that came, their store, and how many it has.
+type Written = (&'static [u8], Stored, u32);
+
+static WRITTEN: [Written; 3] = [
+    (&[], NONE, 0),
+    (&[3, 3, 0, 4, 5, 1, 2], ALL, 6),
+    (&[2, 1, 2], ONE_TWO, 2),
+];
+
 /// Writes the store of these packets to one file, reads it, and writes the store of what was read to another. It answers the
 /// session that was read, and how many packets.
-fn write_twice(
-    alloc: Global,
-    arrivals: &[u8],
-    place: &mut MemoryPlace,
-) -> Result<([u8; 8], u32), StoreStop> {
-    write_counted::<Brand>(alloc, arrivals, place, Blank::new(1))
-}
-
-/// The same, on a counter of its own.
-fn write_counted<L: Ledger>(
+fn write_twice<L: Ledger>(
     alloc: Global,
     arrivals: &[u8],
     place: &mut MemoryPlace,
@@ -61,63 +60,69 @@ fn write_counted<L: Ledger>(
     Ok((read.session(), read.kept()))
 }
 
-/// Reads the store in a file of these bytes, or in a missing one, and answers how many packets it has.
-fn many_in(alloc: Global, bytes: Option<&[u8]>) -> Result<u32, StoreStop> {
-    many_counted::<Brand>(alloc, bytes, Blank::new(1))
+/// Whether both files of this row have its store.
+fn has_stores(alloc: Global, row: &Written) -> Result<bool, AllocError> {
+    let mut place = MemoryPlace::new(alloc, Vec::new(alloc));
+    let read = write_twice::<Brand>(alloc, row.0, &mut place, Blank::new(1));
+    let store = bytes_of(alloc, &row.1)?;
+    Ok(
+        read == Ok((SESSION, row.2))
+            && place.bytes_of("first") == Some(store.as_slice())
+            && place.bytes_of("second") == Some(store.as_slice()),
+    )
 }
 
-/// The same, on a counter of its own.
-fn many_counted<L: Ledger>(
-    alloc: Global,
-    bytes: Option<&[u8]>,
-    blank: Blank,
-) -> Result<u32, StoreStop>
+/// The number of the first row of which a file has another store.
+fn first_written_otherwise(alloc: Global, rows: &[Written]) -> Option<usize> {
+    for row in 0..rows.len() {
+        if !has_stores(alloc, &rows[row]).unwrap_or(false) {
+            return Some(row);
+        }
+    }
+    None
+}
+
+#[test]
+fn writes_a_store_and_reads_it_again(rt: HostRuntime) {
+    assert_eq!(rt; first_written_otherwise(rt.alloc(), &WRITTEN), None);
+}
+
+/// The bytes of a file, where it is there, and why it has no store.
+type Refused = (Option<&'static [u8]>, StoreStop);
+
+static REFUSED: [Refused; 4] = [
+    (None, StoreStop::Failed),
+    (Some(&[]), StoreStop::At(0, StoreKind::Cut)),
+    (Some(&[0; 24]), StoreStop::At(24, StoreKind::Cut)),
+    (Some(&[0; 32]), StoreStop::At(0, StoreKind::Magic)),
+];
+
+/// Whether the file of this row has no store, for the reason that is told.
+fn is_refused<L: Ledger>(alloc: Global, row: &Refused, blank: Blank) -> Result<bool, NoMemory>
     requires name { blank.name ≡ L.name }
     requires parts { blank.parts ≡ L.parts }
     requires some { 0 < blank.parts }
 {
     let mut place = MemoryPlace::new(alloc, Vec::new(alloc));
-    if let Some(bytes) = bytes {
-        if place.add("file", bytes).is_err() {
-            return Err(StoreStop::NoMemory);
-        }
+    if let Some(bytes) = row.0 {
+        place.add("file", bytes)?;
     }
     let mut steps = Steps::<L>::new(blank);
-    let field = Gf16Plain;
-    let read = read_store_file(alloc, &field, "file", &mut place, &mut steps)?;
-    Ok(read.kept())
+    let read = read_store_file(alloc, &Gf16Plain, "file", &mut place, &mut steps);
+    Ok(read.err() == Some(row.1))
+}
+
+/// The number of the first row whose file is not refused so.
+fn first_refused_otherwise(alloc: Global, rows: &[Refused]) -> Option<usize> {
+    for row in 0..rows.len() {
+        if !is_refused::<Brand>(alloc, &rows[row], Blank::new(1)).unwrap_or(false) {
+            return Some(row);
+        }
+    }
+    None
 }
 
 #[test]
-fn writes_a_store_and_reads_it_again(rt: HostRuntime) -> Result<(), Fail> {
-    // the packets that came, their store, and how many they are
-    let rows: [(&[u8], Stored, u32); 3] = [
-        (&[], NONE, 0),
-        (&[3, 3, 0, 4, 5, 1, 2], ALL, 6),
-        (&[2, 1, 2], ONE_TWO, 2),
-    ];
-    for (arrivals, stored, many) in rows {
-        let mut place = MemoryPlace::new(rt.alloc(), Vec::new(rt.alloc()));
-        let read = write_twice(rt.alloc(), arrivals, &mut place);
-        assert_eq!(rt; read, Ok((SESSION, many)));
-        let wanted = bytes_of(rt.alloc(), &stored).expect(&rt, "memory");
-        assert_eq!(rt; place.bytes_of("first"), Some(wanted.as_slice()));
-        assert_eq!(rt; place.bytes_of("second"), Some(wanted.as_slice()));
-    }
-    Ok(())
-}
-
-#[test]
-fn tells_why_a_file_has_no_store(rt: HostRuntime) -> Result<(), Fail> {
-    let rows: [(Option<&[u8]>, StoreStop); 4] = [
-        (None, StoreStop::Failed),
-        (Some(&[]), StoreStop::At(0, StoreKind::Cut)),
-        (Some(&[0; 24]), StoreStop::At(24, StoreKind::Cut)),
-        (Some(&[0; 32]), StoreStop::At(0, StoreKind::Magic)),
-    ];
-    for (bytes, stop) in rows {
-        let many = many_in(rt.alloc(), bytes);
-        assert_eq!(rt; many, Err(stop));
-    }
-    Ok(())
+fn tells_why_a_file_has_no_store(rt: HostRuntime) {
+    assert_eq!(rt; first_refused_otherwise(rt.alloc(), &REFUSED), None);
 }

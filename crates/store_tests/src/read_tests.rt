@@ -7,7 +7,6 @@ use pet_field::Gf16Plain;
 use std::alloc::{AllocError, Global};
 use std::marker::Brand;
 use std::sync::ledger::{Blank, Ledger};
-use std::test::Fail;
 use store_merge::{BadStore, StoreKind, read_store};
 
 /// An entry of a store of the example session.
@@ -84,17 +83,12 @@ fn entries() -> [Entry; 9] {
     [zero, one, two, three, four, five, six, seven, flipped]
 }
 
-/// A refusal.
-const fn at(place: u64, kind: StoreKind) -> Result<u32, BadStore> {
-    Err(BadStore::At(place, kind))
-}
-
 /// The first byte of the session's number, how many entries are named, those that are there, the limit, the tag, and what is
 /// answered.
 type Row = (u8, u8, &'static [usize], u64, u128, Result<u32, BadStore>);
 
 /// Stores of the example session, whole and wrong.
-const ROWS: [Row; 16] = [
+static ROWS: [Row; 16] = [
     (0xA5, 0, &[], 0, 0xCCDB3B0A733BD5312E79FFE67CC10DAA, Ok(0)),
     (0xA5, 6, &[0, 1, 2, 3, 4, 5], 534, SIX, Ok(6)),
     (
@@ -207,56 +201,87 @@ const ROWS: [Row; 16] = [
     ),
 ];
 
-#[test]
-fn answers_the_packets_or_the_first_refusal(rt: HostRuntime) -> Result<(), Fail> {
-    let entries = entries();
-    for (first, count, picks, limit, tag, want) in ROWS {
-        let bytes = store(rt.alloc(), first, count, &entries, picks, tag)?;
-        let got = read(rt.alloc(), &bytes, limit);
-        assert_eq!(rt; got, want, "{first} {count} {tag}");
-    }
-    Ok(())
+/// Whether the store of this row is read or refused so.
+fn answers(alloc: Global, entries: &[Entry], row: &Row) -> Result<bool, AllocError> {
+    let bytes = store(alloc, row.0, row.1, entries, row.2, row.4)?;
+    Ok(read(alloc, &bytes, row.3) == row.5)
 }
 
-#[test]
-fn refuses_every_front_of_a_store(rt: HostRuntime) -> Result<(), Fail> {
-    let bytes = store(rt.alloc(), 0xA5, 6, &entries(), &[0, 1, 2, 3, 4, 5], SIX)?;
-    assert!(rt; bytes.len() == 578);
-    for length in 0..32usize {
-        let got = read(rt.alloc(), &bytes[..length], 534);
-        assert_eq!(rt; got, at(length as u64, StoreKind::Cut));
-    }
-    // from which length on the entry of which place is cut
-    let rows = [
-        (32, 123, 16),
-        (123, 214, 107),
-        (214, 305, 198),
-        (305, 396, 289),
-        (396, 487, 380),
-        (487, 578, 471),
-    ];
-    for (from, to, place) in rows {
-        assert!(rt; to <= 578);
-        for length in from..to {
-            let got = read(rt.alloc(), &bytes[..length], 534);
-            assert_eq!(rt; got, at(place, StoreKind::Cut), "{length}");
+/// The number of the first row that is answered otherwise.
+fn first_other(alloc: Global, rows: &[Row]) -> Option<usize> {
+    let entries = entries();
+    for row in 0..rows.len() {
+        if !answers(alloc, &entries, &rows[row]).unwrap_or(false) {
+            return Some(row);
         }
     }
-    Ok(())
+    None
 }
 
 #[test]
-fn refuses_stores_of_the_first_version(rt: HostRuntime) -> Result<(), Fail> {
-    let bytes = *b"PETS01234567\0\0\0\0aTagOf16BytesXYZ";
-    let rows = [
-        (24, at(24, StoreKind::Cut)),
-        (31, at(31, StoreKind::Cut)),
-        (32, at(0, StoreKind::Magic)),
-    ];
-    for (length, want) in rows {
-        assert!(rt; length <= 32);
-        let got = read(rt.alloc(), &bytes[..length], 534);
-        assert_eq!(rt; got, want);
+fn answers_the_packets_or_the_first_refusal(rt: HostRuntime) {
+    assert_eq!(rt; first_other(rt.alloc(), &ROWS), None);
+}
+
+/// From which length on, and up to which, the store of all packets is cut in the entry of which place.
+static CUT: [(usize, usize, u64); 6] = [
+    (32, 123, 16),
+    (123, 214, 107),
+    (214, 305, 198),
+    (305, 396, 289),
+    (396, 487, 380),
+    (487, 578, 471),
+];
+
+/// Whether the first bytes of these are refused so.
+fn refuses(alloc: Global, bytes: &[u8], length: usize, place: u64, kind: StoreKind) -> bool {
+    match bytes.get(..length) {
+        Some(front) => read(alloc, front, 534) == Err(BadStore::At(place, kind)),
+        None => false,
     }
+}
+
+/// Whether these bytes are refused so at each length from the first on and below the second.
+fn is_cut(alloc: Global, bytes: &[u8], row: &(usize, usize, u64)) -> bool {
+    for length in row.0..row.1 {
+        if !refuses(alloc, bytes, length, row.2, StoreKind::Cut) {
+            return false;
+        }
+    }
+    true
+}
+
+/// Whether these bytes are refused at each length up to 31 as cut there, and then as the rows say.
+fn are_cut(alloc: Global, bytes: &[u8], rows: &[(usize, usize, u64)]) -> bool {
+    for length in 0..32usize {
+        if !refuses(alloc, bytes, length, length as u64, StoreKind::Cut) {
+            return false;
+        }
+    }
+    for row in rows {
+        if !is_cut(alloc, bytes, row) {
+            return false;
+        }
+    }
+    true
+}
+
+#[test]
+fn refuses_every_front_of_a_store(rt: HostRuntime) -> Result<(), AllocError> {
+    let bytes = store(rt.alloc(), 0xA5, 6, &entries(), &[0, 1, 2, 3, 4, 5], SIX)?;
+    assert!(rt; bytes.len() == 578 && are_cut(rt.alloc(), &bytes, &CUT));
     Ok(())
+}
+
+/// A store of the first version.
+const OLD: &[u8] = b"PETS01234567\0\0\0\0aTagOf16BytesXYZ";
+
+#[test]
+fn refuses_stores_of_the_first_version(rt: HostRuntime) {
+    let alloc = rt.alloc();
+    assert!(rt;
+        refuses(alloc, OLD, 24, 24, StoreKind::Cut)
+            && refuses(alloc, OLD, 31, 31, StoreKind::Cut)
+            && refuses(alloc, OLD, 32, 0, StoreKind::Magic)
+    );
 }

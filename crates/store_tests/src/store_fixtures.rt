@@ -1,27 +1,34 @@
 //! Stores of the example session, whose tags another program made, and how such are written and merged.
 ghost use Rattle.std.specs.Prelude.{◌≡◌, ◌<◌};
 
-use example_session::{ENTRY_LENGTH, SESSION, packets};
+use crate::group_fixtures::entry;
+use example_session::{SESSION, packets};
 use pet_base::{NoMemory, Steps};
 use pet_field::Gf16Plain;
 use pet_receive::Receiver;
-use std::alloc::Global;
+use std::alloc::{AllocError, Global};
 use std::marker::Brand;
 use std::sync::ledger::{Blank, Ledger};
 use store_merge::{MARK, MergeFault, merge_stores, write_store};
 
-/// What the groups may cost.
+/// What the groups of the example session may cost.
 pub(crate) const LIMIT: u64 = 1_000;
 
-/// A store: its session, how many packets it has, which these are of the example session, and its tag. Number 6 is packet 2
-/// with another word at its end.
-#[derive(Drop)]
+/// A store: its session, how many packets it has, their numbers, and its tag. The numbers 0 to 5 are the packets of the example
+/// session, 6 is packet 2 with another word at its end, and from 10 on they are the packets of the session of two groups.
+#[derive(Clone, Copy)]
 pub(crate) struct Stored {
-    session: [u8; 8],
-    many: u8,
-    numbers: &'static [u8],
-    tag: [u8; 16],
+    pub(crate) session: [u8; 8],
+    pub(crate) many: u8,
+    pub(crate) numbers: &'static [u8],
+    pub(crate) tag: [u8; 16],
 }
+
+/// The packets that came, what their groups may cost, the store of a receiver that they have come to, and its length.
+pub(crate) type Written = (&'static [u8], u64, Stored, usize);
+
+/// Two stores, what their groups may cost, and what merging them comes to.
+pub(crate) type Merge = (Stored, Stored, u64, Result<Stored, MergeFault>);
 
 /// Another word at the end of packet 2, and the tag of that packet.
 const CHANGED: [u8; 17] = [
@@ -114,39 +121,57 @@ pub(crate) const DAMAGED: Stored = Stored {
     tag: [0; 16],
 };
 
-/// The entry of this number.
-fn entry(number: u8) -> [u8; ENTRY_LENGTH] {
-    let packets = packets();
-    if let Some(entry) = packets.get(usize::from(number)) {
-        return *entry;
+/// Puts the entry of this number behind the bytes.
+fn append_entry(bytes: &mut Vec<u8>, number: u8) -> Result<(), AllocError> {
+    if number >= 10 {
+        return bytes.extend_from_slice(&entry(number - 10));
     }
-    let mut entry = packets[2];
-    entry[74..].copy_from_slice(&CHANGED);
-    entry
+    let packets = packets();
+    if let Some(packet) = packets.get(usize::from(number)) {
+        return bytes.extend_from_slice(packet);
+    }
+    bytes.extend_from_slice(&packets[2][..74])?;
+    bytes.extend_from_slice(&CHANGED)
 }
 
 /// The bytes of a store.
-pub(crate) fn bytes_of(alloc: Global, stored: &Stored) -> Result<Vec<u8>, NoMemory> {
+pub(crate) fn bytes_of(alloc: Global, stored: &Stored) -> Result<Vec<u8>, AllocError> {
     let mut bytes = Vec::new(alloc);
     bytes.extend_from_slice(&MARK)?;
     bytes.extend_from_slice(&stored.session)?;
     bytes.extend_from_slice(&[0, 0, 0, stored.many])?;
     for number in stored.numbers {
-        bytes.extend_from_slice(&entry(*number))?;
+        append_entry(&mut bytes, *number)?;
     }
     bytes.extend_from_slice(&stored.tag)?;
     Ok(bytes)
 }
 
-/// The store of a receiver that these packets have come to.
-pub(crate) fn written(alloc: Global, arrivals: &[u8]) -> Result<Vec<u8>, NoMemory> {
-    written_counted::<Brand>(alloc, arrivals, Blank::new(1))
+/// Hands the packet of this number to the receiver.
+fn accept<L: Ledger>(
+    alloc: Global,
+    receiver: &mut Receiver<'_, Gf16Plain>,
+    number: u8,
+    steps: &mut Steps<L>,
+) -> Result<(), NoMemory> {
+    let mut entry = Vec::new(alloc);
+    append_entry(&mut entry, number)?;
+    if let Some(frame) = entry.get(2..) {
+        receiver.accept(frame, steps)?;
+    }
+    Ok(())
+}
+
+/// The store of a receiver that these packets have come to, whose groups may cost so much.
+pub(crate) fn written(alloc: Global, arrivals: &[u8], limit: u64) -> Result<Vec<u8>, NoMemory> {
+    written_counted::<Brand>(alloc, arrivals, limit, Blank::new(1))
 }
 
 /// The same, on a counter of its own.
 fn written_counted<L: Ledger>(
     alloc: Global,
     arrivals: &[u8],
+    limit: u64,
     blank: Blank,
 ) -> Result<Vec<u8>, NoMemory>
     requires name { blank.name ≡ L.name }
@@ -155,47 +180,39 @@ fn written_counted<L: Ledger>(
 {
     let mut steps = Steps::<L>::new(blank);
     let field = Gf16Plain;
-    let mut receiver = Receiver::new(alloc, &field, SESSION, LIMIT);
+    let mut receiver = Receiver::new(alloc, &field, SESSION, limit);
     for number in arrivals {
-        receiver.accept(&entry(*number)[2..], &mut steps)?;
+        accept(alloc, &mut receiver, *number, &mut steps)?;
     }
     let mut bytes = Vec::new(alloc);
     write_store(&receiver, &mut bytes)?;
     Ok(bytes)
 }
 
+/// Whether the packets of this row leave its store.
+fn writes(alloc: Global, row: &Written) -> Result<bool, NoMemory> {
+    let got = written(alloc, row.0, row.1)?;
+    Ok(got == bytes_of(alloc, &row.2)? && got.len() == row.3)
+}
+
+/// The number of the first row whose packets leave another store.
+pub(crate) fn first_written_otherwise(alloc: Global, rows: &[Written]) -> Option<usize> {
+    for row in 0..rows.len() {
+        if !writes(alloc, &rows[row]).unwrap_or(false) {
+            return Some(row);
+        }
+    }
+    None
+}
+
 /// Whether merging two stores, whose groups may cost so much, appends this store, or is refused so and appends nothing.
-pub(crate) fn merges(
+pub(crate) fn merges<L: Ledger>(
     alloc: Global,
-    (first, second): (&[u8], &[u8]),
+    both: (&[u8], &[u8]),
     limit: u64,
     wanted: Result<&[u8], MergeFault>,
-) -> bool {
-    let (answer, bytes) = merged(alloc, first, second, limit);
-    match wanted {
-        Ok(store) => answer == Ok(()) && bytes.as_slice() == store,
-        Err(fault) => answer == Err(fault) && bytes.is_empty(),
-    }
-}
-
-/// What merging two stores answers, and the bytes that it appends.
-fn merged(
-    alloc: Global,
-    first: &[u8],
-    second: &[u8],
-    limit: u64,
-) -> (Result<(), MergeFault>, Vec<u8>) {
-    merged_counted::<Brand>(alloc, first, second, limit, Blank::new(1))
-}
-
-/// The same, on a counter of its own.
-fn merged_counted<L: Ledger>(
-    alloc: Global,
-    first: &[u8],
-    second: &[u8],
-    limit: u64,
     blank: Blank,
-) -> (Result<(), MergeFault>, Vec<u8>)
+) -> bool
     requires name { blank.name ≡ L.name }
     requires parts { blank.parts ≡ L.parts }
     requires some { 0 < blank.parts }
@@ -203,7 +220,36 @@ fn merged_counted<L: Ledger>(
     let mut steps = Steps::<L>::new(blank);
     let mut bytes = Vec::new(alloc);
     let answer = merge_stores(
-        alloc, &Gf16Plain, first, second, limit, &mut bytes, &mut steps,
+        alloc, &Gf16Plain, both.0, both.1, limit, &mut bytes, &mut steps,
     );
-    (answer, bytes)
+    match wanted {
+        Ok(store) => answer == Ok(()) && bytes.as_slice() == store,
+        Err(fault) => answer == Err(fault) && bytes.is_empty(),
+    }
+}
+
+/// Whether merging the stores of this row comes to what it says.
+fn comes_to(alloc: Global, row: &Merge) -> Result<bool, AllocError> {
+    let first = bytes_of(alloc, &row.0)?;
+    let second = bytes_of(alloc, &row.1)?;
+    let mut store = Vec::new(alloc);
+    let wanted = match row.3 {
+        Ok(stored) => {
+            store = bytes_of(alloc, &stored)?;
+            Ok(store.as_slice())
+        }
+        Err(fault) => Err(fault),
+    };
+    let both = (first.as_slice(), second.as_slice());
+    Ok(merges::<Brand>(alloc, both, row.2, wanted, Blank::new(1)))
+}
+
+/// The number of the first row whose stores come to something else.
+pub(crate) fn first_merged_otherwise(alloc: Global, rows: &[Merge]) -> Option<usize> {
+    for row in 0..rows.len() {
+        if !comes_to(alloc, &rows[row]).unwrap_or(false) {
+            return Some(row);
+        }
+    }
+    None
 }

@@ -2,7 +2,8 @@
 use crate::store_fixtures::{LIMIT, merges, written};
 use pet_base::NoMemory;
 use std::alloc::Global;
-use std::test::Fail;
+use std::marker::Brand;
+use std::sync::ledger::Blank;
 
 /// Appends the packets of a set of six, from the first on.
 fn append_rising(set: u32, into: &mut Vec<u8>) -> Result<(), NoMemory> {
@@ -39,22 +40,24 @@ fn falling(alloc: Global, first: u32, second: u32) -> Result<Vec<u8>, NoMemory> 
     Ok(numbers)
 }
 
+/// Whether the stores of two sets, merged, are the store of a receiver that all their packets have come to.
+fn merges_sets(alloc: Global, first: u32, second: u32) -> Result<bool, NoMemory> {
+    let mine = written(alloc, &rising(alloc, first)?, LIMIT)?;
+    let theirs = written(alloc, &rising(alloc, second)?, LIMIT)?;
+    let all = written(alloc, &falling(alloc, first, second)?, LIMIT)?;
+    let both = (mine.as_slice(), theirs.as_slice());
+    Ok(merges::<Brand>(alloc, both, LIMIT, Ok(&all), Blank::new(1)))
+}
+
 #[test]
-fn merged_stores_are_the_store_of_all_packets(rt: HostRuntime) -> Result<(), Fail> {
+fn merged_stores_are_the_store_of_all_packets(rt: HostRuntime) {
     for k in 0..30u32 {
         // bit n of a set is packet n
         let first = (k * 37 + 11) % 64;
         let second = (k * 53 + 29) % 64;
-        let mine = rising(rt.alloc(), first).expect(&rt, "memory");
-        let theirs = rising(rt.alloc(), second).expect(&rt, "memory");
-        let all = falling(rt.alloc(), first, second).expect(&rt, "memory");
-        let mine = written(rt.alloc(), &mine).expect(&rt, "memory");
-        let theirs = written(rt.alloc(), &theirs).expect(&rt, "memory");
-        let all = written(rt.alloc(), &all).expect(&rt, "memory");
         assert!(rt;
-            merges(rt.alloc(), (&mine, &theirs), LIMIT, Ok(&all)),
+            merges_sets(rt.alloc(), first, second).unwrap_or(false),
             "{k}"
         );
     }
-    Ok(())
 }

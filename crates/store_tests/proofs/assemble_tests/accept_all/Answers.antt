@@ -6,9 +6,9 @@ use Rattle.kept_sets.specs.Verdicts.{is_kept}
 use Rattle.pet_receive.specs.Arrivals.{Order, ReceiverState, HasKept}
 use Rattle.store_tests.proofs.assemble_tests.accept_all.Goals as goal
 
-pub loop-datagram-preserved : goal.loop-datagram-preserved
-loop-datagram-preserved g c =
-    let so_far = c.loop-datagram.invariant in
+pub loop-number-preserved : goal.loop-number-preserved
+loop-number-preserved g c =
+    let so_far = c.loop-number.invariant in
     elim (cases_Bool (is_kept c.in_ok-accept.field-0)) [
       | inl kept ↦ (_, c.in_ok-accept.ensures.order kept so_far.0 so_far.1)
       | inr other ↦
