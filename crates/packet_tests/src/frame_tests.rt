@@ -25,54 +25,90 @@ fn tagged(alloc: Global, bytes: &[u8], tag: &[u8]) -> Result<Vec<u8>, AllocError
     Ok(frame)
 }
 
-#[test]
-fn reads_and_writes_the_small_frame(rt: HostRuntime) -> Result<(), Fail> {
-    let layers = [LayerSize { length: 3, need: 1 }];
-    let frame = read_frame(&FRAME)?;
-    assert_eq!(rt; frame.header.session, [0, 1, 2, 3, 4, 5, 6, 7]);
-    assert_eq!(rt; (frame.header.groups, frame.header.group), (1, 0));
-    assert_eq!(rt; frame.header.table, Table::new(2, &layers)?);
-    assert_eq!(rt; frame.number, 1);
-    assert_eq!(rt; frame.payload, [0xAB, 0xCD, 0xEF, 0].as_slice());
+/// The session of the frames, their payload, and their only layer.
+const SESSION: [u8; 8] = [0, 1, 2, 3, 4, 5, 6, 7];
 
+const PAYLOAD: [u8; 4] = [0xAB, 0xCD, 0xEF, 0];
+
+const LAYERS: [LayerSize; 1] = [LayerSize { length: 3, need: 1 }];
+
+/// Why these bytes are no frame.
+fn fault_of(bytes: &[u8]) -> Option<FrameFault> {
+    read_frame(bytes).err()
+}
+
+/// Why they are no frame of the first version.
+fn old_fault_of(bytes: &[u8]) -> Option<FrameFault> {
+    read_old_frame(bytes).err()
+}
+
+/// Whether the small frame is read as what it says.
+fn reads_small() -> Result<bool, Fail> {
+    let frame = read_frame(&FRAME)?;
+    let header = &frame.header;
+    Ok(
+        header.session == SESSION
+            && (header.groups, header.group) == (1, 0)
+            && header.table == Table::new(2, &LAYERS)?
+            && header.clone()?.table == header.table
+            && frame.number == 1
+            && frame.payload == PAYLOAD.as_slice(),
+    )
+}
+
+/// Whether the small frame of the first version is.
+fn reads_old_small() -> Result<bool, Fail> {
+    let frame = read_old_frame(&OLD_FRAME)?;
+    Ok(
+        frame.session == SESSION
+            && (frame.groups, frame.group) == (1, 0)
+            && frame.table.packets() == 2
+            && frame.table.layers() == LAYERS.as_slice()
+            && frame.number == 1
+            && frame.payload == PAYLOAD.as_slice(),
+    )
+}
+
+#[test]
+fn reads_the_small_frames(rt: HostRuntime) -> Result<(), Fail> {
+    assert!(rt; reads_small()? && reads_old_small()?);
+    Ok(())
+}
+
+/// Whether the small frame is written behind what is there.
+fn writes_small(alloc: Global) -> Result<bool, Fail> {
     let header = Header {
-        session: [0, 1, 2, 3, 4, 5, 6, 7],
+        session: SESSION,
         groups: 1,
         group: 0,
-        table: Table::new(2, &layers)?,
+        table: Table::new(2, &LAYERS)?,
     };
-    assert_eq!(rt; header.clone()?.table, frame.header.table);
-    let payload = [0xAB, 0xCD, 0xEF, 0];
-    let mut bytes = Vec::from_slice(rt.alloc(), b"front")?;
-    assert!(rt; header.groups == 1 && header.group == 0 && header.table.packets() == 2);
-    assert!(rt; datagram_length(&header.table) == 51);
-    write_frame(&header, 1, &payload, &mut bytes)?;
-    assert_eq!(rt; bytes.len(), 56);
-    assert_eq!(rt; &bytes[5..], FRAME.as_slice());
+    if header.table.packets() != 2 || datagram_length(&header.table) != 51 {
+        return Ok(false);
+    }
+    let mut bytes = Vec::from_slice(alloc, b"front")?;
+    write_frame(&header, 1, &PAYLOAD, &mut bytes)?;
+    Ok(bytes.len() == 56 && bytes.ends_with(&FRAME))
+}
+
+#[test]
+fn writes_the_small_frame(rt: HostRuntime) -> Result<(), Fail> {
+    assert!(rt; writes_small(rt.alloc())?);
     Ok(())
 }
 
 #[test]
-fn reads_the_small_frame_of_the_first_version(rt: HostRuntime) -> Result<(), Fail> {
-    let frame = read_old_frame(&OLD_FRAME)?;
-    assert_eq!(rt; frame.session, [0, 1, 2, 3, 4, 5, 6, 7]);
-    assert_eq!(rt; (frame.groups, frame.group), (1, 0));
-    assert_eq!(rt; frame.table.packets(), 2);
-    assert!(rt; frame.table.layers() == [LayerSize { length: 3, need: 1 }].as_slice());
-    assert_eq!(rt; frame.number, 1);
-    assert_eq!(rt; frame.payload, [0xAB, 0xCD, 0xEF, 0].as_slice());
-    assert_eq!(rt; read_frame(&OLD_FRAME).err(), Some(FrameFault::Short));
-    assert_eq!(rt; read_old_frame(&FRAME).err(), Some(FrameFault::Magic));
-    assert_eq!(rt; read_frame(&FRAME[..46]).err(), Some(FrameFault::Short));
-    assert_eq!(rt;
-        read_old_frame(&OLD_FRAME[..38]).err(),
-        Some(FrameFault::Short)
-    );
-    Ok(())
+fn refuses_frames_of_the_other_version_and_short_ones(rt: HostRuntime) {
+    assert!(rt; fault_of(&OLD_FRAME) == Some(FrameFault::Short));
+    assert!(rt; old_fault_of(&FRAME) == Some(FrameFault::Magic));
+    assert!(rt; fault_of(&FRAME[..46]) == Some(FrameFault::Short));
+    assert!(rt; old_fault_of(&OLD_FRAME[..38]) == Some(FrameFault::Short));
 }
 
 /// Two places and the bytes that are set there in the frame of each version, the tags of these bytes, and the refusal.
-const CAUSES: [(usize, u8, usize, u8, u128, u64, Option<FrameFault>); 15] = [
+type Cause = (usize, u8, usize, u8, u128, u64, Option<FrameFault>);
+
+static CAUSES: [Cause; 15] = [
     (
         1,
         70,
@@ -210,79 +246,123 @@ const CAUSES: [(usize, u8, usize, u8, u128, u64, Option<FrameFault>); 15] = [
     ),
 ];
 
-#[test]
-fn answers_the_first_cause(rt: HostRuntime) -> Result<(), Fail> {
-    let alloc = rt.alloc();
-    for (first, a, second, b, tag, old_tag, want) in CAUSES {
-        assert!(rt; first < 35 && second < 35);
-        let mut bytes = [0u8; 35];
-        bytes.copy_from_slice(&FRAME[..35]);
-        bytes[first] = a;
-        bytes[second] = b;
-        let frame = tagged(alloc, &bytes, &u128::to_be_bytes(tag))?;
-        assert_eq!(rt; read_frame(&frame).err(), want, "{first} {a} {second} {b}");
-        bytes[3] = b'1';
-        let frame = tagged(alloc, &bytes, &u64::to_be_bytes(old_tag))?;
-        assert_eq!(rt;
-            read_old_frame(&frame).err(),
-            want,
-            "{first} {a} {second} {b}"
-        );
+/// The front of the small frame with the bytes of a cause.
+fn changed(cause: &Cause) -> [u8; 35] {
+    let mut bytes = [0u8; 35];
+    bytes.copy_from_slice(&FRAME[..35]);
+    if cause.0 < 35 && cause.2 < 35 {
+        bytes[cause.0] = cause.1;
+        bytes[cause.2] = cause.3;
     }
-    Ok(())
+    bytes
+}
+
+/// Whether the frames of both versions with these bytes are refused so.
+fn are_refused(alloc: Global, cause: &Cause) -> Result<bool, AllocError> {
+    let mut bytes = changed(cause);
+    let frame = tagged(alloc, &bytes, &u128::to_be_bytes(cause.4))?;
+    bytes[3] = b'1';
+    let old_frame = tagged(alloc, &bytes, &u64::to_be_bytes(cause.5))?;
+    Ok(fault_of(&frame) == cause.6 && old_fault_of(&old_frame) == cause.6)
+}
+
+/// The number of the first cause that is answered otherwise.
+fn first_other(alloc: Global, causes: &[Cause]) -> Option<usize> {
+    for row in 0..causes.len() {
+        if !are_refused(alloc, &causes[row]).unwrap_or(false) {
+            return Some(row);
+        }
+    }
+    None
 }
 
 #[test]
-fn reads_other_layers(rt: HostRuntime) -> Result<(), Fail> {
-    // What stands behind the packet's number; the tags are those of these bytes.
-    let rows: [(&[u8], u128, u64, Option<FrameFault>); 3] = [
-        // one byte more before the tag
-        (
-            &[1, 0, 0, 0, 3, 0, 1, 171, 205, 239, 0, 0],
-            0xDA68C00DBF69666AB40E59ACD5ABC2B7,
-            0x8CDF6E80C8DA29B6,
-            Some(FrameFault::Length),
-        ),
-        // no payload
-        (
-            &[1, 0, 0, 0, 0, 0, 1],
-            0x54D91691DD4C30BEBF2DFCC04427E987,
-            0x4F32A1CA1B88E6D7,
-            None,
-        ),
-        // needs that fall
-        (
-            &[2, 0, 0, 0, 2, 0, 2, 0, 0, 0, 2, 0, 1, 1, 1, 2, 2],
-            0x96815AC702099FDC6048B51ADA16810A,
-            0x6A58847C1ADDB72A,
-            None,
-        ),
-    ];
-    let alloc = rt.alloc();
-    for (rest, tag, old_tag, want) in rows {
-        let bytes = tagged(alloc, &FRAME[..24], rest)?;
-        let frame = tagged(alloc, &bytes, &u128::to_be_bytes(tag))?;
-        assert_eq!(rt; read_frame(&frame).err(), want);
-        let bytes = tagged(alloc, &OLD_FRAME[..24], rest)?;
-        let frame = tagged(alloc, &bytes, &u64::to_be_bytes(old_tag))?;
-        assert_eq!(rt; read_old_frame(&frame).err(), want);
-        if frame.len() >= 47 {
-            assert_eq!(rt; read_frame(&frame).err(), Some(FrameFault::Magic));
+fn answers_the_first_cause(rt: HostRuntime) {
+    assert_eq!(rt; first_other(rt.alloc(), &CAUSES), None);
+}
+
+/// What stands behind the packet's number, the tags of these bytes, and the refusal.
+type Rest = (&'static [u8], u128, u64, Option<FrameFault>);
+
+static RESTS: [Rest; 3] = [
+    // one byte more before the tag
+    (
+        &[1, 0, 0, 0, 3, 0, 1, 171, 205, 239, 0, 0],
+        0xDA68C00DBF69666AB40E59ACD5ABC2B7,
+        0x8CDF6E80C8DA29B6,
+        Some(FrameFault::Length),
+    ),
+    // no payload
+    (
+        &[1, 0, 0, 0, 0, 0, 1],
+        0x54D91691DD4C30BEBF2DFCC04427E987,
+        0x4F32A1CA1B88E6D7,
+        None,
+    ),
+    // needs that fall
+    (
+        &[2, 0, 0, 0, 2, 0, 2, 0, 0, 0, 2, 0, 1, 1, 1, 2, 2],
+        0x96815AC702099FDC6048B51ADA16810A,
+        0x6A58847C1ADDB72A,
+        None,
+    ),
+];
+
+/// Whether the frames of both versions that end so are refused so, and the latter as one of the former by its magic, where it is
+/// long enough to be one.
+fn are_refused_with(alloc: Global, row: &Rest) -> Result<bool, AllocError> {
+    let bytes = tagged(alloc, &FRAME[..24], row.0)?;
+    let frame = tagged(alloc, &bytes, &u128::to_be_bytes(row.1))?;
+    let old_bytes = tagged(alloc, &OLD_FRAME[..24], row.0)?;
+    let old_frame = tagged(alloc, &old_bytes, &u64::to_be_bytes(row.2))?;
+    Ok(
+        fault_of(&frame) == row.3
+            && old_fault_of(&old_frame) == row.3
+            && (old_frame.len() < 47 || fault_of(&old_frame) == Some(FrameFault::Magic)),
+    )
+}
+
+/// The number of the first row whose frames are answered otherwise.
+fn first_other_rest(alloc: Global, rows: &[Rest]) -> Option<usize> {
+    for row in 0..rows.len() {
+        if !are_refused_with(alloc, &rows[row]).unwrap_or(false) {
+            return Some(row);
         }
     }
-    Ok(())
+    None
+}
+
+#[test]
+fn reads_other_layers(rt: HostRuntime) {
+    assert_eq!(rt; first_other_rest(rt.alloc(), &RESTS), None);
+}
+
+/// Whether the small frame is refused with this bit changed.
+fn refuses_change(bit: usize) -> bool {
+    let mut bytes = FRAME;
+    let at = bit / 8;
+    if at < bytes.len() {
+        bytes[at] ^= 1 << (bit % 8);
+    }
+    fault_of(&bytes).is_some()
+}
+
+/// Whether the small frame of the first version is.
+fn refuses_old_change(bit: usize) -> bool {
+    let mut bytes = OLD_FRAME;
+    let at = bit / 8;
+    if at < bytes.len() {
+        bytes[at] ^= 1 << (bit % 8);
+    }
+    old_fault_of(&bytes).is_some()
 }
 
 #[test]
 fn refuses_each_change_of_one_bit(rt: HostRuntime) {
     for bit in 0..408usize {
-        let mut bytes = FRAME;
-        bytes[bit / 8] ^= 1 << (bit % 8);
-        assert!(rt; read_frame(&bytes).is_err(), "bit {bit}");
+        assert!(rt; refuses_change(bit), "bit {bit}");
     }
     for bit in 0..344usize {
-        let mut bytes = OLD_FRAME;
-        bytes[bit / 8] ^= 1 << (bit % 8);
-        assert!(rt; read_old_frame(&bytes).is_err(), "bit {bit}");
+        assert!(rt; refuses_old_change(bit), "bit {bit}");
     }
 }

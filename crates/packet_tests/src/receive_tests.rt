@@ -3,8 +3,8 @@ ghost use Rattle.std.specs.Prelude.{◌≡◌, ◌<◌};
 
 use crate::receive_fixtures::{
     EMPTY_LAYERS_0, EMPTY_LAYERS_1, EVERY_LAYER, EXAMPLE, EXAMPLE_2, EXAMPLE_5, EXAMPLE_LAYER,
-    IN_GROUP_258, LONG_LAYER, OF_ANOTHER_SESSION, ONLY_LAYER, SEVEN_0, SEVEN_2, SHORT_LAYER,
-    TWO_GROUPS_TAG, WORDS_1, WORDS_3, two_layers,
+    FLIPPED, IN_GROUP_258, Judged, LONG_LAYER, OF_ANOTHER_SESSION, OF_TWO_GROUPS, ONLY_LAYER,
+    SEVEN_0, SEVEN_2, SHORT_LAYER, SHOWS_0, SHOWS_NONE, TWO_LAYERS, WORDS_1, WORDS_3,
 };
 use kept_sets::{LayerSet, Verdict, group_of};
 use packet_frame::read_frame;
@@ -16,201 +16,160 @@ use std::marker::Brand;
 use std::sync::ledger::{Blank, Ledger};
 use std::test::Fail;
 
-/// The verdicts of the first datagrams, whether a layer of group 0 is shown after them, its bytes, how many packets are kept
-/// and layers shown, and whether that is all.
-#[derive(Drop)]
-struct Received {
-    verdicts: Vec<Verdict>,
-    is_shown: bool,
-    layer: Vec<u8>,
-    totals: (u32, u32, bool),
+/// What the groups may cost; datagrams with their verdicts, and how many of them come; a layer of group 0 and its bytes, where it
+/// is then shown; how many packets are kept and layers shown, and whether that is all.
+type Row = (
+    u64,
+    &'static [Judged],
+    usize,
+    u8,
+    Option<&'static [u8]>,
+    (u32, u32, bool),
+);
+
+/// Three datagrams that are not kept, and two of the example stream.
+const FIRST: &[Judged] = &[
+    (&OF_ANOTHER_SESSION, Verdict::Foreign),
+    (&FLIPPED, Verdict::Damaged),
+    (&[], Verdict::Damaged),
+    (&EXAMPLE_5, SHOWS_NONE),
+    (&EXAMPLE_2, SHOWS_0),
+];
+
+const EMPTY_LAYERS: &[Judged] = &[
+    (&EMPTY_LAYERS_0, Verdict::Kept(LayerSet { bits: 6 })),
+    (&EMPTY_LAYERS_1, SHOWS_0),
+];
+
+static ROWS: [Row; 17] = [
+    (
+        1_000,
+        &[
+            (&WORDS_3, SHOWS_NONE),
+            (&WORDS_3, Verdict::Repeated),
+            (&WORDS_1, SHOWS_0),
+        ],
+        3,
+        0,
+        Some(&[0, 5, 0, 7]),
+        (2, 1, true),
+    ),
+    (
+        1_000,
+        &[(&SEVEN_2, SHOWS_NONE), (&SEVEN_0, SHOWS_0)],
+        2,
+        0,
+        Some(&[1, 2, 3, 4, 5, 6, 7]),
+        (2, 1, true),
+    ),
+    // the example's group takes 534 bytes
+    (
+        533,
+        &[
+            (&EXAMPLE, Verdict::Full),
+            (&OF_TWO_GROUPS, Verdict::Full),
+            (&WORDS_1, SHOWS_NONE),
+            (&[], Verdict::Damaged),
+        ],
+        4,
+        0,
+        None,
+        (1, 0, false),
+    ),
+    (
+        534,
+        &[
+            (&EXAMPLE, SHOWS_NONE),
+            (&OF_TWO_GROUPS, Verdict::Clash),
+            (&WORDS_1, Verdict::Clash),
+            (&[], Verdict::Damaged),
+        ],
+        4,
+        0,
+        None,
+        (1, 0, false),
+    ),
+    (2_000, FIRST, 4, 0, None, (1, 0, false)),
+    (2_000, FIRST, 5, 0, Some(&EXAMPLE_LAYER), (2, 1, false)),
+    (2_000, FIRST, 5, 1, None, (2, 1, false)),
+    (2_000, EMPTY_LAYERS, 1, 0, None, (1, 2, false)),
+    (2_000, EMPTY_LAYERS, 1, 1, Some(&[]), (1, 2, false)),
+    (2_000, EMPTY_LAYERS, 1, 2, Some(&[]), (1, 2, false)),
+    (2_000, EMPTY_LAYERS, 1, 3, None, (1, 2, false)),
+    (2_000, EMPTY_LAYERS, 2, 0, Some(&ONLY_LAYER), (2, 3, true)),
+    (
+        2_000,
+        &[(&EVERY_LAYER, Verdict::Kept(LayerSet { bits: 0xFFFF_FFFF }))],
+        1,
+        31,
+        Some(&[0x12, 0x34]),
+        (1, 32, true),
+    ),
+    (2_000, TWO_LAYERS, 2, 1, None, (2, 0, false)),
+    (2_000, TWO_LAYERS, 3, 1, Some(&SHORT_LAYER), (3, 1, false)),
+    (2_000, TWO_LAYERS, 9, 0, None, (9, 1, false)),
+    (2_000, TWO_LAYERS, 10, 0, Some(&LONG_LAYER), (10, 2, true)),
+];
+
+/// The session of the frames.
+const SESSION: [u8; 8] = [0, 1, 2, 3, 4, 5, 6, 7];
+
+/// Whether the first so many of these datagrams are judged so.
+fn judges<L: Ledger>(
+    receiver: &mut Receiver<'_, Gf16Plain>,
+    judged: &[Judged],
+    many: usize,
+    steps: &mut Steps<L>,
+) -> Result<bool, NoMemory> {
+    for (datagram, verdict) in judged.iter().take(many) {
+        if receiver.accept(datagram, steps)? != *verdict {
+            return Ok(false);
+        }
+    }
+    Ok(many <= judged.len())
 }
 
-/// What a receiver answers to the first `count` datagrams.
-fn receive(
-    alloc: Global,
-    limit: u64,
-    datagrams: &[&[u8]],
-    count: usize,
-    layer: u8,
-) -> Result<Received, NoMemory> {
-    receive_counted::<Brand>(alloc, limit, datagrams, count, layer, Blank::new(1))
+/// Whether these are the same bytes, or both none.
+fn are_same(shown: Option<&[u8]>, wanted: Option<&[u8]>) -> bool {
+    match (shown, wanted) {
+        (Some(bytes), Some(others)) => bytes == others,
+        (None, None) => true,
+        _ => false,
+    }
 }
 
-/// The same, on a counter of its own.
-fn receive_counted<L: Ledger>(
-    alloc: Global,
-    limit: u64,
-    datagrams: &[&[u8]],
-    count: usize,
-    layer: u8,
-    blank: Blank,
-) -> Result<Received, NoMemory>
+/// Whether this row is so.
+fn is_so<L: Ledger>(alloc: Global, row: &Row, blank: Blank) -> Result<bool, NoMemory>
     requires name { blank.name ≡ L.name }
     requires parts { blank.parts ≡ L.parts }
     requires some { 0 < blank.parts }
 {
     let mut steps = Steps::<L>::new(blank);
     let field = Gf16Plain;
-    let mut receiver = Receiver::new(alloc, &field, [0, 1, 2, 3, 4, 5, 6, 7], limit);
-    let mut verdicts = Vec::new(alloc);
-    for datagram in datagrams.iter().take(count) {
-        let verdict = receiver.accept(datagram, &mut steps)?;
-        verdicts.push(verdict)?;
-    }
-    let mut bytes = Vec::new(alloc);
-    let mut is_shown = false;
-    if let Some(shown) = receiver.layer(0, layer) {
-        is_shown = true;
-        bytes.extend_from_slice(shown)?;
-    }
-    Ok(Received {
-        verdicts,
-        is_shown,
-        layer: bytes,
-        totals: (receiver.kept(), receiver.shown(), receiver.complete()),
-    })
+    let mut receiver = Receiver::new(alloc, &field, SESSION, row.0);
+    let is_judged = judges(&mut receiver, row.1, row.2, &mut steps)?;
+    let totals = (receiver.kept(), receiver.shown(), receiver.complete());
+    Ok(is_judged && are_same(receiver.layer(0, row.3), row.4) && totals == row.5)
 }
 
-/// A kept packet that newly shows the layers of these bits.
-fn kept(bits: u32) -> Verdict {
-    Verdict::Kept(LayerSet { bits })
+/// The number of the first row that is not so.
+fn first_wrong(alloc: Global, rows: &[Row]) -> Option<usize> {
+    for row in 0..rows.len() {
+        if !is_so::<Brand>(alloc, &rows[row], Blank::new(1)).unwrap_or(false) {
+            return Some(row);
+        }
+    }
+    None
 }
 
 #[test]
-fn judges_datagrams_and_shows_a_layer(rt: HostRuntime) -> Result<(), Fail> {
-    let mut two_groups = EXAMPLE;
-    two_groups[15] = 2;
-    two_groups[73..].copy_from_slice(&TWO_GROUPS_TAG);
-    let frames: [&[u8]; 9] = [
-        &WORDS_3,
-        &WORDS_3,
-        &WORDS_1,
-        &SEVEN_2,
-        &SEVEN_0,
-        &EXAMPLE,
-        &two_groups,
-        &WORDS_1,
-        &[],
-    ];
-    let others = &frames[5..];
-    // a limit, datagrams, their verdicts, layer 0 after them, and the totals
-    let rows: [(u64, &[&[u8]], &[Verdict], &[u8], (u32, u32, bool)); 4] = [
-        (
-            1_000,
-            &frames[..3],
-            &[kept(0), Verdict::Repeated, kept(1)],
-            &[0, 5, 0, 7],
-            (2, 1, true),
-        ),
-        (
-            1_000,
-            &frames[3..5],
-            &[kept(0), kept(1)],
-            &[1, 2, 3, 4, 5, 6, 7],
-            (2, 1, true),
-        ),
-        // the example's group takes 534 bytes
-        (
-            533,
-            others,
-            &[Verdict::Full, Verdict::Full, kept(0), Verdict::Damaged],
-            &[],
-            (1, 0, false),
-        ),
-        (
-            534,
-            others,
-            &[kept(0), Verdict::Clash, Verdict::Clash, Verdict::Damaged],
-            &[],
-            (1, 0, false),
-        ),
-    ];
-    for (limit, datagrams, verdicts, layer, totals) in rows {
-        let got = receive(rt.alloc(), limit, datagrams, 10, 0).expect(&rt, "memory");
-        assert_eq!(rt; got.verdicts.as_slice(), verdicts);
-        assert_eq!(rt; got.layer.as_slice(), layer);
-        assert_eq!(rt; got.totals, totals);
-    }
-    Ok(())
-}
-
-/// What is answered to each of the datagrams of `shows_layers`, where those before it in its row have come.
-fn told() -> [Verdict; 18] {
-    [
-        Verdict::Foreign,
-        Verdict::Damaged,
-        Verdict::Damaged,
-        kept(0),
-        kept(1),
-        kept(6),
-        kept(1),
-        kept(0xFFFF_FFFF),
-        kept(0),
-        kept(0),
-        kept(2),
-        kept(0),
-        kept(0),
-        kept(0),
-        kept(0),
-        kept(0),
-        kept(0),
-        kept(1),
-    ]
-}
-
-#[test]
-fn shows_layers(rt: HostRuntime) -> Result<(), Fail> {
-    let mut flipped = EXAMPLE_5;
-    flipped[43] ^= 1;
-    let packets = two_layers();
-    let first_frames: [&[u8]; 8] = [
-        &OF_ANOTHER_SESSION,
-        &flipped,
-        &[],
-        &EXAMPLE_5,
-        &EXAMPLE_2,
-        &EMPTY_LAYERS_0,
-        &EMPTY_LAYERS_1,
-        &EVERY_LAYER,
-    ];
-    let mut frames = Vec::new(rt.alloc());
-    frames.extend_from_slice(&first_frames)?;
-    for packet in &packets {
-        frames.push(packet.as_slice())?;
-    }
-    // the first datagram and how many come, a layer, whether it is shown, its bytes, and the totals
-    let rows: [(usize, usize, u8, bool, &[u8], (u32, u32, bool)); 13] = [
-        (0, 4, 0, false, &[], (1, 0, false)),
-        (0, 5, 0, true, &EXAMPLE_LAYER, (2, 1, false)),
-        (0, 5, 1, false, &[], (2, 1, false)),
-        (5, 1, 0, false, &[], (1, 2, false)),
-        (5, 1, 1, true, &[], (1, 2, false)),
-        (5, 1, 2, true, &[], (1, 2, false)),
-        (5, 1, 3, false, &[], (1, 2, false)),
-        (5, 2, 0, true, &ONLY_LAYER, (2, 3, true)),
-        (7, 1, 31, true, &[0x12, 0x34], (1, 32, true)),
-        (8, 2, 1, false, &[], (2, 0, false)),
-        (8, 3, 1, true, &SHORT_LAYER, (3, 1, false)),
-        (8, 9, 0, false, &[], (9, 1, false)),
-        (8, 10, 0, true, &LONG_LAYER, (10, 2, true)),
-    ];
-    let told = told();
-    for (first, count, layer, is_shown, bytes, totals) in rows {
-        assert!(rt; first <= 8 && count <= 10 && first < frames.len());
-        let got = receive(rt.alloc(), 2_000, &frames[first..], count, layer).expect(&rt, "memory");
-        assert_eq!(rt; got.verdicts.as_slice(), &told[first..first + count]);
-        assert_eq!(rt; got.is_shown, is_shown);
-        assert_eq!(rt; got.layer.as_slice(), bytes);
-        assert_eq!(rt; got.totals, totals);
-    }
-    Ok(())
+fn judges_datagrams_and_shows_layers(rt: HostRuntime) {
+    assert_eq!(rt; first_wrong(rt.alloc(), &ROWS), None);
 }
 
 #[test]
 fn names_the_group_of_a_frame(rt: HostRuntime) -> Result<(), Fail> {
     let frame = read_frame(&IN_GROUP_258)?;
-    assert_eq!(rt; frame.header.group, 258);
-    assert_eq!(rt; group_of(&IN_GROUP_258), 258);
+    assert!(rt; frame.header.group == 258 && group_of(&IN_GROUP_258) == 258);
     Ok(())
 }
