@@ -1,6 +1,7 @@
 //! Files in memory that are read to their end, or one byte past a limit.
 use command_files::read_file;
-use pet_base::{MemoryPlace, NoMemory, Stop};
+use memory_ends::MemoryPlace;
+use pet_base::{NoMemory, Stop};
 use std::alloc::Global;
 
 /// A file, a limit, and how many bytes are read.

@@ -1,10 +1,10 @@
 //! Tests of the outside: the fakes in memory and the entries of a datagram file, files that are read for a command, and the
 //! real ends.
 //!
-//! They run the public calls of `pet_base`, `command_files` and `pet_ends`, as a caller sees them, a module a crate (of
-//! `pet_ends` two: a real file and the output, and datagrams over the loopback). They stand apart because the gate proves a
-//! crate that has tests twice, once alone and once whole with its tests: here the second time is the tests' own. `room` is
-//! what several of them share. No program uses this crate.
+//! They run the public calls of `pet_base` by the fakes of `memory_ends`, of `command_files` and of `pet_ends`, as a caller
+//! sees them, a module a crate (of `pet_ends` two: a real file and the output, and datagrams over the loopback). They stand
+//! apart because the gate proves a crate that has tests twice, once alone and once whole with its tests: here the second time
+//! is the tests' own. `room` is what several of them share. No program uses this crate.
 #![tactic(auto)]
 
 mod buffers;

@@ -1,7 +1,8 @@
 //! What the tests of all three commands share: files of pieces, stores, and tags that were made outside.
 use crate::store_head;
 use example_session::{SESSION, packets};
-use pet_base::{MemoryPlace, NoMemory};
+use memory_ends::MemoryPlace;
+use pet_base::NoMemory;
 use std::alloc::{AllocError, Global};
 
 /// A piece of a file.

@@ -1,9 +1,10 @@
 //! What the tests share that receive from a link: links in memory to which entries come.
 ghost use Rattle.std.specs.Prelude.{IfOk};
-ghost use Rattle.pet_base.specs.Feed.{AreShort};
+ghost use Rattle.memory_ends.specs.Feed.{AreShort};
 
 use crate::files::{File, Piece, append};
-use pet_base::{MAX_ENTRY, MemoryLink, NoMemory};
+use memory_ends::MemoryLink;
+use pet_base::{MAX_ENTRY, NoMemory};
 use std::alloc::{AllocError, Global};
 
 /// A link to which these entries come, and whose calls of these numbers fail.

@@ -8,7 +8,7 @@ use crate::receive_fixtures::{
 use crate::untold::{UntoldLink, UntoldPlace};
 use command_receive::ReceiveEnd;
 use example_session::SESSION;
-use pet_base::MemorySink;
+use memory_ends::MemorySink;
 use std::cell::Cell;
 use std::marker::Brand;
 use std::sync::ledger::Blank;

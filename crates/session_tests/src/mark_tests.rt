@@ -1,6 +1,7 @@
 //! The marks of a stream's groups.
+use memory_ends::MemoryPlace;
 use mpeg_scan::Scan;
-use pet_base::{MemoryPlace, NoMemory};
+use pet_base::NoMemory;
 use std::alloc::{AllocError, Global};
 use stream_session::{GroupMark, MarkedSource, SessionFault, SourceFault, read_marked};
 

@@ -1,7 +1,8 @@
 //! The example session over files in memory, and what two files are refused for.
 use example_session::{PRIORITIES, SESSION, STREAM};
+use memory_ends::MemoryPlace;
 use mpeg_scan::Scan;
-use pet_base::{MemoryPlace, NoMemory};
+use pet_base::NoMemory;
 use priority_file::{PriorityFault, read_priority};
 use std::alloc::{AllocError, Global};
 use stream_session::{Pass, SessionPlan, Source, SourceFault, StreamFault, read_source};

@@ -3,7 +3,8 @@ ghost use Rattle.std.specs.Prelude.{◌≡◌, ◌<◌};
 
 use crate::store_fixtures::{ALL, NONE, ONE_TWO, Stored, bytes_of};
 use example_session::{SESSION, packets};
-use pet_base::{MAX_SESSION, MemoryPlace, NoMemory, Steps};
+use memory_ends::MemoryPlace;
+use pet_base::{MAX_SESSION, NoMemory, Steps};
 use pet_field::Gf16Plain;
 use pet_receive::Receiver;
 use std::alloc::{AllocError, Global};

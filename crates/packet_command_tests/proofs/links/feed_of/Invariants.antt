@@ -1,4 +1,4 @@
-use Rattle.pet_base.specs.Feed.{AreShort}
+use Rattle.memory_ends.specs.Feed.{AreShort}
 use Rattle.packet_command_tests.proofs.links.feed_of.Given as goal
 
 abbrev pub invariant-loop-entry : goal.invariant-loop-entry
