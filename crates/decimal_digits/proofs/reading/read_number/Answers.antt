@@ -1,4 +1,5 @@
-use Rattle.std.proofs.Common.{suc, ◌∙◌, ap, drop, get_or, drop-cons}
+use Rattle.std.proofs.Common.{suc, ◌∙◌, ap, drop, get_or, drop-cons, arith}
+use Rattle.std.proofs.lemmas.Grind.{common_steps}
 use Rattle.std.specs.List.{list_all}
 use Rattle.decimal_digits.specs.Digits.{is_digit, value_from}
 use Rattle.decimal_digits.proofs.Refused.{refused_digit}
@@ -12,3 +13,6 @@ returns-in_err-value c =
     let ahead = drop-cons digits at 0 c.loop-digit-test.true in
     c.from_residual.ensures
     ∙ refused_digit c.args.most digits value (get_or digits at 0) (drop (suc at) digits) (c.loop-digit.invariant.digits ∙ ap (list_all is_digit) ahead) (c.loop-digit.invariant.value ∙ ap (value_from value) ahead) c.in_err-value.ensures
+
+pub returns : goal.returns
+returns c = grind (arith, common_steps)
