@@ -7,7 +7,7 @@ use std::alloc::Global;
 /// A file, a limit, and how many bytes are read.
 type Row = (&'static str, u64, Result<usize, Stop>);
 
-const READ: [Row; 7] = [
+static READ: [Row; 7] = [
     ("long", 100_000, Ok(70_000)),
     ("long", 70_000, Ok(70_000)),
     ("long", 69_999, Ok(70_000)),

@@ -97,9 +97,9 @@ fn it_is_quiet_after_three_seconds(rt: HostRuntime) -> Result<(), Fail> {
 }
 
 /// An address of no machine, no port, a port that is no number of 16 bits, and none of the forms.
-const UNBOUND: [&str; 5] = ["192.0.2.1:0", "127.0.0.1", "127.0.0.1:65536", ":", ""];
+static UNBOUND: [&str; 5] = ["192.0.2.1:0", "127.0.0.1", "127.0.0.1:65536", ":", ""];
 
-const UNAIMED: [&str; 4] = ["127.0.0.1", "127.0.0.1:65536", "[::1]", ""];
+static UNAIMED: [&str; 4] = ["127.0.0.1", "127.0.0.1:65536", "[::1]", ""];
 
 /// The first of these addresses at which the link can receive.
 fn first_bound(link: &mut UdpLink<'_, HostRuntime>, addresses: &[&str]) -> Option<usize> {
