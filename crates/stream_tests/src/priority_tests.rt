@@ -3,18 +3,22 @@ use crate::priority_of;
 use pet_base::Kind;
 use priority_file::{KindSet, LayerRule, Priority, PriorityFault, read_priority};
 use std::alloc::{AllocError, Global};
-use std::test::Fail;
 
 /// Spellings of the example priorities.
-const SPELLINGS: [&str; 4] = [
+static SPELLINGS: [&str; 4] = [
     "packets = 6\n[[layer]]\nname = \"base\"\nkinds = [\"head\", \"I\"]\nneed = 2\n[[layer]]\nname = \"P\"\nkinds = [\"P\"]\nneed = 3\n[[layer]]\nname = \"B\"\nkinds = [\"B\"]\nneed = 5\n",
     "packets = 6\nlayer = [{name = 'base', kinds = ['head', 'I'], need = 2}, {name = 'P', kinds = ['P'], need = 3}, {name = 'B', kinds = ['B'], need = 5}]\n",
     "\"packets\" = 0x6 # packets of a group\r\n[[ \"layer\" ]]\r\n'name' = \"\"\"base\"\"\"\r\nkinds = [\r\n'I', # I before head\r\n'head', ]\r\n\"need\" = +2\r\n[[layer]]\r\nneed = 3\r\nname = 'P'\r\nkinds = ['P']\r\n[['layer']]\r\npercent = 84\r\nname = \"\\u0042\"\r\nkinds = [\"B\"]\r\n",
     "layer = [{kinds = ['head', 'I', 'D'], need = 0b10, name = 'base'}, {percent = 50, name = 'P', kinds = ['P']}, {name = 'B', kinds = ['B'], need = 5}]\npackets = 6\n",
 ];
 
-/// Accepted files, and the kinds and places of their layers, as bits, each with its need.
-const READ: [(&str, &[(u32, u16)]); 8] = [
+/// The bits of the kinds and places of each layer, and its need.
+type Rules = &'static [(u32, u16)];
+
+/// An accepted file, and its layers.
+type Read = (&'static str, Rules);
+
+static READ: [Read; 8] = [
     (
         "packets = 6\nlayer = [{name = 'base', kinds = ['head', 'I'], percent = 1}, {name = 'P', kinds = ['P'], need = 3}, {name = 'B', kinds = ['B'], percent = 99}]\n",
         &[(19, 1), (4, 3), (8, 5)],
@@ -46,8 +50,11 @@ const READ: [(&str, &[(u32, u16)]); 8] = [
     ),
 ];
 
+/// A file, and why it is refused.
+type Refused = (&'static str, PriorityFault);
+
 /// One file for each refusal, each with one cause.
-const REFUSED: [(&str, PriorityFault); 26] = [
+static REFUSED: [Refused; 26] = [
     ("packets = ", PriorityFault::Text),
     (
         "packets = 6\nlayer = [{name = 'base', kinds = ['head', 'I'], need = 2}, {name = 'P', kinds = ['P'], need = 3}, {name = 'B', kinds = ['B'], need = 5, more = 1}]\n",
@@ -146,7 +153,7 @@ const REFUSED: [(&str, PriorityFault); 26] = [
 ];
 
 /// Files with two causes or more, of which the first is the answer.
-const REFUSED_FIRST: [(&str, PriorityFault); 15] = [
+static REFUSED_FIRST: [Refused; 15] = [
     ("more = 1\npackets = ", PriorityFault::Text),
     (
         "packets = 99999999999999999999\nmore = 1\n",
@@ -207,8 +214,10 @@ const REFUSED_FIRST: [(&str, PriorityFault); 15] = [
 const FIRST_B_WITH_P: &str =
     "packets = 6\nlayer = [{name = 'base', kinds = ['head', 'I'], need = 2}, {name = 'P', kinds = ['P', 'B1'], need = 3}, {name = 'B', kinds = ['B'], need = 5}]\n";
 
-/// Packets, the bits and needs of layers, and whether these are a priority.
-const MADE: [(u16, &[(u32, u16)], bool); 12] = [
+/// Packets, layers, and whether these are a priority.
+type Made = (u16, Rules, bool);
+
+static MADE: [Made; 12] = [
     (8, &[(19, 8), (4, 2), (8, 5)], true),
     (4_096, &[(31, 4_096)], true),
     (4_097, &[(31, 1)], false),
@@ -283,26 +292,42 @@ fn is_read_as_example(alloc: Global, text: &str) -> bool {
     }
 }
 
-#[test]
-fn reads_each_spelling_of_the_example_priorities(rt: HostRuntime) {
-    for text in SPELLINGS {
-        assert!(rt; is_read_as_example(rt.alloc(), text), "{text}");
+/// The number of the first text that is read otherwise.
+fn first_other(alloc: Global, texts: &[&str]) -> Option<usize> {
+    for row in 0..texts.len() {
+        if !is_read_as_example(alloc, texts[row]) {
+            return Some(row);
+        }
     }
+    None
 }
 
-/// Whether a text is read as a priority with these layers.
-fn is_read_with(alloc: Global, text: &str, layers: &[(u32, u16)]) -> bool {
-    match read_priority(alloc, text.as_bytes()) {
-        Ok(priority) => has_layers(priority.layers.as_slice(), layers),
+#[test]
+fn reads_each_spelling_of_the_example_priorities(rt: HostRuntime) {
+    assert_eq!(rt; first_other(rt.alloc(), &SPELLINGS), None);
+}
+
+/// Whether the file of a row is read as a priority with its layers.
+fn is_read(alloc: Global, row: &Read) -> bool {
+    match read_priority(alloc, row.0.as_bytes()) {
+        Ok(priority) => has_layers(priority.layers.as_slice(), row.1),
         Err(_) => false,
     }
 }
 
+/// The number of the first row that is read otherwise.
+fn first_read_otherwise(alloc: Global, rows: &[Read]) -> Option<usize> {
+    for row in 0..rows.len() {
+        if !is_read(alloc, &rows[row]) {
+            return Some(row);
+        }
+    }
+    None
+}
+
 #[test]
 fn reads_kinds_places_and_needs(rt: HostRuntime) {
-    for (text, layers) in READ {
-        assert!(rt; is_read_with(rt.alloc(), text, layers), "{text}");
-    }
+    assert_eq!(rt; first_read_otherwise(rt.alloc(), &READ), None);
 }
 
 /// The layers of the first, the second and the tenth B picture of a group, of the first P picture and of the first I picture.
@@ -317,55 +342,93 @@ fn layers_by_place(alloc: Global, text: &str) -> Option<[u8; 5]> {
     ])
 }
 
+/// Whether the set of the P pictures and of the first B picture of a group has that place alone.
+fn has_first_b_alone() -> bool {
+    let set = KindSet { bits: 16_388 };
+    set.has_place(Kind::B, 1) && !set.has_place(Kind::P, 1) && !set.has_place(Kind::B, 9)
+}
+
 #[test]
 fn gives_a_listed_place_its_layer(rt: HostRuntime) {
     let layers = layers_by_place(rt.alloc(), FIRST_B_WITH_P);
     assert_eq!(rt; layers, Some([1, 2, 2, 1, 0]));
-    let set = KindSet { bits: 16_388 };
-    assert!(rt;
-        set.has_place(Kind::B, 1) && !set.has_place(Kind::P, 1) && !set.has_place(Kind::B, 9)
-    );
+    assert!(rt; has_first_b_alone());
+}
+
+/// Whether the layers of a row are a priority exactly where that is told.
+fn is_made(row: &Made) -> bool {
+    priority_of(row.0, row.1).is_some() == row.2
+}
+
+/// The number of the first row that is made otherwise.
+fn first_made_otherwise(rows: &[Made]) -> Option<usize> {
+    for row in 0..rows.len() {
+        if !is_made(&rows[row]) {
+            return Some(row);
+        }
+    }
+    None
 }
 
 #[test]
 fn makes_a_priority_within_its_bounds(rt: HostRuntime) {
-    for (packets, rules, is_made) in MADE {
-        let is_right = priority_of(packets, rules).is_some() == is_made;
-        assert!(rt; is_right, "{packets}");
-    }
+    assert_eq!(rt; first_made_otherwise(&MADE), None);
+}
+
+/// Why files of 32 layers and of 33 are refused.
+fn faults_of_layers(alloc: Global) -> Result<[Option<PriorityFault>; 2], AllocError> {
+    let most = with_empty_layers(alloc, b"abcdefghijklmnopqrstuvwxyz01234")?;
+    let more = with_empty_layers(alloc, b"abcdefghijklmnopqrstuvwxyz012345")?;
+    Ok([fault_of(alloc, &most), fault_of(alloc, &more)])
 }
 
 #[test]
-fn reads_at_most_32_layers(rt: HostRuntime) -> Result<(), Fail> {
-    let alloc = rt.alloc();
-    let most = with_empty_layers(alloc, b"abcdefghijklmnopqrstuvwxyz01234")?;
-    let more = with_empty_layers(alloc, b"abcdefghijklmnopqrstuvwxyz012345")?;
-    let told = [fault_of(alloc, &most), fault_of(alloc, &more)];
-    assert_eq!(rt; told, [None, Some(PriorityFault::TooManyLayers)]);
-    Ok(())
+fn reads_at_most_32_layers(rt: HostRuntime) {
+    let told = faults_of_layers(rt.alloc());
+    assert_eq!(rt; told, Ok([None, Some(PriorityFault::TooManyLayers)]));
+}
+
+/// Whether the file of a row is refused for its cause.
+fn is_refused(alloc: Global, row: &Refused) -> bool {
+    fault_of(alloc, row.0.as_bytes()) == Some(row.1)
+}
+
+/// The number of the first row that is refused for another cause.
+fn first_refused_otherwise(alloc: Global, rows: &[Refused]) -> Option<usize> {
+    for row in 0..rows.len() {
+        if !is_refused(alloc, &rows[row]) {
+            return Some(row);
+        }
+    }
+    None
 }
 
 #[test]
 fn refuses_by_the_first_cause(rt: HostRuntime) {
-    let alloc = rt.alloc();
-    for rows in [REFUSED.as_slice(), REFUSED_FIRST.as_slice()] {
-        for (text, fault) in rows {
-            let is_right = fault_of(alloc, text.as_bytes()) == Some(*fault);
-            assert!(rt; is_right, "{text}");
-        }
-    }
-    assert_eq!(rt; fault_of(alloc, b"# \xff\n"), Some(PriorityFault::Text));
+    assert_eq!(rt; first_refused_otherwise(rt.alloc(), &REFUSED), None);
+    assert_eq!(rt; first_refused_otherwise(rt.alloc(), &REFUSED_FIRST), None);
+}
+
+/// Why files are refused that are no text, of 65,536 spaces, and of one more.
+fn faults_of_bytes(alloc: Global) -> Result<[Option<PriorityFault>; 3], AllocError> {
+    let longest = spaces(alloc, 65_536)?;
+    let longer = spaces(alloc, 65_537)?;
+    Ok([
+        fault_of(alloc, b"# \xff\n"),
+        fault_of(alloc, &longest),
+        fault_of(alloc, &longer),
+    ])
 }
 
 #[test]
-fn refuses_a_file_past_the_limit_as_long(rt: HostRuntime) -> Result<(), Fail> {
-    let alloc = rt.alloc();
-    let longest = spaces(alloc, 65_536)?;
-    let longer = spaces(alloc, 65_537)?;
-    let told = [fault_of(alloc, &longest), fault_of(alloc, &longer)];
+fn refuses_bytes_that_are_no_text_and_a_file_past_the_limit(rt: HostRuntime) {
+    let told = faults_of_bytes(rt.alloc());
     assert_eq!(rt;
         told,
-        [Some(PriorityFault::MissingKey), Some(PriorityFault::Long)]
+        Ok([
+            Some(PriorityFault::Text),
+            Some(PriorityFault::MissingKey),
+            Some(PriorityFault::Long)
+        ])
     );
-    Ok(())
 }
