@@ -13,3 +13,5 @@ pub use fixtures::{is_example, is_table, layer, layers_of};
 mod cert_tests;
 #[cfg(test)]
 mod plan_tests;
+#[cfg(test)]
+mod sizes;
