@@ -4,12 +4,12 @@ ghost use Rattle.std.specs.List.{list_all, position_or_len, range_with_len};
 ghost use Rattle.pet_base.specs.declared.Kind.{Kind};
 ghost use Rattle.priority_file.specs.declared.kinds.TheConstants.{LAST_PLACE};
 ghost use Rattle.priority_file.specs.Kinds.{has_places, place_index, index_of, has_class, has_kind, all_kinds};
-ghost use Rattle.priority_file.specs.Priority.{layers_with, layers_at, has_places_once, head_is_first, is_need, is_packets, has_each_kind_once, has_no_place_twice, is_priority, layer_of};
+ghost use Rattle.priority_file.specs.Priority.{layers_with, layers_at, has_places_once, head_is_first, is_need, has_each_kind_once, has_no_place_twice, is_priority, layer_of};
 
-use crate::bounds::LONGEST_NAME;
+use crate::bounds::{LONGEST_NAME, is_packets};
 use crate::kinds::{Class, KindSet, LAST_PLACE};
 use arrayvec::{ArrayString, ArrayVec};
-use pet_base::{Kind, MAX_LAYERS, MAX_PACKETS};
+use pet_base::{Kind, MAX_LAYERS};
 use std::marker::Model;
 
 /// A layer: its name, the kinds and places in it, and how many packets show it.
@@ -102,17 +102,11 @@ fn first_with(layers: &[LayerRule], class: Class) -> Option<usize>
 fn keeps_bounds(packets: u16, layers: &[LayerRule]) -> bool
     ensures { result ≡ is_priority (record { packets = packets; layers = layers.now }) }
 {
-    is_packets(packets)
+    is_packets(u64::from(packets))
         && needs_fit(packets, layers)
         && has_each_kind_once(layers)
         && has_no_place_twice(layers)
         && begins_with_head(layers)
-}
-
-fn is_packets(packets: u16) -> bool
-    ensures { result ≡ is_packets packets }
-{
-    packets >= 1 && packets <= MAX_PACKETS
 }
 
 fn needs_fit(packets: u16, layers: &[LayerRule]) -> bool
@@ -137,13 +131,7 @@ fn has_each_kind_once(layers: &[LayerRule]) -> bool
 fn has_once(layers: &[LayerRule], kind: Kind) -> bool
     ensures { result ≡ (layers_with kind layers.now == 1) }
 {
-    layers_with(layers, kind) == 1
-}
-
-fn layers_with(layers: &[LayerRule], kind: Kind) -> usize
-    ensures { result ≡ layers_with kind layers.now }
-{
-    layers.iter().filter(|rule| rule.kinds.has(kind)).count()
+    layers_of_class(layers, Class::of(kind)) == 1
 }
 
 #[tactic(auto, unfolding(crate::specs::Priority::has_no_place_twice))]
