@@ -1,6 +1,6 @@
 -- The groups that the second pass has sent, and one group more.
 use Rattle.std.proofs.Common.{◌≡◌, ℕ, zero, suc, ◌+◌, ◌<◌, ◌≤◌, List, [], ◌∷◌, ◌++◌, length, map, take, drop, get_or, Option, Some, None, refl, sym, ◌∙◌, ap, subst, arith, inl, inr, append_assoc}
-use Rattle.std.specs.Prelude.{slice_get, sum_by, All, is_some, false}
+use Rattle.std.specs.Prelude.{slice_get, sum_by, All, IfNone, is_some, false}
 use Rattle.std.specs.List.{flat_map}
 use Rattle.std.proofs.lemmas.Bool.{cases_lt}
 use Rattle.std.proofs.lemmas.List.{append-nil, length-append, length-map, map_push, get_or_append_left, get_or_past, take-append-drop, take_more, length-take-le, get_or-append-add}
@@ -171,11 +171,6 @@ knows_whole old new priority g k cut = at_last (IsWhole (length priority.layers)
 pub knows_filled : (old new : GroupCutter) (priority : Priorities) (g : CutGroup) → Knows old priority → ((p : Priorities) (stream : List ℕ) (given : List CutGroup) → HasCut old p stream given → HasCut new p stream (given ++ g ∷ [])) → IsFilled g
 knows_filled old new priority g k cut = at_last IsFilled k.given g (given_filled new priority k.stream (k.given ++ g ∷ []) (cut priority k.stream k.given k.cut))
 
--- groups on end, the last of the stream
-pub left_part : (way : Way) (source : Source) (marks : List GroupMark) (stream : List ℕ) (sent : List CutGroup) (g : CutGroup) (later : List CutGroup) (first before after : Routes)
-    → AreAll source.priority stream ((sent ++ g ∷ []) ++ later) → HasSentSome way source marks sent first before → SendsGroupPart way source marks (length sent) g before after → IsPart way source marks (AreFound source.priority stream) first after
-left_part way source marks stream sent g later first before after all h sends = part_at way source marks (AreFound source.priority stream) sent g first before after h (found_of_all source.priority stream (sent ++ g ∷ []) later all) sends
-
 -- the groups so far, the next, and the rest
 pub left_split : (before groups : List CutGroup) (i : ℕ) (g : CutGroup) → i < length groups → get_or groups i g ≡ g → (before ++ take (i + 1) groups ≡ (before ++ take i groups) ++ g ∷ []) × (before ++ groups ≡ ((before ++ take i groups) ++ g ∷ []) ++ drop (i + 1) groups)
 left_split before groups i g lt is =
@@ -188,11 +183,32 @@ left_split before groups i g lt is =
 pub left_length : (before groups : List CutGroup) (i from number : ℕ) → i < length groups → from ≡ length before → number ≡ from + i → number ≡ length (before ++ take i groups)
 left_length before groups i from number lt at count = omega (arith, length-append before (take i groups), length-take-le i groups (omega arith), at, count)
 
+-- one of the groups that are left was sent in part, and one more was sent whole
+pub left_part : (way : Way) (source : Source) (marks : List GroupMark) (stream : List ℕ) (before groups : List CutGroup) (i from number : ℕ) (g : CutGroup) (first old new : Routes)
+    → i < length groups → get_or groups i g ≡ g → from ≡ length before → number ≡ from + i → AreAll source.priority stream (before ++ groups)
+    → HasSentSome way source marks (before ++ take i groups) first old → SendsGroupPart way source marks number g old new → IsPart way source marks (AreFound source.priority stream) first new
+left_part way source marks stream before groups i from number g first old new lt is at count all h sends =
+    let sent = before ++ take i groups in
+    let found = found_of_all source.priority stream (sent ++ g ∷ []) (drop (i + 1) groups) (subst (AreAll source.priority stream) (left_split before groups i g lt is).1 all) in
+    part_at way source marks (AreFound source.priority stream) sent g first old new h found (subst (λ n. SendsGroupPart way source marks n g old new) (left_length before groups i from number lt at count) sends)
+
+pub left_more : (way : Way) (source : Source) (marks : List GroupMark) (before groups : List CutGroup) (i from number : ℕ) (g : CutGroup) (first old new : Routes)
+    → i < length groups → get_or groups i g ≡ g → from ≡ length before → number ≡ from + i
+    → HasSentSome way source marks (before ++ take i groups) first old → SendsGroup way source marks number g old new → new.place.target ≡ old.place.target → HasSentSome way source marks (before ++ take (i + 1) groups) first new
+left_more way source marks before groups i from number g first old new lt is at count h sends target =
+    subst (λ (l : List CutGroup). HasSentSome way source marks l first new) (sym (left_split before groups i g lt is).0)
+    (some_more way source marks (before ++ take i groups) g first old new h (subst (λ n. SendsGroup way source marks n g old new) (left_length before groups i from number lt at count) sends) target)
+
 -- no change was found so far
 pub stands_none : (way : Way) (source : Source) (marks : List GroupMark) (stream : List ℕ) (change : Option Change) (pass : SentGroups) (first now : Routes) → is_some change ≡ false → HasReached way source marks stream change pass first now
     → HasGone way source marks stream pass first now × (pieces_left pass.cutter ≡ 0)
 stands_none way source marks stream None pass first now none h = h
 stands_none way source marks stream (Some c) pass first now none h = absurd cc
+
+-- until then the cutter stands somewhere in a stream
+pub stands_known : (way : Way) (source : Source) (marks : List GroupMark) (stream : List ℕ) (change : Option Change) (pass : SentGroups) (first now : Routes) → HasReached way source marks stream change pass first now → IfNone change (Knows pass.cutter source.priority)
+stands_known way source marks stream None pass first now h = record { stream = stream; given = h.0.groups; cut = h.0.cut }
+stands_known way source marks stream (Some c) pass first now h = tt
 
 all_suffix : (P : CutGroup → Type 0) (xs ys : List CutGroup) → All P (xs ++ ys) → All P ys
 all_suffix P xs ys h i d lt = subst P (get_or-append-add xs ys i d) (h (length xs + i) d (omega (arith, lt, length-append xs ys)))

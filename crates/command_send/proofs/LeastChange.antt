@@ -1,7 +1,8 @@
 -- The group at which the second pass finds a change, and the end of the pass.
-use Rattle.std.proofs.Common.{◌≡◌, ℕ, suc, ◌<◌, ◌≤◌, List, [], ◌∷◌, ◌++◌, length, Option, Some, None, refl, sym, ◌∙◌, ap, subst, arith, inl, inr}
+use Rattle.std.proofs.Common.{◌≡◌, ℕ, suc, ◌<◌, ◌≤◌, List, [], ◌∷◌, ◌++◌, length, take, drop, get_or, ◌+◌, Option, Some, None, refl, sym, ◌∙◌, ap, subst, arith, inl, inr}
 use Rattle.std.specs.Prelude.{slice_get, IfSome, IfNone, MatchOption, is_some, true, false}
 use Rattle.std.proofs.lemmas.Bool.{cases_lt}
+use Rattle.std.proofs.lemmas.Option.{slice_get_within}
 use Rattle.datagram_route.specs.Sending.{Routes}
 use Rattle.datagram_route.specs.Way.{Way}
 use Rattle.stream_session.specs.declared.mark.GroupMark.{GroupMark}
@@ -17,7 +18,7 @@ use Rattle.command_send.specs.declared.second.SentGroups.{SentGroups}
 use Rattle.command_send.specs.Sending.{AgreeBelow, AreFound, AreAllFound, IsNext, HasSentSome, IsChange, IsAllSent}
 use Rattle.command_send.specs.Second.{HasGone, HasMetChange, HasReached, Ends, SendsGroup, Differs, IsFirstLost, NoneLost}
 use Rattle.command_send.proofs.FoundGroups.{found_before, found_of_all}
-use Rattle.command_send.proofs.GroupsSoFar.{mark_past}
+use Rattle.command_send.proofs.GroupsSoFar.{mark_past, left_split, left_length}
 
 -- whether a change was found
 pub is_change : (change : Option Change) → is_some change ≡ true → (c : Change) × (change ≡ Some c)
@@ -37,6 +38,12 @@ when_change (Some c) some p = p
 pub sends_none : (A : Type 0) (B : Change → Type 0) (change : Option Change) → is_some change ≡ false → MatchOption change A B → A
 sends_none A B None none a = a
 sends_none A B (Some c) none b = absurd cc
+
+-- its group then has a table
+pub sent_within : (way : Way) (source : Source) (marks : List GroupMark) (number : ℕ) (g : CutGroup) (before after : Routes) (change : Option Change) → is_some change ≡ false
+    → MatchOption change (SendsGroup way source marks number g before after) (Differs source marks number g before after) → number < length source.tables.items
+sent_within way source marks number g before after None none sends = slice_get_within source.tables.items number (table_of source.priority g.cut) sends.0.table
+sent_within way source marks number g before after (Some c) none sends = absurd cc
 
 -- the next group is another
 next_at : (way : Way) (source : Source) (marks : List GroupMark) (stream : List ℕ) (groups : List CutGroup) (g : CutGroup) (before after : Routes) (change : Change) → AreFound source.priority stream (groups ++ g ∷ [])
@@ -148,9 +155,12 @@ pub ends_lost : (way : Way) (source : Source) (marks : List GroupMark) (stream :
 ends_lost way source marks stream groups from first now None at h all lost none = all_sent way source marks stream groups from first now at h all none
 ends_lost way source marks stream groups from first now (Some change) at h all lost none = lost_change way source marks stream groups from first now change at h all lost
 
--- groups on end, the last of the stream
-pub left_change : (way : Way) (source : Source) (marks : List GroupMark) (stream : List ℕ) (sent : List CutGroup) (g : CutGroup) (later : List CutGroup) (first before after : Routes) (change : Option Change) → is_some change ≡ true
-    → AreAll source.priority stream ((sent ++ g ∷ []) ++ later) → HasSentSome way source marks sent first before
-    → MatchOption change (SendsGroup way source marks (length sent) g before after) (Differs source marks (length sent) g before after) → Ends way source marks stream change first after
-left_change way source marks stream sent g later first before after None some all h sends = absurd cc
-left_change way source marks stream sent g later first before after (Some c) some all h sends = change_is way source marks stream sent g first before after c h (found_of_all source.priority stream (sent ++ g ∷ []) later all) sends
+-- one of the groups that are left is another
+pub left_change : (way : Way) (source : Source) (marks : List GroupMark) (stream : List ℕ) (before groups : List CutGroup) (i from number : ℕ) (g : CutGroup) (first old new : Routes) (change : Option Change)
+    → is_some change ≡ true → i < length groups → get_or groups i g ≡ g → from ≡ length before → number ≡ from + i → AreAll source.priority stream (before ++ groups) → HasSentSome way source marks (before ++ take i groups) first old
+    → MatchOption change (SendsGroup way source marks number g old new) (Differs source marks number g old new) → Ends way source marks stream change first new
+left_change way source marks stream before groups i from number g first old new None some lt is at count all h sends = absurd cc
+left_change way source marks stream before groups i from number g first old new (Some c) some lt is at count all h sends =
+    let sent = before ++ take i groups in
+    let found = found_of_all source.priority stream (sent ++ g ∷ []) (drop (i + 1) groups) (subst (AreAll source.priority stream) (left_split before groups i g lt is).1 all) in
+    change_is way source marks stream sent g first old new c h found (subst (λ n. Differs source marks n g old new c) (left_length before groups i from number lt at count) sends)

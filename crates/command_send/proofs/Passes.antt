@@ -11,7 +11,7 @@ use Rattle.command_files.specs.laws.PrintedLaws.{Rose-since}
 use Rattle.datagram_route.specs.declared.fault.RouteStop.{RouteStop}
 use Rattle.datagram_route.specs.declared.fault.RouteStop.TheVariants as stop
 use Rattle.datagram_route.specs.RouteFaults.{IsStop}
-use Rattle.datagram_route.specs.Sending.{Routes, OnlyGrows, OutputFailed, SendingFailed}
+use Rattle.datagram_route.specs.Sending.{Routes, IsOpen, OnlyGrows, OutputFailed, SendingFailed}
 use Rattle.datagram_route.specs.Way.{Way, OnFile, OnLink}
 use Rattle.datagram_route.specs.laws.SendingLaws.{output_failed, sending_failed}
 use Rattle.command_send.specs.Second.{OnlyPasses}
@@ -50,24 +50,30 @@ passes_grows old new grows = record {
   link_later = grows.link_later;
 }
 
--- a stop of a later part of the pass is one of the whole
-stop_later : (way : Way) (first before after : Routes) (why : RouteStop) → OnlyGrows first before → IsStop (OutputFailed way before.place after.place) (SendingFailed way before.link after.link) ⊥ why
-    → IsStop (OutputFailed way first.place after.place) (SendingFailed way first.link after.link) ⊥ why
-stop_later way first before after stop.NoMemory grows failed = tt
-stop_later way first before after stop.Place grows failed = output_failed way first before after grows failed
-stop_later way first before after stop.Link grows failed = sending_failed way first before after grows failed
-stop_later way first before after stop.Out grows failed = failed
+-- a way that is open stays so
+pub passes_open : (way : Way) (old new : Routes) → OnlyPasses old new → IsOpen way old → IsOpen way new
+passes_open (OnFile name) old new passes is = passes.names.has_output ∙ is
+passes_open (OnLink address) old new passes is = tt
+
+-- a stop stays one, by causes that follow from its own
+stop_by : {P Q L M : Type 0} (why : RouteStop) → (P → Q) → (L → M) → IsStop P L ⊥ why → IsStop Q M ⊥ why
+stop_by stop.NoMemory place link failed = tt
+stop_by stop.Place place link failed = place failed
+stop_by stop.Link place link failed = link failed
+stop_by stop.Out place link failed = failed
 
 -- through `?`, which hands the same fault on
 pub handed_on : {A E : Type 0} (Q : E → Type 0) (result : Result A E) (why : E) → IsErrAnd result (λ answer. answer ≡ why) → Q why → IfErr result Q
 handed_on Q (Ok x) why is q = tt
 handed_on Q (Err answer) why is q = subst Q (sym is) q
 
+-- a stop of a later part of the pass is one of the whole
 pub stop_on : {A : Type 0} (way : Way) (first before after : Routes) (result : Result A RouteStop) (why : RouteStop) → IsErrAnd result (λ answer. answer ≡ why) → OnlyGrows first before
     → IsStop (OutputFailed way before.place after.place) (SendingFailed way before.link after.link) ⊥ why
     → IfErr result (IsStop (OutputFailed way first.place after.place) (SendingFailed way first.link after.link) ⊥)
 stop_on way first before after result why is grows failed =
-    handed_on (IsStop (OutputFailed way first.place after.place) (SendingFailed way first.link after.link) ⊥) result why is (stop_later way first before after why grows failed)
+    handed_on (IsStop (OutputFailed way first.place after.place) (SendingFailed way first.link after.link) ⊥) result why is
+    (stop_by why (output_failed way first before after grows) (sending_failed way first before after grows) failed)
 
 -- and also of a pass that has read
 place_failed : (way : Way) (first before after : Routes) → OnlyPasses first before → OutputFailed way before.place after.place → PassFailed way first.place after.place
@@ -83,15 +89,9 @@ link_failed (OnLink address) first before after passes failed = record {
   blame = subst (λ (o : Option (List ℕ)). IfSome after.link.blamed (Blames Aimed o)) passes.link.aimed failed.blame;
 }
 
-stop_passed : (way : Way) (first before after : Routes) (why : RouteStop) → OnlyPasses first before → IsStop (OutputFailed way before.place after.place) (SendingFailed way before.link after.link) ⊥ why
-    → IsStop (PassFailed way first.place after.place) (SendingFailed way first.link after.link) ⊥ why
-stop_passed way first before after stop.NoMemory passes failed = tt
-stop_passed way first before after stop.Place passes failed = place_failed way first before after passes failed
-stop_passed way first before after stop.Link passes failed = link_failed way first before after passes failed
-stop_passed way first before after stop.Out passes failed = failed
-
 pub stop_after : {A : Type 0} (way : Way) (first before after : Routes) (result : Result A RouteStop) (why : RouteStop) → IsErrAnd result (λ answer. answer ≡ why) → OnlyPasses first before
     → IsStop (OutputFailed way before.place after.place) (SendingFailed way before.link after.link) ⊥ why
     → IfErr result (IsStop (PassFailed way first.place after.place) (SendingFailed way first.link after.link) ⊥)
 stop_after way first before after result why is passes failed =
-    handed_on (IsStop (PassFailed way first.place after.place) (SendingFailed way first.link after.link) ⊥) result why is (stop_passed way first before after why passes failed)
+    handed_on (IsStop (PassFailed way first.place after.place) (SendingFailed way first.link after.link) ⊥) result why is
+    (stop_by why (place_failed way first before after passes) (link_failed way first before after passes) failed)

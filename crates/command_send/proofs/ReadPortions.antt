@@ -21,7 +21,7 @@ use Rattle.command_send.specs.Second.{HasGone, HasReached, Ends}
 use Rattle.datagram_route.specs.Sending.{Routes, Sends}
 use Rattle.datagram_route.specs.Way.{Way}
 use Rattle.datagram_route.specs.laws.SendingLaws.{part_nothing, sends_nothing, sends_read}
-use Rattle.command_send.proofs.GroupsSoFar.{text_none}
+use Rattle.command_send.proofs.GroupsSoFar.{text_none, part_stands}
 
 prefix_at : (stream : List ℕ) (now : Option (List ℕ)) → IfSome (prepend_known stream now) (IsPrefix stream)
 prefix_at stream None = tt
@@ -74,6 +74,18 @@ stands_read way source marks stream None pass first before after reads link h =
     (record { groups = h.0.groups; cut = h.0.cut; number = h.0.number; sent = some_read way source marks h.0.groups first before after reads link h.0.sent }, h.1)
 stands_read way source marks stream (Some c) pass first before after reads link h =
     (record { least = h.0.least; sent = some_read way source marks h.0.least.before first before after reads link h.0.sent }, h.1, h.2)
+
+-- a portion that could not be taken, and one that was taken and then not all sent
+pub part_taken : (way : Way) (source : Source) (marks : List GroupMark) (stream : List ℕ) (change : Option Change) (pass : SentGroups) (first before after : Routes) → first.place.rest ≡ prepend_known stream before.place.rest
+    → OnlyReads before.place after.place → after.link ≡ before.link → HasReached way source marks stream change pass first before → SentPart way source marks first after
+part_taken way source marks stream change pass first before after rest reads link h =
+    part_read way source marks stream before.place.rest first after rest (part_stands way source marks stream change pass first after (stands_read way source marks stream change pass first before after reads link h))
+
+pub part_fed : (way : Way) (source : Source) (marks : List GroupMark) (stream portion : List ℕ) (change : Option Change) (pass : SentGroups) (first before after now : Routes) → first.place.rest ≡ prepend_known stream before.place.rest
+    → before.place.rest ≡ prepend_known portion after.place.rest → OnlyReads before.place after.place → after.link ≡ before.link → HasReached way source marks stream change pass first before
+    → (HasReached way source marks stream change pass first after → IsPart way source marks (HaveEnded source.priority (stream ++ portion)) first now) → SentPart way source marks first now
+part_fed way source marks stream portion change pass first before after now rest taken reads link h part =
+    part_read way source marks (stream ++ portion) after.place.rest first now (rest_more stream portion first.place.rest before.place.rest after.place.rest rest taken) (part (stands_read way source marks stream change pass first before after reads link h))
 
 prepend_none : (known : Option (List ℕ)) → prepend_known [] known ≡ known
 prepend_none None = refl

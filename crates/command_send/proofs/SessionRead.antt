@@ -1,7 +1,7 @@
 -- The session that was read with its marks, and what of it was sent.
 use Rattle.std.proofs.Common.{◌≡◌, ℕ, ◌+◌, ◌*◌, ◌≤◌, List, [], ◌∷◌, length, Option, Some, None, refl, sym, ap, subst, ◌∙◌, inl, inr, arith}
 use Rattle.std.proofs.lemmas.List.{append-nil}
-use Rattle.std.specs.Prelude.{◌⊎◌, IfSome, option_map, Result, Ok, Err, IfErr, IsErrAnd}
+use Rattle.std.specs.Prelude.{◌⊎◌, IfSome, option_map}
 use Rattle.std.specs.List.{sum_by}
 use Rattle.datagram_route.specs.declared.fault.RouteStop.TheVariants as stop
 use Rattle.datagram_route.specs.RouteFaults.{AimedFailed}
@@ -171,8 +171,3 @@ keeps_same (OnLink address) old = record { feed = refl; port = refl; bound = ref
 pub leaves_nothing : (stream priority : List ℕ) (way : Way) (old new : Routes) → new.place.files ≡ old.place.files → new.link ≡ old.link → LeavesFront stream priority way old new
 leaves_nothing stream priority (OnFile to) old new files link = inl (Wrote-nothing old.place new.place files)
 leaves_nothing stream priority (OnLink address) old new files link = (inl (ap (λ l. l.sent) link), files)
-
--- through `?`, which hands the same fault on
-pub cause_on : {A : Type 0} (P Q : SendFault → Type 0) (result : Result A SendFault) (f : SendFault) → IsErrAnd result (λ answer. answer ≡ f) → (P f → Q f) → P f → IfErr result Q
-cause_on P Q (Ok x) f is h p = tt
-cause_on P Q (Err answer) f is h p = subst Q (sym is) (h p)

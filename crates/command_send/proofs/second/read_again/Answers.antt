@@ -1,50 +1,47 @@
 use Rattle.std.proofs.Common.{refl, ◌≡◌, ◌++◌, length, take, arith}
 use Rattle.std.proofs.lemmas.List.{length-append, length-take-le}
 use Rattle.pet_base.specs.laws.Through.{on_any_err}
-use Rattle.command_send.proofs.GroupsSoFar.{part_stands}
-use Rattle.command_send.proofs.Passes.{passes_then, passes_reads, passes_grows}
-use Rattle.command_send.proofs.ReadPortions.{part_read, rest_more, stands_read, taken_end}
+use Rattle.command_send.proofs.GroupsSoFar.{stands_known}
+use Rattle.command_send.proofs.Passes.{passes_open, passes_then, passes_reads, passes_grows}
+use Rattle.command_send.proofs.ReadPortions.{part_fed, part_taken, rest_more, stands_read, taken_end}
 use Rattle.datagram_route.specs.Sending.{routes}
 use Rattle.datagram_route.specs.Way.{way_of}
 use Rattle.command_send.proofs.second.read_again.Goals as goal
 
 pub returns-in_err-count-clause-part : goal.returns-in_err-count-clause-part
 returns-in_err-count-clause-part g c =
-    let source = c.args.found.now.source in
-    let marks = c.args.found.now.marks.items in
     let i = c.loop-read.invariant in
-    let first = routes g.P.Place g.K.Link c.args.place.now c.args.link.now in
-    let before = routes g.P.Place g.K.Link c.loop-read.place c.loop-read.link in
-    let after = routes g.P.Place g.K.Link c.take_portion.new.place c.loop-read.link in
     on_any_err c.from_residual.result
-    (part_read (way_of c.args.found.now.to) source marks i.stream before.place.rest first after i.rest
-    (part_stands (way_of c.args.found.now.to) source marks i.stream c.loop-read.pass.change c.loop-read.pass.groups first after (stands_read (way_of c.args.found.now.to) source marks i.stream c.loop-read.pass.change c.loop-read.pass.groups first before after c.take_portion.ensures.others refl i.stands)))
+    (part_taken (way_of c.args.found.now.to) c.args.found.now.source c.args.found.now.marks.items i.stream c.loop-read.pass.change c.loop-read.pass.groups (routes g.P.Place g.K.Link c.args.place.now c.args.link.now) (routes g.P.Place g.K.Link c.loop-read.place c.loop-read.link) (routes g.P.Place g.K.Link c.take_portion.new.place c.loop-read.link)
+    i.rest c.take_portion.ensures.others refl i.stands)
 
 pub returns-then-count-eq0-clause-stands : goal.returns-then-count-eq0-clause-stands
 returns-then-count-eq0-clause-stands g c =
-    let source = c.args.found.now.source in
-    let marks = c.args.found.now.marks.items in
-    let i = c.loop-read.invariant in
-    let first = routes g.P.Place g.K.Link c.args.place.now c.args.link.now in
-    let before = routes g.P.Place g.K.Link c.loop-read.place c.loop-read.link in
-    let after = routes g.P.Place g.K.Link c.take_portion.new.place c.loop-read.link in (
+    let seen = g.P.Place.seen in
+    let i = c.loop-read.invariant in (
       i.stream,
-      taken_end i.stream c.take_portion.new.buffer c.in_ok-count.count first.place before.place after.place i.rest i.few c.in_ok-count.ensures.taken c.if-count-eq0.true c.in_ok-count.ensures.end,
-      stands_read (way_of c.args.found.now.to) source marks i.stream c.loop-read.pass.change c.loop-read.pass.groups first before after c.take_portion.ensures.others refl i.stands,
+      taken_end i.stream c.take_portion.new.buffer c.in_ok-count.count (seen c.args.place.now) (seen c.loop-read.place) (seen c.take_portion.new.place) i.rest i.few c.in_ok-count.ensures.taken c.if-count-eq0.true c.in_ok-count.ensures.end,
+      stands_read (way_of c.args.found.now.to) c.args.found.now.source c.args.found.now.marks.items i.stream c.loop-read.pass.change c.loop-read.pass.groups (routes g.P.Place g.K.Link c.args.place.now c.args.link.now) (routes g.P.Place g.K.Link c.loop-read.place c.loop-read.link) (routes g.P.Place g.K.Link c.take_portion.new.place c.loop-read.link) c.take_portion.ensures.others refl i.stands,
     )
 
-pub returns-in_err-feed-clause-part : goal.returns-in_err-feed-clause-part
-returns-in_err-feed-clause-part g c =
-    let source = c.args.found.now.source in
-    let marks = c.args.found.now.marks.items in
-    let i = c.loop-read.invariant in
+pub feed-requires-clause-open : goal.feed-requires-clause-open
+feed-requires-clause-open g c =
     let first = routes g.P.Place g.K.Link c.args.place.now c.args.link.now in
     let before = routes g.P.Place g.K.Link c.loop-read.place c.loop-read.link in
     let after = routes g.P.Place g.K.Link c.take_portion.new.place c.loop-read.link in
-    let portion = take c.in_ok-count.count c.take_portion.new.buffer in
+    passes_open (way_of c.args.found.now.to) first after (passes_then first before after c.loop-read.invariant.others (passes_reads before after c.take_portion.ensures.others refl c.take_portion.ensures.cause.later)) c.requires.open
+
+pub feed-requires-clause-known : goal.feed-requires-clause-known
+feed-requires-clause-known g c =
+    stands_known (way_of c.args.found.now.to) c.args.found.now.source c.args.found.now.marks.items c.loop-read.invariant.stream c.loop-read.pass.change c.loop-read.pass.groups (routes g.P.Place g.K.Link c.args.place.now c.args.link.now) (routes g.P.Place g.K.Link c.loop-read.place c.loop-read.link) c.loop-read.invariant.stands
+
+pub returns-in_err-feed-clause-part : goal.returns-in_err-feed-clause-part
+returns-in_err-feed-clause-part g c =
+    let i = c.loop-read.invariant in
+    let first = routes g.P.Place g.K.Link c.args.place.now c.args.link.now in
     on_any_err c.from_residual-in_err-feed.result
-    (part_read (way_of c.args.found.now.to) source marks (i.stream ++ portion) after.place.rest first (routes g.P.Place g.K.Link c.feed.new.place c.feed.new.link) (rest_more i.stream portion first.place.rest before.place.rest after.place.rest i.rest c.in_ok-count.ensures.taken)
-    (c.in_err-feed.ensures.part i.stream first (stands_read (way_of c.args.found.now.to) source marks i.stream c.loop-read.pass.change c.loop-read.pass.groups first before after c.take_portion.ensures.others refl i.stands)))
+    (part_fed (way_of c.args.found.now.to) c.args.found.now.source c.args.found.now.marks.items i.stream (take c.in_ok-count.count c.take_portion.new.buffer) c.loop-read.pass.change c.loop-read.pass.groups first (routes g.P.Place g.K.Link c.loop-read.place c.loop-read.link) (routes g.P.Place g.K.Link c.take_portion.new.place c.loop-read.link) (routes g.P.Place g.K.Link c.feed.new.place c.feed.new.link)
+    i.rest c.in_ok-count.ensures.taken c.take_portion.ensures.others refl i.stands (c.in_err-feed.ensures.part i.stream first))
 
 pub loop-read-preserved : goal.loop-read-preserved
 loop-read-preserved g c =

@@ -1,7 +1,7 @@
 use Rattle.std.proofs.Common.{refl, arith}
 use Rattle.pet_base.specs.laws.Through.{on_any_err}
-use Rattle.command_send.proofs.GroupsSoFar.{cost_all}
-use Rattle.command_send.proofs.Passes.{passes_same, passes_then, passes_grows, handed_on, stop_after}
+use Rattle.command_send.proofs.GroupsSoFar.{cost_all, stands_known}
+use Rattle.command_send.proofs.Passes.{passes_open, passes_same, passes_then, passes_grows, handed_on, stop_after}
 use Rattle.command_send.proofs.ReadPortions.{part_start, gone_start, part_end, sent_end, taken_write}
 use Rattle.command_send.specs.Sending.{PassFailed}
 use Rattle.datagram_route.specs.RouteFaults.{IsStop}
@@ -18,6 +18,15 @@ returns-in_err-new-clause-part g c = on_any_err c.from_residual-in_err-new.resul
 pub read_again-requires-clause-begun : goal.read_again-requires-clause-begun
 read_again-requires-clause-begun g c =
     (gone_start (way_of c.args.found.now.to) c.args.found.now.source c.args.found.now.marks.items (record { cutter = c.in_ok-new.field-0; sent = 0 }) (routes g.P.Place g.K.Link c.args.place.now c.args.link.now) c.in_ok-new.ensures.cut refl, c.in_ok-new.ensures.none_left)
+
+pub finish-requires-clause-open : goal.finish-requires-clause-open
+finish-requires-clause-open g c =
+    passes_open (way_of c.args.found.now.to) (routes g.P.Place g.K.Link c.args.place.now c.args.link.now) (routes g.P.Place g.K.Link c.read_again.new.place c.read_again.new.link) c.read_again.ensures.others c.requires.open
+
+pub finish-requires-clause-known : goal.finish-requires-clause-known
+finish-requires-clause-known g c =
+    let read = c.in_ok-read_again.ensures.stands in
+    stands_known (way_of c.args.found.now.to) c.args.found.now.source c.args.found.now.marks.items read.0 c.read_again.new.pass.change c.read_again.new.pass.groups (routes g.P.Place g.K.Link c.args.place.now c.args.link.now) (routes g.P.Place g.K.Link c.read_again.new.place c.read_again.new.link) read.2
 
 pub returns-in_err-read_again-clause-cost : goal.returns-in_err-read_again-clause-cost
 returns-in_err-read_again-clause-cost g c = omega (arith, c.read_again.ensures.cost, cost_all c.args.found.now.source.tables.items)

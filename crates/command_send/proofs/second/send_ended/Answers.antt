@@ -1,13 +1,11 @@
 use Rattle.std.proofs.Common.{◌+◌, ◌++◌, ◌∙◌, ap, sym, subst, refl, arith}
 use Rattle.std.specs.Prelude.{Option, is_some}
-use Rattle.std.proofs.lemmas.Option.{slice_get_within}
-use Rattle.stream_session.specs.Tables.{table_of}
 use Rattle.datagram_route.specs.laws.SendingLaws.{grows_same, grows_then, grows_open}
 use Rattle.pet_base.specs.laws.Through.{on_any_err}
 use Rattle.group_cutter.specs.CutGroups.{CutGroup}
 use Rattle.group_cutter.specs.Cutting.{HasCut, groups_in}
 use Rattle.command_send.specs.Second.{SendsGroup, Differs}
-use Rattle.command_send.proofs.LeastChange.{stands_change, sends_none, when_change}
+use Rattle.command_send.proofs.LeastChange.{stands_change, sends_none, sent_within, when_change}
 use Rattle.command_send.proofs.Passes.{stop_on}
 use Rattle.command_send.proofs.GroupsSoFar.{cost_next, gone_more, gone_part, part_gone, knows_more, knows_whole, knows_filled}
 use Rattle.datagram_route.specs.Sending.{routes}
@@ -119,11 +117,12 @@ returns-clause-left g c = omega (arith, c.loop-group.invariant.left)
 
 pub overflow_add-groups : goal.overflow_add-groups
 overflow_add-groups g c =
-    let source = c.args.found.now.source in
-    let before = routes g.P.Place g.K.Link c.loop-group.place c.loop-group.link in
-    let after = routes g.P.Place g.K.Link c.send_group.new.place c.send_group.new.link in
-    let sends = sends_none (SendsGroup (way_of c.args.found.now.to) source c.args.found.now.marks.items c.loop-group.groups.sent c.in-Some.group before after) (Differs source c.args.found.now.marks.items c.loop-group.groups.sent c.in-Some.group before after) c.in_ok-change.change (sym c.is_some.ensures ∙ c.if-is_some.false) c.in_ok-change.ensures.sends in
-    omega (arith, slice_get_within source.tables.items c.loop-group.groups.sent (table_of source.priority c.in-Some.group.cut) sends.0.table, c.args.found.now.few)
+    omega (
+      arith,
+      c.args.found.now.few,
+      sent_within (way_of c.args.found.now.to) c.args.found.now.source c.args.found.now.marks.items c.loop-group.groups.sent c.in-Some.group (routes g.P.Place g.K.Link c.loop-group.place c.loop-group.link) (routes g.P.Place g.K.Link c.send_group.new.place c.send_group.new.link)
+          c.in_ok-change.change (sym c.is_some.ensures ∙ c.if-is_some.false) c.in_ok-change.ensures.sends,
+    )
 
 pub loop-group-smaller : goal.loop-group-smaller
 loop-group-smaller g c = c.in_ok-group.ensures.fewer (ap is_some c.in-Some.is)

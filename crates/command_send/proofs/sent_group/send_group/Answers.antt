@@ -48,3 +48,7 @@ returns-clause-sends g c =
       },
       c.in_ok-put_packets.ensures.sends,
     )
+
+-- an edit that answers a change here is refused at once
+pub returns-clause-idle : goal.returns-clause-idle
+returns-clause-idle g c = tt

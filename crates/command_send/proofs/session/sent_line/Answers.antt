@@ -1,9 +1,13 @@
-use Rattle.std.proofs.Common.{◌∙◌, ap, subst, refl}
+use Rattle.std.proofs.Common.{◌∙◌, ap, inl, subst, refl}
+use Rattle.command_files.specs.laws.WroteLaws.{Wrote-nothing}
 use Rattle.pet_base.specs.laws.Through.{on_any_err}
 use Rattle.datagram_route.specs.Sending.{routes}
+use Rattle.datagram_route.specs.declared.fault.RouteStop.TheVariants.{NoMemory}
 use Rattle.datagram_route.specs.Way.{Way, way_of}
-use Rattle.command_send.proofs.SessionRead.{line_of_pass, left_to, sent_to, stops_to, costs_to, sent_left, cause_on, keeps_same, leaves_nothing}
-use Rattle.command_send.specs.SendParts.{IsSendFault, SessionStops}
+use Rattle.command_send.proofs.SessionRead.{line_of_pass, left_to, sent_to, stops_to, costs_to, sent_left, keeps_same, leaves_nothing}
+use Rattle.command_send.proofs.Passes.{handed_on}
+use Rattle.command_send.specs.declared.fault.SendFault.TheVariants.{Source, Stopped}
+use Rattle.command_send.specs.SendParts.{IsSendFault}
 use Rattle.command_send.specs.Sends.{KeepsLink}
 use Rattle.command_send.proofs.session.sent_line.Goals as goal
 
@@ -11,6 +15,16 @@ pub returns-in_err-found-clause-left : goal.returns-in_err-found-clause-left
 returns-in_err-found-clause-left g c =
     on_any_err c.from_residual.result
     (leaves_nothing c.args.stream.now c.args.priority.now (way_of c.args.to) (routes g.P.Place g.K.Link c.args.place.now c.args.link.now) (routes g.P.Place g.K.Link c.read_first.new.place c.args.link.now) c.read_first.ensures.others.files refl)
+
+pub returns-in_err-found-clause-cause : goal.returns-in_err-found-clause-cause
+returns-in_err-found-clause-cause g c =
+    let old = routes g.P.Place g.K.Link c.args.place.now c.args.link.now in
+    let new = routes g.P.Place g.K.Link c.read_first.new.place c.args.link.now in
+    handed_on (IsSendFault old new c.args.stream.now c.args.priority.now (way_of c.args.to)) c.from_residual.result (Source c.in_err-found.field-0.0) c.from_residual.ensures.1
+    (c.in_err-found.ensures.cause, (Wrote-nothing old.place new.place c.read_first.ensures.others.files, refl))
+
+pub returns-in_err-found-clause-costs : goal.returns-in_err-found-clause-costs
+returns-in_err-found-clause-costs g c = inl refl
 
 pub returns-in_err-found-clause-link : goal.returns-in_err-found-clause-link
 returns-in_err-found-clause-link g c = keeps_same (way_of c.args.to) (g.K.Link.seen c.args.link.now)
@@ -31,10 +45,8 @@ returns-in_err-send_session-clause-cause g c =
     let old = routes g.P.Place g.K.Link c.args.place.now c.args.link.now in
     let mid = routes g.P.Place g.K.Link c.read_first.new.place c.args.link.now in
     let new = routes g.P.Place g.K.Link c.send_session.new.place c.send_session.new.link in
-    let found = c.in_ok-found.found in
-    cause_on (SessionStops found.source found.marks.items c.args.stream.now (way_of found.to) mid new) (IsSendFault old new c.args.stream.now c.args.priority.now (way_of c.args.to)) c.from_residual-in_err-send_session.result c.in_err-send_session.field-0.0 c.from_residual-in_err-send_session.ensures.1
-    (stops_to old mid new c.in_ok-found.ensures.read c.read_first.ensures.others.files refl (ap way_of c.in_ok-found.ensures.to) c.read_first.ensures.later c.in_err-send_session.field-0.0)
-    c.in_err-send_session.ensures.cause
+    handed_on (IsSendFault old new c.args.stream.now c.args.priority.now (way_of c.args.to)) c.from_residual-in_err-send_session.result c.in_err-send_session.field-0.0 c.from_residual-in_err-send_session.ensures.1
+    (stops_to old mid new c.in_ok-found.ensures.read c.read_first.ensures.others.files refl (ap way_of c.in_ok-found.ensures.to) c.read_first.ensures.later c.in_err-send_session.field-0.0 c.in_err-send_session.ensures.cause)
 
 pub returns-in_err-send_session-clause-costs : goal.returns-in_err-send_session-clause-costs
 returns-in_err-send_session-clause-costs g c = costs_to c.in_ok-found.ensures.read c.args.steps.now c.send_session.new.steps c.send_session.ensures.cost
@@ -47,6 +59,12 @@ returns-in_err-line_of-clause-left g c =
     let found = c.in_ok-found.found in
     on_any_err c.from_residual-in_err-line_of.result
     (left_to old mid new c.in_ok-found.ensures.read c.read_first.ensures.others.files refl (ap way_of c.in_ok-found.ensures.to) (sent_left found.source found.marks.items c.args.stream.now (way_of found.to) mid new c.in_ok-send_session.ensures.sent))
+
+pub returns-in_err-line_of-clause-cause : goal.returns-in_err-line_of-clause-cause
+returns-in_err-line_of-clause-cause g c =
+    let old = routes g.P.Place g.K.Link c.args.place.now c.args.link.now in
+    let new = routes g.P.Place g.K.Link c.send_session.new.place c.send_session.new.link in
+    handed_on (IsSendFault old new c.args.stream.now c.args.priority.now (way_of c.args.to)) c.from_residual-in_err-line_of.result (Stopped NoMemory) c.from_residual-in_err-line_of.ensures.1 tt
 
 pub returns-in_err-line_of-clause-link : goal.returns-in_err-line_of-clause-link
 returns-in_err-line_of-clause-link g c =
