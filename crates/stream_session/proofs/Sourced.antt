@@ -21,8 +21,9 @@ use Rattle.stream_session.specs.declared.pass.StreamFault.TheVariants as pass
 use Rattle.stream_session.specs.declared.source.SourceFault.TheVariants as source
 use Rattle.stream_session.specs.Refusals.{session_fault}
 use Rattle.command_files.specs.Inputs.{IsFile, IsFrontOf, IsRead, Licensed}
-use Rattle.stream_session.specs.Passing.{IsStreamFault}
-use Rattle.stream_session.specs.Sources.{of_stop, of_stream, of_priority, BothFiles, IsOfSource, IsSourceFault}
+use Rattle.stream_session.specs.declared.pass.SessionPlan.{SessionPlan}
+use Rattle.stream_session.specs.Passing.{IsPlanOf, IsStreamFault}
+use Rattle.stream_session.specs.Sources.{of_stop, of_stream, of_priority, BothFiles, IsOfSource, IsSource, IsSourceFault}
 
 -- all of the file was read
 whole_file : (limit : ℕ) (bytes name : List ℕ) (files : Option Files) → length bytes ≤ limit → IsFrontOf limit bytes files name → IsFile files name bytes
@@ -144,3 +145,17 @@ pub answer_at : (stream priority given file bytes : List ℕ) (read : Priorities
 answer_at stream priority given file bytes read old between P judged same is front holds =
     both_files stream priority file bytes read old between _ judged same (whole_file MAX_STREAM bytes stream between.files (short_stream bytes holds.0) front)
     (judged.rules, subst (λ (f : List ℕ). P (priorities_of file) f bytes) is (subst (λ (p : Priorities). P p given bytes) judged.rules holds.1))
+
+-- the session of both files, by its plan
+unfoldable pub source_by : {files : Option Files} {stream priority : List ℕ} {P : List ℕ → List ℕ → Type 0} (both : BothFiles files stream priority P) (rules : Priorities) (plan : SessionPlan) → rules ≡ priorities_of both.file
+    → IsPlanOf plan (priorities_of both.file) both.file both.bytes → IsSource files stream priority (record { priority = rules; number = plan.number; tables = plan.tables })
+source_by both rules plan is planned = record {
+  file = both.file;
+  bytes = both.bytes;
+  priority_is = both.priority_is;
+  stream_is = both.stream_is;
+  accepted = record { priority_read = both.accepted; stream_read = planned.accepted; fits = planned.fits };
+  rules = is;
+  number = planned.number;
+  tables = planned.tables;
+}

@@ -16,7 +16,6 @@ pub struct GroupMark {
 
 impl GroupMark {
     /// The mark of a group of these bytes. Its length is `u32::MAX` where they are more.
-    #[tactic(auto, unfolding(crate::specs::Marks::mark_of))]
     pub fn of(bytes: &[u8]) -> GroupMark
         ensures { result ≡ mark_of bytes.now }
     {

@@ -1,19 +1,8 @@
+use Rattle.stream_session.proofs.Sourced.{source_by}
 use Rattle.stream_session.proofs.marked.read_marked.Goals as goal
 
 pub returns-clause-source : goal.returns-clause-source
+unfolding source_by
 returns-clause-source g c =
     let both = c.in_ok-rules.ensures.read in
-    let plan = both.holds.1.plan in
-    rw c.of.ensures (
-      record {
-        file = both.file;
-        bytes = both.bytes;
-        priority_is = both.priority_is;
-        stream_is = both.stream_is;
-        accepted = record { priority_read = both.accepted; stream_read = plan.accepted; fits = plan.fits };
-        rules = both.holds.0;
-        number = plan.number;
-        tables = plan.tables;
-      },
-      both.holds.1.marks,
-    )
+    rw c.of.ensures (source_by both _ _ both.holds.0 both.holds.1.plan, both.holds.1.marks)
