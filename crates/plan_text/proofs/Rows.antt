@@ -67,7 +67,11 @@ pub text_begun : (layers : List LayerSize) (old into : List ℕ) → into ≡ ol
 unfolding lengths_text
 text_begun layers old into is = rw is (append_assoc old (codes "lengths") (flat_map row_text (rows_of (lengths_from layers 0)) ++ codes "\n"))
 
--- a stripe of another length
+-- a stripe of the same length, and of another
+pub text_same : (size times next : ℕ) (sizes into : List ℕ) → next ≡ size → into ++ flat_map row_text (rows_of (replicate (times + 1) next ++ sizes)) ≡ into ++ flat_map row_text (rows_of (replicate times size ++ next ∷ sizes))
+text_same size times next sizes into same =
+    ap (λ (lengths : List ℕ). into ++ flat_map row_text (rows_of lengths)) (sym (row_more next times sizes) ∙ ap (λ (length : ℕ). replicate times length ++ next ∷ sizes) same)
+
 pub text_other : (size times next : ℕ) (sizes before into : List ℕ) → next ≢ size → into ≡ before ++ flat_map row_text (rows_of (replicate times size))
     → into ++ flat_map row_text (rows_of (next ∷ sizes)) ≡ before ++ flat_map row_text (rows_of (replicate times size ++ next ∷ sizes))
 text_other size times next sizes before into other is =

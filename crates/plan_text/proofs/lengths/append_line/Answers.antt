@@ -4,6 +4,7 @@ use Rattle.std.proofs.Math.Seq.{take-length}
 use Rattle.std.specs.List.{flat_map}
 use Rattle.stripe_plan.specs.Walk.{stripes_left, IsWithin}
 use Rattle.plan_text.specs.PlanLines.{plan_lengths, rows_of, row_text, lengths_text}
+use Rattle.pet_base.specs.laws.Through.{on_any_err}
 use Rattle.plan_text.proofs.Rows.{few_stripes, text_begun, text_more, front_kept, front_stays}
 use Rattle.plan_text.proofs.lengths.append_line.Goals as goal
 
@@ -35,3 +36,8 @@ loop-size-preserved c =
       text = text_more c.loop-size.into.items c.with_stripe.new.into.items _ _ _ (c.in_ok-row.ensures.text lengths) (subst (λ (l : List (ℕ × ℕ)). c.loop-size.into.items ++ (flat_map row_text (rows_of (replicate c.loop-size.row.times c.loop-size.row.size ++ map (λ (s : ℕ × ℕ). s.1) l)) ++ codes "\n") ≡ c.args.into.now.items ++ lengths_text (plan_lengths c.args.table.now.layers)) left c.loop-size.invariant.text);
       front = front_stays c.args.into.now.items c.loop-size.into.items c.with_stripe.new.into.items c.in_ok-row.ensures.front c.loop-size.invariant.front;
     }
+
+pub returns-in_err-row-clause-err : goal.returns-in_err-row-clause-err
+returns-in_err-row-clause-err c =
+    on_any_err c.from_residual-in_err-row.result
+    (front_stays c.args.into.now.items c.loop-size.into.items c.with_stripe.new.into.items c.in_err-row.ensures.front c.loop-size.invariant.front)

@@ -2,7 +2,8 @@ use Rattle.std.proofs.Common.{◌≡◌, arith, ap, ◌∙◌, ◌++◌, length}
 use Rattle.std.proofs.Math.Seq.{take-length}
 use Rattle.plan_text.specs.PlanLines.{plan_session_text}
 use Rattle.plan_text.specs.PlanText.{plan_text}
-use Rattle.plan_text.proofs.Rows.{front_kept}
+use Rattle.pet_base.specs.laws.Through.{on_any_err}
+use Rattle.plan_text.proofs.Rows.{front_kept, front_stays}
 use Rattle.plan_text.proofs.PlanTexts.{plan_begun, text_next, text_done}
 use Rattle.plan_text.proofs.whole_plan.append_plan.Goals as goal
 
@@ -31,6 +32,11 @@ loop-group-preserved c =
           (omega arith) c.index-tables-group.is c.in_ok-append_group.ensures.ok c.loop-group.invariant.text;
       front = front_kept old into _ new c.in_ok-append_group.ensures.ok c.loop-group.invariant.front;
     }
+
+pub returns-in_err-append_group-clause-err : goal.returns-in_err-append_group-clause-err
+returns-in_err-append_group-clause-err c =
+    on_any_err c.from_residual-in_err-append_group.result
+    (front_stays c.args.into.now.items c.loop-group.into.items c.append_group.new.into.items c.in_err-append_group.ensures.err c.loop-group.invariant.front)
 
 pub returns-clause-ok : goal.returns-clause-ok
 returns-clause-ok c =
