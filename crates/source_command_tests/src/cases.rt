@@ -70,7 +70,7 @@ pub(crate) fn first_wrong(alloc: Global, cases: &[Case]) -> Option<usize> {
 }
 
 /// Whether this case is so.
-fn is_so(alloc: Global, case: &Case) -> Result<bool, NoMemory> {
+pub(crate) fn is_so(alloc: Global, case: &Case) -> Result<bool, NoMemory> {
     let mut place = place_of(alloc, &case.0, case.1[0])?;
     Ok(sends(alloc, case, &mut place)? && has_packets(alloc, place.bytes_of("d"), case.4)?)
 }

@@ -1,9 +1,10 @@
 //! `plan` and `check` over objects in memory. Plans and session numbers were computed outside.
-use crate::cases::{ALL_GO, Case, Files, NO_TYPE, Run, Stream, first_wrong};
+use crate::cases::{ALL_GO, Files, NO_TYPE, Run, Stream, is_so};
 use command_plan::{CheckEnd, PlanEnd};
 use example_session::{PLAN, PRIORITIES, STREAM};
 use mpeg_scan::Scan;
 use priority_file::PriorityFault;
+use std::alloc::Global;
 use stream_session::SessionFault;
 
 /// The example stream; a head and an I picture; heads in one piece of 64,931 and of 64,933 bytes; groups of ten bytes.
@@ -55,108 +56,81 @@ const CHECKED: Run = Run::Check(CheckEnd::Done);
 
 const NO_PLACE_CHECKED: Run = Run::Check(CheckEnd::PlaceFault);
 
+/// Files, the command and its end, and what is printed. No file is made, and nothing is sent.
+type Row = (Files, Run, &'static str);
+
+/// The number of the first of these rows that is not so.
+fn first_other(alloc: Global, rows: &[Row]) -> Option<usize> {
+    for row in 0..rows.len() {
+        let (files, run, printed) = rows[row];
+        if !is_so(alloc, &(files, ALL_GO, run, printed, None, 0)).unwrap_or(false) {
+            return Some(row);
+        }
+    }
+    None
+}
+
 /// Streams and priorities, and their plan or why there is none.
-static PLANS: [Case; 10] = [
-    (
-        (Some(EXAMPLE), Some(PRIORITIES), None),
-        ALL_GO,
-        PLANNED,
-        PLAN,
-        None,
-        0,
-    ),
+static PLANS: [Row; 10] = [
+    ((Some(EXAMPLE), Some(PRIORITIES), None), PLANNED, PLAN),
     (
         (Some(EXAMPLE), Some(NEEDS_IN_ANY_ORDER), None),
-        ALL_GO,
         PLANNED,
         ANY_ORDER_PLAN,
-        None,
-        0,
     ),
     (
         (Some(EXAMPLE), Some(FIRST_B_WITH_P), None),
-        ALL_GO,
         PLANNED,
         FIRST_B_PLAN,
-        None,
-        0,
     ),
     // one run, and two empty layers
     (
         (Some(ONE_PICTURE), Some(PRIORITIES), None),
-        ALL_GO,
         PLANNED,
         ONE_PICTURE_PLAN,
-        None,
-        0,
     ),
-    (
-        (Some(WIDEST), Some(ALL_IN_ONE), None),
-        ALL_GO,
-        PLANNED,
-        WIDEST_PLAN,
-        None,
-        0,
-    ),
+    ((Some(WIDEST), Some(ALL_IN_ONE), None), PLANNED, WIDEST_PLAN),
     (
         (Some(TOO_WIDE), Some(ALL_IN_ONE), None),
-        ALL_GO,
         Run::Plan(PlanEnd::BadPlan(SessionFault::TooWide(0))),
         "",
-        None,
-        0,
     ),
     (
         (Some(MANY), Some(PRIORITIES), None),
-        ALL_GO,
         Run::Plan(PlanEnd::BadPlan(SessionFault::TooManyGroups)),
         "",
-        None,
-        0,
     ),
     (
         (Some(EMPTY), Some(PRIORITIES), None),
-        ALL_GO,
         Run::Plan(PlanEnd::BadStream(Scan::Empty)),
         "",
-        None,
-        0,
     ),
     (
         (Some((NO_TYPE, &[], 0)), Some(PRIORITIES), None),
-        ALL_GO,
         Run::Plan(PlanEnd::BadStream(Scan::PictureType(4, 5))),
         "",
-        None,
-        0,
     ),
     // a bad priority file comes before a bad stream
     (
         (Some(EMPTY), Some(NO_LAYERS), None),
-        ALL_GO,
         Run::Plan(PlanEnd::BadPriority(PriorityFault::MissingKey)),
         "",
-        None,
-        0,
     ),
 ];
 
 #[test]
 fn plans_or_refuses_a_stream(rt: HostRuntime) {
-    assert_eq!(rt; first_wrong(rt.alloc(), &PLANS), None);
+    assert_eq!(rt; first_other(rt.alloc(), &PLANS), None);
 }
 
 const NOT_LEAST: Run = Run::Check(CheckEnd::NotLeast(0));
 
 /// Plan files of the example session.
-static CHECKS: [Case; 7] = [
+static CHECKS: [Row; 7] = [
     (
         (Some(EXAMPLE), Some(PRIORITIES), Some(PLAN)),
-        ALL_GO,
         CHECKED,
         "least 1\n",
-        None,
-        0,
     ),
     (
         (
@@ -164,27 +138,18 @@ static CHECKS: [Case; 7] = [
             Some(PRIORITIES),
             Some("lengths 2x11 1x1 3x1 1x1 5x1 3x1\n"),
         ),
-        ALL_GO,
         NOT_LEAST,
         "",
-        None,
-        0,
     ),
     (
         (Some(EXAMPLE), Some(PRIORITIES), Some("lengths 2x012\n")),
-        ALL_GO,
         Run::Check(CheckEnd::Text(1)),
         "",
-        None,
-        0,
     ),
     (
         (Some(EXAMPLE), Some(PRIORITIES), Some("")),
-        ALL_GO,
         Run::Check(CheckEnd::Lines(0)),
         "",
-        None,
-        0,
     ),
     (
         (
@@ -192,11 +157,8 @@ static CHECKS: [Case; 7] = [
             Some(PRIORITIES),
             Some("lengths 2x12 3x1 5x1 3x1\nlengths 2x12 3x1 5x1 3x1"),
         ),
-        ALL_GO,
         Run::Check(CheckEnd::Lines(2)),
         "",
-        None,
-        0,
     ),
     // too few words, and too many
     (
@@ -205,11 +167,8 @@ static CHECKS: [Case; 7] = [
             Some(PRIORITIES),
             Some("lengths 2x12 3x1 5x1\n"),
         ),
-        ALL_GO,
         NOT_LEAST,
         "",
-        None,
-        0,
     ),
     (
         (
@@ -217,135 +176,96 @@ static CHECKS: [Case; 7] = [
             Some(PRIORITIES),
             Some("lengths 2x12 3x1 5x1 3x1 4294967295x4294967295\n"),
         ),
-        ALL_GO,
         NOT_LEAST,
         "",
-        None,
-        0,
     ),
 ];
 
 #[test]
 fn checks_plans_of_the_example(rt: HostRuntime) {
-    assert_eq!(rt; first_wrong(rt.alloc(), &CHECKS), None);
+    assert_eq!(rt; first_other(rt.alloc(), &CHECKS), None);
 }
 
 /// Files that are missing or bad, each judged before the next is read.
-static JUDGED: [Case; 10] = [
-    ((None, None, None), ALL_GO, NO_PLACE_CHECKED, "", None, 0),
-    ((None, None, None), ALL_GO, NO_PLACE, "", None, 0),
+static JUDGED: [Row; 10] = [
+    ((None, None, None), NO_PLACE_CHECKED, ""),
+    ((None, None, None), NO_PLACE, ""),
     // a bad priority file, and a stream that is missing
     (
         (None, Some(NO_LAYERS), None),
-        ALL_GO,
         Run::Check(CheckEnd::BadPriority(PriorityFault::MissingKey)),
         "",
-        None,
-        0,
     ),
     (
         (None, Some(NO_LAYERS), None),
-        ALL_GO,
         Run::Plan(PlanEnd::BadPriority(PriorityFault::MissingKey)),
         "",
-        None,
-        0,
     ),
-    (
-        (None, Some(PRIORITIES), None),
-        ALL_GO,
-        NO_PLACE_CHECKED,
-        "",
-        None,
-        0,
-    ),
-    (
-        (None, Some(PRIORITIES), None),
-        ALL_GO,
-        NO_PLACE,
-        "",
-        None,
-        0,
-    ),
+    ((None, Some(PRIORITIES), None), NO_PLACE_CHECKED, ""),
+    ((None, Some(PRIORITIES), None), NO_PLACE, ""),
     // a bad stream, and a plan file that is missing
     (
         (Some(EMPTY), Some(PRIORITIES), None),
-        ALL_GO,
         Run::Check(CheckEnd::BadStream(Scan::Empty)),
         "",
-        None,
-        0,
     ),
     (
         (Some(EMPTY), Some(PRIORITIES), None),
-        ALL_GO,
         Run::Plan(PlanEnd::BadStream(Scan::Empty)),
         "",
-        None,
-        0,
     ),
     (
         (Some(EXAMPLE), Some(PRIORITIES), None),
-        ALL_GO,
         NO_PLACE_CHECKED,
         "",
-        None,
-        0,
     ),
-    (
-        (Some(EXAMPLE), Some(PRIORITIES), None),
-        ALL_GO,
-        PLANNED,
-        PLAN,
-        None,
-        0,
-    ),
+    ((Some(EXAMPLE), Some(PRIORITIES), None), PLANNED, PLAN),
 ];
 
 #[test]
 fn judges_one_file_after_the_other(rt: HostRuntime) {
-    assert_eq!(rt; first_wrong(rt.alloc(), &JUDGED), None);
+    assert_eq!(rt; first_other(rt.alloc(), &JUDGED), None);
 }
 
 const ALL: Files = (Some(EXAMPLE), Some(PRIORITIES), Some(PLAN));
 
+/// The calls that fail, the command and its end, and what is printed.
+type Failing = ([&'static [u64]; 3], Run, &'static str);
+
+/// The number of the first of these rows that is not so of all three files.
+fn first_wrong(alloc: Global, rows: &[Failing]) -> Option<usize> {
+    for row in 0..rows.len() {
+        let (calls, run, printed) = rows[row];
+        if !is_so(alloc, &(ALL, calls, run, printed, None, 0)).unwrap_or(false) {
+            return Some(row);
+        }
+    }
+    None
+}
+
 /// Of each file there are three calls: it is entered, has all its bytes taken, and is at its end. What is printed is put in one.
-static FAILING: [Case; 21] = [
-    (ALL, [&[0], &[], &[]], NO_PLACE_CHECKED, "", None, 0),
-    (ALL, [&[1], &[], &[]], NO_PLACE_CHECKED, "", None, 0),
-    (ALL, [&[2], &[], &[]], NO_PLACE_CHECKED, "", None, 0),
-    (ALL, [&[3], &[], &[]], NO_PLACE_CHECKED, "", None, 0),
-    (ALL, [&[4], &[], &[]], NO_PLACE_CHECKED, "", None, 0),
-    (ALL, [&[5], &[], &[]], NO_PLACE_CHECKED, "", None, 0),
-    (ALL, [&[6], &[], &[]], NO_PLACE_CHECKED, "", None, 0),
-    (ALL, [&[7], &[], &[]], NO_PLACE_CHECKED, "", None, 0),
-    (ALL, [&[8], &[], &[]], NO_PLACE_CHECKED, "", None, 0),
-    (ALL, [&[9], &[], &[]], CHECKED, "least 1\n", None, 0),
-    (ALL, [&[0], &[], &[]], NO_PLACE, "", None, 0),
-    (ALL, [&[1], &[], &[]], NO_PLACE, "", None, 0),
-    (ALL, [&[2], &[], &[]], NO_PLACE, "", None, 0),
-    (ALL, [&[3], &[], &[]], NO_PLACE, "", None, 0),
-    (ALL, [&[4], &[], &[]], NO_PLACE, "", None, 0),
-    (ALL, [&[5], &[], &[]], NO_PLACE, "", None, 0),
-    (ALL, [&[6], &[], &[]], PLANNED, PLAN, None, 0),
-    (
-        ALL,
-        [&[], &[], &[0]],
-        Run::Check(CheckEnd::OutFault),
-        "",
-        None,
-        0,
-    ),
-    (ALL, [&[], &[], &[1]], CHECKED, "least 1\n", None, 0),
-    (
-        ALL,
-        [&[], &[], &[0]],
-        Run::Plan(PlanEnd::OutFault),
-        "",
-        None,
-        0,
-    ),
-    (ALL, [&[], &[], &[1]], PLANNED, PLAN, None, 0),
+static FAILING: [Failing; 21] = [
+    ([&[0], &[], &[]], NO_PLACE_CHECKED, ""),
+    ([&[1], &[], &[]], NO_PLACE_CHECKED, ""),
+    ([&[2], &[], &[]], NO_PLACE_CHECKED, ""),
+    ([&[3], &[], &[]], NO_PLACE_CHECKED, ""),
+    ([&[4], &[], &[]], NO_PLACE_CHECKED, ""),
+    ([&[5], &[], &[]], NO_PLACE_CHECKED, ""),
+    ([&[6], &[], &[]], NO_PLACE_CHECKED, ""),
+    ([&[7], &[], &[]], NO_PLACE_CHECKED, ""),
+    ([&[8], &[], &[]], NO_PLACE_CHECKED, ""),
+    ([&[9], &[], &[]], CHECKED, "least 1\n"),
+    ([&[0], &[], &[]], NO_PLACE, ""),
+    ([&[1], &[], &[]], NO_PLACE, ""),
+    ([&[2], &[], &[]], NO_PLACE, ""),
+    ([&[3], &[], &[]], NO_PLACE, ""),
+    ([&[4], &[], &[]], NO_PLACE, ""),
+    ([&[5], &[], &[]], NO_PLACE, ""),
+    ([&[6], &[], &[]], PLANNED, PLAN),
+    ([&[], &[], &[0]], Run::Check(CheckEnd::OutFault), ""),
+    ([&[], &[], &[1]], CHECKED, "least 1\n"),
+    ([&[], &[], &[0]], Run::Plan(PlanEnd::OutFault), ""),
+    ([&[], &[], &[1]], PLANNED, PLAN),
 ];
 
 #[test]
