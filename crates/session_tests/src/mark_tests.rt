@@ -95,21 +95,32 @@ fn stream_of(alloc: Global, case: &Case) -> Result<Vec<u8>, AllocError> {
     Ok(stream)
 }
 
-/// What a stream is read as under the priorities.
-fn read(alloc: Global, case: &Case) -> Result<Result<MarkedSource, SourceFault>, NoMemory> {
+/// A place with this stream and the priorities.
+fn place_of(alloc: Global, case: &Case) -> Result<MemoryPlace, NoMemory> {
     let mut place = MemoryPlace::new(alloc, Vec::new(alloc));
     place.add("s", &stream_of(alloc, case)?)?;
     place.add("p", PRIORITIES.as_bytes())?;
-    Ok(read_marked(alloc, "s", "p", &mut place))
+    Ok(place)
 }
 
 /// Whether a stream is read so.
 fn is_read(alloc: Global, case: &Case) -> bool {
-    match (read(alloc, case), case.3) {
-        (Ok(Ok(marked)), Ok(marks)) => {
-            marked.marks.as_slice() == marks && marked.source.tables.len() == marks.len()
+    match place_of(alloc, case) {
+        Ok(mut place) => is_so(&read_marked(alloc, "s", "p", &mut place), &case.3),
+        Err(NoMemory) => false,
+    }
+}
+
+/// Whether these marks were read, or the stream was refused so.
+fn is_so(
+    read: &Result<MarkedSource, SourceFault>,
+    told: &Result<&[GroupMark], SourceFault>,
+) -> bool {
+    match (read, told) {
+        (Ok(marked), Ok(marks)) => {
+            marked.marks.as_slice() == *marks && marked.source.tables.len() == marks.len()
         }
-        (Ok(Err(fault)), Err(why)) => fault == why,
+        (Err(fault), Err(why)) => *fault == *why,
         _ => false,
     }
 }

@@ -116,27 +116,34 @@ fn with_comment(alloc: Global, text: &str, length: usize) -> Result<Vec<u8>, All
     Ok(bytes)
 }
 
-/// What the two files are read as.
-fn read(alloc: Global, case: &Case) -> Result<Result<Source, SourceFault>, NoMemory> {
+/// A place with the two files, whose calls of these numbers fail.
+fn place_of(alloc: Global, case: &Case) -> Result<MemoryPlace, NoMemory> {
     let mut place = MemoryPlace::new(alloc, Vec::from_slice(alloc, case.3)?);
     if let Some(stream) = case.0 {
         place.add("s", stream)?;
     }
     place.add("p", &with_comment(alloc, case.1, case.2)?)?;
-    Ok(read_source(alloc, "s", "p", &mut place))
+    Ok(place)
 }
 
 /// Whether the files are the example session, or none for this reason.
 fn is_read(alloc: Global, case: &Case) -> bool {
-    match read(alloc, case) {
-        Ok(Ok(source)) => {
-            case.4.is_none()
+    match place_of(alloc, case) {
+        Ok(mut place) => is_so(&read_source(alloc, "s", "p", &mut place), case.4),
+        Err(NoMemory) => false,
+    }
+}
+
+/// Whether the example session was read, or nothing for this reason.
+fn is_so(read: &Result<Source, SourceFault>, why: Option<SourceFault>) -> bool {
+    match read {
+        Ok(source) => {
+            why.is_none()
                 && source.number == SESSION
                 && is_example(&source.tables)
                 && source.priority.packets == 6
         }
-        Ok(Err(fault)) => case.4 == Some(fault),
-        Err(NoMemory) => false,
+        Err(fault) => why == Some(*fault),
     }
 }
 
