@@ -1,43 +1,19 @@
 -- Laws of the datagrams of packets, packet by packet and group by group, for the proofs of callers.
-use Rattle.std.proofs.Common.{◌≡◌, ℕ, zero, suc, ◌+◌, ◌*◌, ◌<◌, ◌≤◌, take, drop, List, [], ◌∷◌, ◌++◌, length, map, append_assoc, refl, sym, ap, subst, ◌∙◌, arith, true≢false}
+use Rattle.std.proofs.Common.{◌≡◌, ℕ, zero, suc, ◌+◌, ◌<◌, ◌≤◌, take, drop, List, [], ◌∷◌, ◌++◌, length, map, append_assoc, refl, sym, ap, subst, ◌∙◌, arith, true≢false}
 use Rattle.std.specs.Prelude.{slice_get, Some, is_some, unwrap_or}
 use Rattle.std.specs.List.{flat_map, range_with_len}
-use Rattle.std.proofs.lemmas.Nat.{mul-le}
 use Rattle.std.proofs.lemmas.List.{append-nil, take-append-drop, take_all, map-append}
 use Rattle.std.proofs.lemmas.List.Folds.{flat_map-map}
 use Rattle.std.proofs.lemmas.List.FromFn.{map-range_with_len_more, take-map-range_with_len}
 use Rattle.std.proofs.lemmas.Grind.{flat_map-append}
 use Rattle.pet_field.specs.Gf16.{gf16_coding}
-use Rattle.stripe_plan.specs.Sizes.{datagram_length_of}
-use Rattle.packet_frame.specs.Frame.{Fields, IsFrame, text}
-use Rattle.packet_frame.specs.laws.Laws.{texts_have_length}
-use Rattle.pet_encode.specs.Encoding.{Encoding, IsGroupOf, frames_text}
-use Rattle.pet_encode.specs.laws.RangeLaws.{frame_at, frames_length}
+use Rattle.packet_frame.specs.Frame.{Fields, text}
+use Rattle.pet_encode.specs.Encoding.{Encoding, IsGroupOf}
 use Rattle.pet_encode.specs.Session.{Session, SessionGroup, packet_of, packets_of_group, packets_from}
 use Rattle.datagram_route.specs.Way.{Way}
 use Rattle.datagram_route.specs.Sending.{Routes, entry_text, entries_of, AreFirst, Sends, SendsPart}
 use Rattle.datagram_route.specs.laws.SendingLaws.{sends_then, part_after, part_within}
 use Rattle.session_packets.specs.Packets.{packet_in, range_datagrams, first_datagrams, group_datagrams, session_packets, session_datagrams, datagrams_text, first_groups_datagrams, AreEncoders, GroupsMakeDatagrams}
-
--- the frames that were put into an empty buffer
-pub frames_are : (e : Encoding) (first count : ℕ) (cleared made lent : List ℕ) → cleared ≡ [] → made ≡ cleared ++ frames_text gf16_coding e first count → lent ≡ made → lent ≡ frames_text gf16_coding e first count
-frames_are e first count cleared made lent none is same = same ∙ is ∙ ap (λ (t : List ℕ). t ++ frames_text gf16_coding e first count) none
-
--- a packet of a range stands at its place among the frames
-pub packet_at : (e : Encoding) (first count p len at n : ℕ) (frames : List ℕ) → frames ≡ frames_text gf16_coding e first count → ((k : ℕ) → first ≤ k → k < first + count → IsFrame (packet_in e k))
-    → len ≡ datagram_length_of e.header.table.layers → p < count → at ≡ p * len → n ≡ len → take n (drop at frames) ≡ text (packet_in e (first + p))
-packet_at e first count p len at n frames is are long l place size =
-    ap (λ k. take k (drop at frames)) size ∙ ap (λ k. take len (drop k frames)) place ∙ ap (λ t. take len (drop (p * len) t)) is
-    ∙ frame_at gf16_coding e len count first p (λ k low high. texts_have_length (packet_in e k) (are k low high) ∙ sym long) l
-
--- and the frames have so many bytes
-pub packets_length : (e : Encoding) (first count len : ℕ) (frames : List ℕ) → frames ≡ frames_text gf16_coding e first count → ((k : ℕ) → first ≤ k → k < first + count → IsFrame (packet_in e k))
-    → len ≡ datagram_length_of e.header.table.layers → length frames ≡ count * len
-packets_length e first count len frames is are long =
-    ap length is ∙ frames_length gf16_coding e len count first (λ k low high. texts_have_length (packet_in e k) (are k low high) ∙ sym long)
-
-pub packet_room : (count p len at long : ℕ) → long ≡ count * len → p < count → at ≡ p * len → at + len ≤ long
-packet_room count p len at long is l place = omega (arith, mul-le (suc p) len count len l (omega arith))
 
 -- the datagram of one packet more
 pub datagrams_more : (e : Encoding) (first n : ℕ) → range_datagrams e first (n + 1) ≡ range_datagrams e first n ++ (text (packet_in e (first + n)) ∷ [])

@@ -1,4 +1,4 @@
-use Rattle.std.proofs.Common.{[], ◌∷◌, refl}
+use Rattle.std.proofs.Common.{[], ◌∷◌, refl, rules}
 use Rattle.pet_base.specs.laws.Through.{on_any_err}
 use Rattle.datagram_route.specs.Sending.{routes}
 use Rattle.datagram_route.specs.Way.{way_of}
@@ -9,3 +9,7 @@ pub returns-in_err-write_entry-clause-part : goal.returns-in_err-write_entry-cla
 returns-in_err-write_entry-clause-part g c =
     let r = routes g.P.Place g.K.Link c.args.place.now c.args.link.now in
     on_any_err c.from_residual.result (part_nothing (way_of c.args.to) (c.args.packet.now ∷ []) r r refl refl)
+
+-- the edits of this call are refused here, without a search for an answer to offer
+pub returns-clause-sends : goal.returns-clause-sends
+returns-clause-sends g c = search rules
