@@ -154,6 +154,17 @@ module _ {E : Type 0} (j level w : ℕ) where
       → known - length rows / 2 ≤ length high
   block_rest known rows high s long l h = rest_fits (2 ^ (j + level)) (2 ^ (j + (level - 1))) w known rows high (power_halves j level s) long l h
 
+-- and of rows that are such blocks in pairs
+module _ {E : Type 0} (j level w m : ℕ) (rows : List E) (s : 0 < level) (long : length rows ≡ 2 ^ (j + level + 1) * w) (em : m ≡ length rows / 2) where
+  pub pairs_low : (low : List E) → low ≡ take m rows → length low ≡ 2 ^ (j + (level - 1) + 1) * w
+  pairs_low low l = length_low (2 ^ (j + level + 1)) (2 ^ (j + (level - 1) + 1)) w m rows low (power_between j level s) long em l
+
+  pub pairs_high : (high : List E) → high ≡ drop m rows → length high ≡ 2 ^ (j + (level - 1) + 1) * w
+  pairs_high high h = length_high (2 ^ (j + level + 1)) (2 ^ (j + (level - 1) + 1)) w m rows high (power_between j level s) long em h
+
+  pub pairs_middle : length rows / 2 ≡ 2 ^ (j + (level - 1) + 1) * w
+  pairs_middle = middle (2 ^ (j + level + 1)) (2 ^ (j + (level - 1) + 1)) w rows (power_between j level s) long
+
 module _ {E : Type 0} (d : E) where
   module _ (n p w m c : ℕ) (rows : List E) (e : n ≡ p + p) (long : length rows ≡ n * w) (em : m ≡ length rows / 2) (l : c < w) where
     pub column_low : (low : List E) → low ≡ take m rows → column d w p c low ≡ take p (column d w n c rows)
@@ -236,6 +247,18 @@ module _ {E : Type 0} (o : Operations E) where
       subst (Expands o j level (column o.nought w r i rows)) (sym (column_append o.nought w k k r i new_low new_high li er nl))
       (expands_step o level n j k (column o.nought w r i rows) (C low) (C high) (C low1) (C high1) (C new_low) (C new_high) e ek cl ch
       (lifts i li).front (lifts i li).back (f i li) (g i li))
+
+  pub expands_pairs : (j level w m : ℕ) (rows low high low1 high1 new_low new_high : List E) → 0 < level → length rows ≡ 2 ^ (j + level + 1) * w → m ≡ length rows / 2
+      → low ≡ take m rows → high ≡ drop m rows → length new_low ≡ 2 ^ (j + (level - 1) + 1) * w
+      → ((i : ℕ) → i < w
+      → Lifts o (2 ^ (j + (level - 1))) (column o.nought w (2 ^ (j + (level - 1) + 1)) i low) (column o.nought w (2 ^ (j + (level - 1) + 1)) i high)
+      (column o.nought w (2 ^ (j + (level - 1) + 1)) i low1) (column o.nought w (2 ^ (j + (level - 1) + 1)) i high1))
+      → Columnwise o.nought (Expands o j (level - 1)) w (2 ^ (j + (level - 1) + 1)) low1 new_low → Columnwise o.nought (Expands o j (level - 1)) w (2 ^ (j + (level - 1) + 1)) high1 new_high
+      → Columnwise o.nought (Expands o j level) w (2 ^ (j + level + 1)) rows (new_low ++ new_high)
+  expands_pairs j level w m rows low high low1 high1 new_low new_high s long em l h nl lifts f g =
+      let q : j + (level - 1) + 1 ≡ j + level = omega arith in
+      expands_columns w level (level - 1) j m (2 ^ (j + (level - 1) + 1)) (2 ^ (j + level + 1)) rows low high low1 high1 new_low new_high (omega arith) (ap (λ i. 2 ^ i) q)
+      (power_between j level s) long em l h nl lifts f g
 
   pub expands_none_columns : (w level j k : ℕ) (rows : List E) → level ≡ 0 → Columnwise o.nought (Expands o j level) w k rows rows
   expands_none_columns w level j k rows e i l = expands_none o level j (column o.nought w k i rows) e

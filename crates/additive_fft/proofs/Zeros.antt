@@ -9,7 +9,7 @@ use Rattle.pet_rows.specs.Columns.{column}
 use Rattle.pet_rows.specs.laws.ColumnLaws.{column_elements}
 use Rattle.additive_fft.specs.Basis.{squared}
 use Rattle.additive_fft.specs.Columnwise.{Columnwise, along, Lifts, Expands, Scales}
-use Rattle.additive_fft.proofs.Columns.{along_at, expands_columns, scales_columns}
+use Rattle.additive_fft.proofs.Columns.{along_at, expands_pairs, pairs_low, scales_columns}
 use Rattle.additive_fft.proofs.OneColumn.{expands_zero, expands_suc, scales_zero, scales_suc}
 
 module _ {E : Type 0} (d : E) where
@@ -157,15 +157,18 @@ module _ {E : Type 0} (P : E → Type 0) (o : Operations E) (f : IsField P o) wh
       (expands_suc o j n rows low high low high low high refl refl l.front l.back (expands_zeros j n low zl) (expands_zeros j n high zh))
 
   -- rows of which the higher half is zero
-  pub expands_low : (w level n j m k r : ℕ) (rows low high new_low : List E) → level ≡ suc n → k ≡ 2 ^ (j + level) → r ≡ k + k → length rows ≡ r * w
-      → m ≡ length rows / 2 → low ≡ take m rows → high ≡ drop m rows → length low ≡ k * w → length new_low ≡ k * w → All P low → Zeros o.nought high
-      → Columnwise o.nought (Expands o j n) w k low new_low → Columnwise o.nought (Expands o j level) w r rows (new_low ++ high)
-  expands_low w level n j m k r rows low high new_low e ek er long em l h ol nl hl z g =
+  pub expands_low : (j level w m : ℕ) (rows low high new_low : List E) → 0 < level → length rows ≡ 2 ^ (j + level + 1) * w → m ≡ length rows / 2
+      → low ≡ take m rows → high ≡ drop m rows → length new_low ≡ length low → All P rows → Zeros o.nought high
+      → Columnwise o.nought (Expands o j (level - 1)) w (2 ^ (j + (level - 1) + 1)) low new_low → Columnwise o.nought (Expands o j level) w (2 ^ (j + level + 1)) rows (new_low ++ high)
+  expands_low j level w m rows low high new_low s long em l h nl hr z g =
       let d = o.nought in
-      expands_columns o w level n j m k r rows low high low high new_low high e ek er long em l h nl
+      let k = 2 ^ (j + (level - 1) + 1) in
+      let ol : length low ≡ k * w = pairs_low j level w m rows s long em low l in
+      let hl : All P low = subst (All P) (sym l) (All-take P m rows hr) in
+      expands_pairs o j level w m rows low high low high new_low high s long em l h (nl ∙ ol)
       (λ i li.
-      lifts_nothing (2 ^ (j + n)) (column d w k i low) (column d w k i high) (column_elements P d w k i low li (omega arith) hl) (column_zeros d w k i high z)) g
-      (λ i li. expands_zeros j n (column d w k i high) (column_zeros d w k i high z))
+      lifts_nothing (2 ^ (j + (level - 1))) (column d w k i low) (column d w k i high) (column_elements P d w k i low li (omega arith) hl) (column_zeros d w k i high z)) g
+      (λ i li. expands_zeros j (level - 1) (column d w k i high) (column_zeros d w k i high z))
 
   -- ---- the scaling
 

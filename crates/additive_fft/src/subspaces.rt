@@ -4,8 +4,10 @@ ghost use Rattle.additive_fft.specs.Constants;
 ghost use Rattle.additive_fft.specs.Subspaces.{HasSubspaces};
 ghost use Rattle.additive_fft.specs.laws.Gf16Subspaces.{gf16_subspaces};
 
+use crate::words::add_words;
 use pet_base::Steps;
 use pet_field::{Field, Gf16Plain};
+use pet_poly::add_scaled;
 use pet_rows::{Products, add_multiple_row, butterfly_row, multiply_row};
 use pet_tables::Gf16Tables;
 use std::sync::ledger::Ledger;
@@ -82,9 +84,7 @@ pub trait Subspaces: Field {
             ≡ Self.coding.ops.plus (slice_index_or into.old i Self.coding.ops.nought) (Self.coding.ops.times by (slice_index_or other.now i Self.coding.ops.nought)) }
         ensures cost { steps.new ≡ steps.old + length other.now }
     {
-        for i in 0..other.len() {
-            into[i] = self.add(into[i], self.mul(by, other[i], steps));
-        }
+        add_scaled(self, into, other, by, steps);
     }
 
     /// Adds to a row the multiple of another of its length by the factor, and what the first has become to that. It counts one
@@ -108,12 +108,8 @@ pub trait Subspaces: Field {
             ≡ Self.coding.ops.plus (slice_index_or low.new i Self.coding.ops.nought) (slice_index_or high.old i Self.coding.ops.nought) }
         ensures cost { steps.new ≡ steps.old + length high.old }
     {
-        for i in 0..high.len() {
-            let from = high[i];
-            let sum = self.add(low[i], self.mul(by, from, steps));
-            low[i] = sum;
-            high[i] = self.add(sum, from);
-        }
+        add_scaled(self, low, high, by, steps);
+        add_words(self, high, low, low.len());
     }
 
     /// The laws of the points and of the constants.

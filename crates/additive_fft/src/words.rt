@@ -3,10 +3,11 @@ ghost use Rattle.std.specs.Prelude.{◌≡◌, ℕ, ◌+◌, ◌<◌, ◌≤◌,
 
 use crate::subspaces::Subspaces;
 use pet_base::Steps;
+use pet_field::Field;
 use std::sync::ledger::Ledger;
 
 /// Adds words, of which those from `known` on are zero, to as many words.
-pub(crate) fn add_words<F: Subspaces>(f: &F, into: &mut [F::Elem], other: &[F::Elem], known: usize)
+pub(crate) fn add_words<F: Field>(f: &F, into: &mut [F::Elem], other: &[F::Elem], known: usize)
     requires same { length into.old ≡ length other.now }
     requires zeros { (i : ℕ) → known ≤ i → slice_index_or other.now i F.coding.ops.nought ≡ F.coding.ops.nought }
     requires first { All F.is_element into.old }
