@@ -7,9 +7,46 @@ use pet_rows::Rows;
 use std::alloc::{AllocError, Global};
 use std::sync::ledger::Ledger;
 
+/// How the products of a packet are made.
+#[derive(Clone, Copy, Drop)]
+pub enum Way {
+    /// By rows, of blocks of so many stripes.
+    Blocks(usize),
+    /// One by one, stripe after stripe.
+    Singly,
+}
+
+impl Way {
+    /// How many stripes a block has; one that has a single stripe is that stripe.
+    pub fn width(self) -> usize {
+        match self {
+            Way::Blocks(width) => width,
+            Way::Singly => 1,
+        }
+    }
+}
+
 /// A packet of the group: the value at x of each stripe, where the stripes stand in blocks.
-#[inline(never)]
 pub fn packet<F: Rows<Elem = u16>, L: Ledger>(
+    f: &F,
+    way: Way,
+    laid: &[u16],
+    length: usize,
+    x: u16,
+    into: &mut [u16],
+    steps: &mut Steps<L>,
+)
+    requires all { (a : ℕ) → a < 65536 → F.is_element a }
+{
+    match way {
+        Way::Blocks(width) => by_blocks(f, laid, length, width, x, into, steps),
+        Way::Singly => singly(f, laid, length, x, into, steps),
+    }
+}
+
+/// The values of all blocks of one width.
+#[inline(never)]
+fn by_blocks<F: Rows<Elem = u16>, L: Ledger>(
     f: &F,
     laid: &[u16],
     length: usize,
@@ -21,17 +58,18 @@ pub fn packet<F: Rows<Elem = u16>, L: Ledger>(
     requires all { (a : ℕ) → a < 65536 → F.is_element a }
 {
     let factor = f.prepare(x);
-    if length > 0 && width > 0 && length <= 1_000 && width <= 32 {
-        let blocks = laid.chunks_exact(length * width);
+    let size = length.saturating_mul(width);
+    if size > 0 {
+        let blocks = laid.chunks_exact(size);
         for (rows, part) in blocks.zip(into.chunks_exact_mut(width)) {
             values(f, rows, length, &factor, part, steps);
         }
     }
 }
 
-/// The same, stripe by stripe.
+/// The values of all stripes, which stand on end.
 #[inline(never)]
-pub fn plain_packet<F: Rows<Elem = u16>, L: Ledger>(
+fn singly<F: Rows<Elem = u16>, L: Ledger>(
     f: &F,
     row: &[u16],
     length: usize,
@@ -74,18 +112,36 @@ pub fn absorb<F: Rows<Elem = u16>, L: Ledger>(
 {
     if let Some(inverse) = inverse_at(f, &known.product, x, steps) {
         let factors = prepared(alloc, f, &known.product)?;
-        let point = f.prepare(x);
-        let by = f.prepare(inverse);
-        let width = known.row.len();
-        if length > 0 && width > 0 && length <= 1_000 && width <= 32 {
-            let blocks = known.places.chunks_exact_mut(length * width);
-            for (rows, part) in blocks.zip(payload.chunks_exact(width)) {
-                lift(f, rows, part, &factors, &point, &by, &mut known.row, steps);
-            }
-        }
+        lift_all(f, known, length, x, inverse, &factors, payload, steps);
         times_linear(f, &mut known.product, x, steps)?;
     }
     Ok(())
+}
+
+/// One more value for each stripe of all blocks.
+fn lift_all<F: Rows<Elem = u16>, L: Ledger>(
+    f: &F,
+    known: &mut Known,
+    length: usize,
+    x: u16,
+    inverse: u16,
+    factors: &[F::Factor],
+    payload: &[u16],
+    steps: &mut Steps<L>,
+)
+    requires all { (a : ℕ) → a < 65536 → F.is_element a }
+    requires factors { All (λ p. F.is_element (F.element_of p)) factors.now }
+{
+    let point = f.prepare(x);
+    let by = f.prepare(inverse);
+    let width = known.row.len();
+    let size = length.saturating_mul(width);
+    if size > 0 {
+        let blocks = known.places.chunks_exact_mut(size);
+        for (rows, part) in blocks.zip(payload.chunks_exact(width)) {
+            lift(f, rows, part, factors, &point, &by, &mut known.row, steps);
+        }
+    }
 }
 
 /// One more value for each stripe of a block.

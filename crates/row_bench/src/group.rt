@@ -1,7 +1,7 @@
 //! A group of stripes of one length, and its packets.
 ghost use Rattle.std.specs.Prelude.{◌≡◌, ℕ, ◌<◌, length, vec_len, IfOk};
 
-use crate::coding::{Known, absorb, packet, plain_packet};
+use crate::coding::{Known, Way, absorb, packet};
 use pet_base::Steps;
 use pet_rows::{Rows, transpose};
 use std::alloc::{AllocError, Global};
@@ -67,13 +67,13 @@ pub fn lay_out(
     Ok(laid)
 }
 
-/// The packets, by blocks of so many stripes.
+/// The packets.
 #[inline(never)]
 pub fn encode<F: Rows<Elem = u16>, L: Ledger>(
     alloc: Global,
     f: &F,
     group: &Group,
-    width: usize,
+    way: Way,
     row: &[u16],
     blank: Blank,
 ) -> Result<Vec<u16>, AllocError>
@@ -83,49 +83,21 @@ pub fn encode<F: Rows<Elem = u16>, L: Ledger>(
     requires some { 0 < blank.parts }
 {
     let mut steps = Steps::<L>::new(blank);
-    let laid = lay_out(alloc, group, width, row)?;
+    let laid = lay_out(alloc, group, way.width(), row)?;
     let stripes = usize::from(group.stripes);
     let mut packets = vec![in alloc; 0u16; stripes * usize::from(group.packets)]?;
     if stripes > 0 {
-        let mut x: u16 = 0;
-        for into in packets.chunks_exact_mut(stripes) {
+        let places = packets.chunks_exact_mut(stripes);
+        for (into, x) in places.zip(0..group.packets) {
             packet(
                 f,
+                way,
                 &laid,
                 usize::from(group.length),
-                width,
                 x,
                 into,
                 &mut steps,
             );
-            x = x.wrapping_add(1);
-        }
-    }
-    Ok(packets)
-}
-
-/// The packets, stripe by stripe.
-#[inline(never)]
-pub fn plain_packets<F: Rows<Elem = u16>, L: Ledger>(
-    alloc: Global,
-    f: &F,
-    group: &Group,
-    row: &[u16],
-    blank: Blank,
-) -> Result<Vec<u16>, AllocError>
-    requires all { (a : ℕ) → a < 65536 → F.is_element a }
-    requires name { blank.name ≡ L.name }
-    requires parts { blank.parts ≡ L.parts }
-    requires some { 0 < blank.parts }
-{
-    let mut steps = Steps::<L>::new(blank);
-    let stripes = usize::from(group.stripes);
-    let mut packets = vec![in alloc; 0u16; stripes * usize::from(group.packets)]?;
-    if stripes > 0 {
-        let mut x: u16 = 0;
-        for into in packets.chunks_exact_mut(stripes) {
-            plain_packet(f, row, usize::from(group.length), x, into, &mut steps);
-            x = x.wrapping_add(1);
         }
     }
     Ok(packets)
@@ -155,12 +127,8 @@ pub fn decode<F: Rows<Elem = u16>, L: Ledger>(
     let stripes = usize::from(group.stripes);
     let length = usize::from(group.length);
     if stripes > 0 {
-        let mut x: u16 = 0;
-        for payload in packets.chunks_exact(stripes) {
-            if usize::from(x) < length {
-                absorb(alloc, f, &mut known, length, x, payload, &mut steps)?;
-            }
-            x = x.wrapping_add(1);
+        for (payload, x) in packets.chunks_exact(stripes).zip(0..group.length) {
+            absorb(alloc, f, &mut known, length, x, payload, &mut steps)?;
         }
     }
     Ok(known)

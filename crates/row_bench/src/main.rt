@@ -10,7 +10,8 @@ mod coding;
 mod group;
 mod transform;
 
-use crate::group::{Group, decode, encode, lay_out, plain_packets, words};
+use crate::coding::Way;
+use crate::group::{Group, decode, encode, lay_out, words};
 use crate::transform::transformed;
 use pet_field::Gf16Plain;
 use pet_rows::Rows;
@@ -36,18 +37,24 @@ const LARGE: Group = Group {
 };
 
 fn main(rt: HostRuntime) -> io::Result<()> {
-    let mut timed = false;
-    for word in env::args(&rt)?.skip(1) {
-        timed = word.as_bytes() == b"time".as_slice();
-    }
+    let timed = is_timed(&rt)?;
     let Ok(tables) = Gf16Tables::new(rt.alloc()) else {
         return Err(AllocError.into());
     };
-    for width in [1, 8, 32] {
-        compare(&rt, &tables, "tables", width, timed)?;
-    }
+    compare(&rt, &tables, "tables", 1, timed)?;
+    compare(&rt, &tables, "tables", 8, timed)?;
+    compare(&rt, &tables, "tables", 32, timed)?;
     compare(&rt, &Gf16Plain, "plain", 32, timed)?;
     compare_transform(&rt, &tables, timed)
+}
+
+/// Whether the last word is `time`.
+fn is_timed(rt: &HostRuntime) -> io::Result<bool> {
+    let mut timed = false;
+    for word in env::args(rt)?.skip(1) {
+        timed = word.as_bytes() == b"time".as_slice();
+    }
+    Ok(timed)
 }
 
 /// Codes a group by blocks of one width, and compares.
@@ -61,47 +68,64 @@ fn compare<F: Rows<Elem = u16>>(
     requires all { (a : ℕ) → a < 65536 → F.is_element a }
 {
     let group = if timed { LARGE } else { SMALL };
-    let alloc = rt.alloc();
-    let row = words(alloc, group.words())?;
-    let start = Instant::now(rt)?;
-    let packets = encode::<F, Brand>(alloc, f, &group, width, &row, Blank::new(1))?;
-    let encoded = start.elapsed(rt)?;
-    let start = Instant::now(rt)?;
-    let plain = plain_packets::<F, Brand>(alloc, f, &group, &row, Blank::new(1))?;
-    let singly = start.elapsed(rt)?;
-    let start = Instant::now(rt)?;
-    let known = decode::<F, Brand>(alloc, f, &group, width, &packets, Blank::new(1))?;
-    let decoded = start.elapsed(rt)?;
-    let laid = lay_out(alloc, &group, width, &row)?;
-    let encodes = packets == plain;
-    let decodes = known.places == laid;
+    let row = words(rt.alloc(), group.words())?;
+    let (coded, encode) = packets(rt, f, &group, Way::Blocks(width), &row)?;
+    let (plain, singly) = packets(rt, f, &group, Way::Singly, &row)?;
+    let (decodes, decode) = found_again(rt, f, &group, width, &row, &coded)?;
+    let encodes = coded == plain;
     println!(rt; "{name} {width}: encodes {encodes}, decodes {decodes}")?;
     if timed {
-        let products = group.encoding();
-        println!(rt;
-            "  encode {} ps, singly {} ps, decode {} ps a product",
-            picoseconds(encoded, products),
-            picoseconds(singly, products),
-            picoseconds(decoded, group.decoding())
-        )?;
+        println!(rt; "  encode {encode} ps, singly {singly} ps, decode {decode} ps a product")?;
     }
     Ok(())
+}
+
+/// The packets of a group, and how many picoseconds a product took.
+fn packets<F: Rows<Elem = u16>>(
+    rt: &HostRuntime,
+    f: &F,
+    group: &Group,
+    way: Way,
+    row: &[u16],
+) -> io::Result<(Vec<u16>, u64)>
+    requires all { (a : ℕ) → a < 65536 → F.is_element a }
+{
+    let start = Instant::now(rt)?;
+    let packets = encode::<F, Brand>(rt.alloc(), f, group, way, row, Blank::new(1))?;
+    let time = picoseconds(start.elapsed(rt)?, group.encoding());
+    Ok((packets, time))
+}
+
+/// Whether the words are found again in the packets, and how many picoseconds a product took.
+fn found_again<F: Rows<Elem = u16>>(
+    rt: &HostRuntime,
+    f: &F,
+    group: &Group,
+    width: usize,
+    row: &[u16],
+    packets: &[u16],
+) -> io::Result<(bool, u64)>
+    requires all { (a : ℕ) → a < 65536 → F.is_element a }
+{
+    let start = Instant::now(rt)?;
+    let known = decode::<F, Brand>(rt.alloc(), f, group, width, packets, Blank::new(1))?;
+    let time = picoseconds(start.elapsed(rt)?, group.decoding());
+    let laid = lay_out(rt.alloc(), group, width, row)?;
+    Ok((known.places == laid, time))
 }
 
 /// Codes a group by the additive fast Fourier transform, and compares.
 fn compare_transform(rt: &HostRuntime, tables: &Gf16Tables, timed: bool) -> io::Result<()> {
     let group = if timed { LARGE } else { SMALL };
-    let alloc = rt.alloc();
-    let row = words(alloc, group.words())?;
+    let row = words(rt.alloc(), group.words())?;
     let start = Instant::now(rt)?;
-    let values = transformed::<Brand>(alloc, tables, &group, &row, Blank::new(1))?;
-    let encoded = start.elapsed(rt)?;
-    let plain = plain_packets::<Gf16Tables, Brand>(alloc, tables, &group, &row, Blank::new(1))?;
+    let values = transformed::<Brand>(rt.alloc(), tables, &group, &row, Blank::new(1))?;
+    let encode = picoseconds(start.elapsed(rt)?, group.encoding());
+    let (plain, _singly) = packets(rt, tables, &group, Way::Singly, &row)?;
     let encodes = values.starts_with(&plain);
     println!(rt; "transform: encodes {encodes}")?;
     if timed {
-        let time = picoseconds(encoded, group.encoding());
-        println!(rt; "  encode {time} ps a product of Horner's rule")?;
+        println!(rt; "  encode {encode} ps a product of Horner's rule")?;
     }
     Ok(())
 }
