@@ -1,7 +1,7 @@
 -- The message, its words, and the payload that they make.
-use Rattle.std.proofs.Common.{◌≡◌, ℕ, ◌+◌, ◌*◌, ◌<◌, List, [], ◌∷◌, All, length, take, drop, flat_map, sym, ap, subst, ◌∙◌, arith, refl, length-append}
+use Rattle.std.proofs.Common.{◌≡◌, ℕ, ◌+◌, ◌*◌, ◌<◌, List, [], ◌∷◌, All, length, get_or, take, drop, flat_map, sym, ap, subst, ◌∙◌, arith, refl, length-append}
 use Rattle.std.proofs.lemmas.List.{length-map}
-use Rattle.std.proofs.lemmas.List.Elements.{All-nil, All-head, All-tail, All-append}
+use Rattle.std.proofs.lemmas.List.Elements.{All-nil, All-head, All-tail, All-append, All-from_get_or}
 use Rattle.pet_field.specs.Field.{Coding, IsCoding}
 use Rattle.pet_poly.specs.Rows.{words}
 use Rattle.pet_poly.specs.laws.RowLaws.{length-words, words_are, spellings_of_words}
@@ -35,17 +35,26 @@ module _ {E : Type 0} (P : E → Type 0) (count : ℕ) (c : Coding E) (laws : Is
   bytes_spellings (a ∷ row) h =
       All-append (λ b. b < 256) (c.spelling a) (flat_map c.spelling row) (laws.spellings.spelling_bytes a (All-head P a row h)) (bytes_spellings row (All-tail P a row h))
 
-  -- the words of a message are elements
-  pub row_is : (n : ℕ) (message : List ℕ) (row : List E) → row ≡ words c.spelt c.width n message → length message ≡ n * c.width → All (λ b. b < 256) message → All P row
-  row_is n message row e whole bytes = subst (All P) (sym e) (words_are P c.width c.spelt c.spelling laws.spellings n message whole bytes)
+  -- the words of a message of bytes, of which each word has `width`
+  module _ (n m : ℕ) (message : List ℕ) (row : List E) (is : row ≡ words c.spelt c.width n message) (many : n ≡ m) where
+    -- are as many as the message has
+    pub row_length : length row ≡ m
+    row_length = ap length is ∙ length-words c.spelt c.width n message ∙ many
 
-  -- as many as the message has
-  pub row_length : (n m : ℕ) (message : List ℕ) (row : List E) → row ≡ words c.spelt c.width n message → n ≡ m → length row ≡ m
-  row_length n m message row e same = ap length e ∙ length-words c.spelt c.width n message ∙ same
+    module _ (whole : length message ≡ m * c.width) (bytes : (k : ℕ) → k < length message → get_or message k 0 < 256) where
+      whole_words : length message ≡ n * c.width
+      whole_words = rw many whole
 
-  -- and are written as the message
-  pub row_message : (n : ℕ) (message : List ℕ) (row : List E) → row ≡ words c.spelt c.width n message → length message ≡ n * c.width → All (λ b. b < 256) message → flat_map c.spelling row ≡ message
-  row_message n message row e whole bytes = ap (flat_map c.spelling) e ∙ spellings_of_words P c.width c.spelt c.spelling laws.spellings n message whole bytes
+      all_bytes : All (λ b. b < 256) message
+      all_bytes = All-from_get_or (λ b. b < 256) message 0 bytes
+
+      -- are elements
+      pub row_is : All P row
+      row_is = subst (All P) (sym is) (words_are P c.width c.spelt c.spelling laws.spellings n message whole_words all_bytes)
+
+      -- and are written as the message
+      pub row_message : flat_map c.spelling row ≡ message
+      row_message = ap (flat_map c.spelling) is ∙ spellings_of_words P c.width c.spelt c.spelling laws.spellings n message whole_words all_bytes
 
   -- elements that were laid out are elements
   pub laid_elements : (blocks : List Block) (row laid : List E) → columns_of c.ops.nought blocks laid ≡ stripes_of blocks row → length laid ≡ size_of blocks → All P row → All P laid
