@@ -8,12 +8,20 @@ use Rattle.pet_rows.specs.Columns.{column, block_columns}
 use Rattle.pet_rows.specs.Blocks.{size_of, width_of, columns_of}
 use Rattle.pet_rows.specs.laws.BlockLaws.{column_lengths, width_is_count}
 use Rattle.pet_rows.specs.laws.ColumnLaws.{length-column, column_at, block_column_at}
-use Rattle.pet_rows.proofs.FirstBlocks.{b0, more_columns}
+use Rattle.pet_rows.proofs.FirstBlocks.{b0, more_columns, room_size, room_width}
 use Rattle.pet_rows.proofs.LayingOut.{long_put}
 use Rattle.pet_rows.proofs.Parts.{part_before, part_inside, part_behind}
 use Rattle.point_values.specs.Wide.{AreSideBySide}
 use Rattle.point_values.specs.laws.WideLaws.{past_end}
 use Rattle.point_values.proofs.RowAfterRow.{row_within}
+
+-- where a block is that comes after the first ones
+module _ (bs : List Block) (i : ℕ) (l : i < length bs) where
+  pub block_within : (at n : ℕ) → at ≡ size_of (take i bs) → n ≡ size_of bs → at + (get_or bs i b0).length * (get_or bs i b0).width ≤ n
+  block_within at n place whole = omega (arith, room_size bs i l)
+
+  pub lanes_within : (lane n : ℕ) → lane ≡ width_of (take i bs) → n ≡ width_of bs → lane + (get_or bs i b0).width ≤ n
+  lanes_within lane n until wide = omega (arith, room_width bs i l)
 
 -- one row more of `width` elements is written from `lane` on into rows of `stripes`
 module _ {E : Type 0} (count width stripes lane size q from at : ℕ) (rows into piece : List E) (l : q < count) (fewer : count ≤ size) (room : lane + width ≤ stripes)
