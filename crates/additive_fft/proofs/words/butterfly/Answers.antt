@@ -35,3 +35,6 @@ returns-else-none-clause-others g c =
     c.butterfly_row.auto.low c.requires.same c.butterfly_row.ensures.low in
     sums_are F.is_element F.coding.ops law c.butterfly_row.new.low c.args.high.now c.butterfly_row.new.high low c.requires.second
     (c.butterfly_row.auto.high ∙ sym (c.butterfly_row.auto.low ∙ c.requires.same)) (c.butterfly_row.auto.low ∙ c.requires.same) c.butterfly_row.ensures.high
+
+pub returns-else-none-clause-low : goal.returns-else-none-clause-low
+returns-else-none-clause-low g c = c.butterfly_row.ensures.low
