@@ -1,5 +1,5 @@
 -- The store in a file, by what was read of it; and the file of a store, by the text that was put.
-use Rattle.std.specs.Prelude.{nat_lt, if◌then◌else◌, option_map, IfOk, IfErr, OnOk, OnErr, IfSome}
+use Rattle.std.specs.Prelude.{nat_lt, if◌then◌else◌, option_map, OnOk, OnErr, IfSome}
 use Rattle.std.proofs.Common.{◌≡◌, ◌≢◌, ◌⊎◌, ℕ, ◌+◌, ◌<◌, ◌≤◌, Bool, List, [], ◌∷◌, ◌++◌, length, take, Option, None, Some, Result, Ok, Err, sym, ap, ◌∙◌, arith, inl, inr}
 use Rattle.std.proofs.lemmas.Bool.{cases_lt}
 use Rattle.std.proofs.lemmas.List.{append-nil, length-append}
@@ -17,15 +17,6 @@ use Rattle.store_merge.specs.declared.fault.BadStore.{BadStore}
 use Rattle.store_merge.specs.declared.fault.BadStore.TheVariants.{At, NoMemory}
 use Rattle.store_merge.specs.Files.{HasFile, IsStop, store_in, stop_of_place, stop_of_store}
 use Rattle.store_merge.proofs.Text.{long_by, short_by}
-
--- what holds of an answer, by what else does
-pub each_ok : {T E : Type 0} (result : Result T E) (P Q : T → Type 0) → ((x : T) → P x → Q x) → IfOk result P → IfOk result Q
-each_ok (Ok x) P Q h p = h x p
-each_ok (Err e) P Q h p = tt
-
-pub each_err : {T E : Type 0} (result : Result T E) (P Q : E → Type 0) → ((e : E) → P e → Q e) → IfErr result P → IfErr result Q
-each_err (Ok x) P Q h p = tt
-each_err (Err e) P Q h p = h e p
 
 -- what is read of bytes, of which at most so many may be
 abbrev read_to : ℕ → List ℕ → Result KeptSet BadStore

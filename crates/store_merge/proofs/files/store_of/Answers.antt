@@ -1,12 +1,13 @@
 use Rattle.std.proofs.Common.{◌∙◌}
-use Rattle.store_merge.proofs.StoreFiles.{each_ok, each_err, store_long, store_short}
+use Rattle.std.proofs.lemmas.Result.{IfOk-weaker, IfErr-weaker}
+use Rattle.store_merge.proofs.StoreFiles.{store_long, store_short}
 use Rattle.store_merge.proofs.files.store_of.Goals as goal
 
 pub returns-then-bytes-gt-MAX_STORE-clause-refused : goal.returns-then-bytes-gt-MAX_STORE-clause-refused
 returns-then-bytes-gt-MAX_STORE-clause-refused g c some = store_long c.args.bytes.now c.if-bytes-gt-MAX_STORE.true
 
 pub returns-clause-read : goal.returns-clause-read
-returns-clause-read g c = each_ok c.read_store.result _ _ (λ r is. store_short c.args.bytes.now c.if-bytes-gt-MAX_STORE.false ∙ is) c.read_store.ensures.read
+returns-clause-read g c = IfOk-weaker c.read_store.result _ _ (λ r is. store_short c.args.bytes.now c.if-bytes-gt-MAX_STORE.false ∙ is) c.read_store.ensures.read
 
 pub returns-clause-refused : goal.returns-clause-refused
-returns-clause-refused g c = each_err c.read_store.result _ _ (λ fault is some. store_short c.args.bytes.now c.if-bytes-gt-MAX_STORE.false ∙ is some) c.read_store.ensures.refused
+returns-clause-refused g c = IfErr-weaker c.read_store.result _ _ (λ fault is some. store_short c.args.bytes.now c.if-bytes-gt-MAX_STORE.false ∙ is some) c.read_store.ensures.refused
