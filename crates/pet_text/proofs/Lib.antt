@@ -1,2 +1,3 @@
 pub mod OtherWords
 pub mod Digits
+pub mod SessionBytes

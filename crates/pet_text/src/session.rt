@@ -10,15 +10,11 @@ pub fn read_session(word: &str) -> Option<[u8; 8]>
     if digits.len() != 16 {
         return None;
     }
-    let first = read_byte(digits[0], digits[1])?;
-    let second = read_byte(digits[2], digits[3])?;
-    let third = read_byte(digits[4], digits[5])?;
-    let fourth = read_byte(digits[6], digits[7])?;
-    let fifth = read_byte(digits[8], digits[9])?;
-    let sixth = read_byte(digits[10], digits[11])?;
-    let seventh = read_byte(digits[12], digits[13])?;
-    let eighth = read_byte(digits[14], digits[15])?;
-    Some([first, second, third, fourth, fifth, sixth, seventh, eighth])
+    let mut session = [0; 8];
+    for at in 0..8 {
+        session[at] = read_byte(digits[2 * at], digits[2 * at + 1])?;
+    }
+    Some(session)
 }
 
 /// The byte of two digits, the high one first.
