@@ -12,12 +12,10 @@ use Rattle.kept_sets.specs.KeptSet.{KeptSet, kept_in_all}
 use Rattle.kept_sets.specs.Union.{union, absorb_fault}
 use Rattle.kept_sets.specs.declared.union.Absorb.{Absorb}
 use Rattle.kept_sets.specs.declared.union.Absorb.TheVariants as absorb
-use Rattle.store_merge.specs.Files.{HasStore, HasBadStore, store_file}
-use Rattle.store_merge.specs.declared.fault.BadStore.TheVariants.{At}
-use Rattle.command_merge.specs.Ends.{absorb_end, stop_end, IsFirstEnd, IsSecondEnd}
+use Rattle.store_merge.specs.Files.{HasStore, store_file}
+use Rattle.command_merge.specs.Ends.{absorb_end, stop_end}
 use Rattle.command_merge.specs.Merges.{HasStores, CanJoin, IsCause, WritesUnion, union_of}
 use Rattle.command_merge.specs.declared.command.MergeEnd.{MergeEnd}
-use Rattle.command_merge.specs.declared.command.MergeEnd.TheVariants.{Done, NoMemory, PlaceFault, OutFault, BadFirst, BadSecond, OtherSession, Clash, Full}
 
 -- what the command ends with is what a step's error stands for
 pub end_is : {T : Type 0} (P : MergeEnd → Type 0) (result : Result T MergeEnd) (end : MergeEnd) → IsErrAnd result (λ e. e ≡ end) → P end → IfErr result P
@@ -28,35 +26,14 @@ end_is P (Err e) end is p = subst P (sym is) p
 later_fault : (P : Blame → Type 0) (old mid new : Seen) → old.faults ≤ mid.faults → HadFault mid new P → HadFault old new P
 later_fault P old mid new later had = record { rose = omega (arith, later, had.rose); blame = had.blame }
 
--- the first store was not read
-pub first_failed : (first second out : List ℕ) (old new : Seen) (end : MergeEnd) → IsFirstEnd old new first end → new.files ≡ old.files → IsCause first second out old new end
-first_failed first second out old new NoMemory is same = inl same
-first_failed first second out old new PlaceFault is same = (inl is, inl same)
-first_failed first second out old new (BadFirst at kind) is same = (is, same)
-first_failed first second out old new Done is same = absurd is
-first_failed first second out old new OutFault is same = absurd is
-first_failed first second out old new (BadSecond at kind) is same = absurd is
-first_failed first second out old new OtherSession is same = absurd is
-first_failed first second out old new (Clash group number) is same = absurd is
-first_failed first second out old new (Full group) is same = absurd is
+-- both were read, the second of the files that the first reading left as they were
+abbrev pub stores_of : (first second : List ℕ) (old : Seen) (left : Option Files) (a b : KeptSet) → HasStore old.files first a → left ≡ old.files → HasStore left second b → HasStores first second old
+stores_of first second old left a b has before there = record { a = a; b = b; first_is = has; second_is = subst (λ (files : Option Files). HasStore files second b) before there }
 
--- the second was not
-pub second_failed : (first second out : List ℕ) (old mid new : Seen) (a : KeptSet) (end : MergeEnd) → HasStore old.files first a → old.faults ≤ mid.faults → mid.files ≡ old.files → IsSecondEnd mid new second end
-    → new.files ≡ mid.files → IsCause first second out old new end
-second_failed first second out old mid new a NoMemory has later before is same = inl (same ∙ before)
-second_failed first second out old mid new a PlaceFault has later before is same = (inr (inl ((a, has), later_fault _ old mid new later is)), inl (same ∙ before))
-second_failed first second out old mid new a (BadSecond at kind) has later before is same =
-    ((a, has), subst (λ (files : Option Files). HasBadStore files second (At at kind)) before is, same ∙ before)
-second_failed first second out old mid new a Done has later before is same = absurd is
-second_failed first second out old mid new a OutFault has later before is same = absurd is
-second_failed first second out old mid new a (BadFirst at kind) has later before is same = absurd is
-second_failed first second out old mid new a OtherSession has later before is same = absurd is
-second_failed first second out old mid new a (Clash group number) has later before is same = absurd is
-second_failed first second out old mid new a (Full group) has later before is same = absurd is
-
--- both were read
-abbrev pub stores_of : (first second : List ℕ) (old mid : Seen) (a b : KeptSet) → HasStore old.files first a → mid.files ≡ old.files → HasStore mid.files second b → HasStores first second old
-stores_of first second old mid a b has before there = record { a = a; b = b; first_is = has; second_is = subst (λ (files : Option Files). HasStore files second b) before there }
+-- and they can be joined
+abbrev pub joins_of : (first second : List ℕ) (old : Seen) (left : Option Files) (a b : KeptSet) → HasStore old.files first a → left ≡ old.files → HasStore left second b → absorb_fault a b ≡ None
+    → CanJoin first second old
+joins_of first second old left a b has before there fits = record { stores = stores_of first second old left a b has before there; fits = fits }
 
 -- they cannot be joined
 pub not_joined : (first second out : List ℕ) (old new : Seen) (s : HasStores first second old) (fault : Absorb) → new.files ≡ old.files → (fault ≢ absorb.NoMemory → absorb_fault s.a s.b ≡ Some fault)

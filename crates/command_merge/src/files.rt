@@ -1,16 +1,13 @@
 //! Reading two stores, joining them, and writing their union.
-ghost use Rattle.std.specs.Prelude.{◌≡◌, ◌≤◌, IfOk, IfErr};
-ghost use Rattle.pet_base.specs.Seen.{Seen, KeepsOutput};
+ghost use Rattle.std.specs.Prelude.{◌≡◌, IfOk, IfErr};
+ghost use Rattle.pet_base.specs.Seen.{Seen};
 ghost use Rattle.kept_sets.specs.KeptSet.{kept_in_all};
-ghost use Rattle.pet_receive.specs.Arrivals.{kept_set};
-ghost use Rattle.store_merge.specs.Files.{HasStore};
-ghost use Rattle.command_merge.specs.Ends.{IsFirstEnd, IsSecondEnd};
+ghost use Rattle.command_merge.specs.Ends.{store_end};
 ghost use Rattle.command_merge.specs.Merges.{IsCause, WritesUnion, union_of};
 
 use crate::command::MergeEnd;
 use kept_sets::Absorb;
 use pet_base::{NoMemory, Place, Steps, Stop};
-use pet_receive::Receiver;
 use pet_tables::Gf16Tables;
 use std::alloc::Global;
 use std::sync::ledger::Ledger;
@@ -69,52 +66,31 @@ pub(crate) fn merge_files<P: Place, L: Ledger>(
         (P.seen place.new)) }
 {
     let field = Gf16Tables::new(alloc)?;
-    let mut union = read_first(alloc, &field, first, place, steps)?;
-    let other = read_second(alloc, &field, second, place, steps)?;
+    let read = read_store_file(alloc, &field, first, place, steps);
+    let mut union = read.map_err(|stop| store_end(Which::First, stop))?;
+    let read = read_store_file(alloc, &field, second, place, steps);
+    let other = read.map_err(|stop| store_end(Which::Second, stop))?;
     union.absorb(&other, steps)?;
     drop(other);
     write_store_file(alloc, &union, out, place)?;
     Ok(union.kept())
 }
 
-/// Reads the first store, or says how the command ends.
-fn read_first<'f, P: Place, L: Ledger>(
-    alloc: Global,
-    field: &'f Gf16Tables,
-    name: &str,
-    place: &mut P,
-    steps: &mut Steps<L>,
-) -> Result<Receiver<'f, Gf16Tables>, MergeEnd>
-    ensures read { IfOk result (λ r. HasStore (P.seen place.old).files name.now (kept_set r)) }
-    ensures end { IfErr result (IsFirstEnd (P.seen place.old) (P.seen place.new) name.now) }
-    ensures others { KeepsOutput (P.seen place.old) (P.seen place.new) }
-    ensures later { (P.seen place.old).faults ≤ (P.seen place.new).faults }
-{
-    match read_store_file(alloc, field, name, place, steps) {
-        Ok(receiver) => Ok(receiver),
-        Err(StoreStop::At(at, kind)) => Err(MergeEnd::BadFirst(at, kind)),
-        Err(StoreStop::NoMemory) => Err(MergeEnd::NoMemory),
-        Err(StoreStop::Failed) => Err(MergeEnd::PlaceFault),
-    }
+/// Which of the two stores.
+#[derive(Clone, Copy, Drop)]
+enum Which {
+    First,
+    Second,
 }
 
-/// Reads the second store, or says how the command ends.
-fn read_second<'f, P: Place, L: Ledger>(
-    alloc: Global,
-    field: &'f Gf16Tables,
-    name: &str,
-    place: &mut P,
-    steps: &mut Steps<L>,
-) -> Result<Receiver<'f, Gf16Tables>, MergeEnd>
-    ensures read { IfOk result (λ r. HasStore (P.seen place.old).files name.now (kept_set r)) }
-    ensures end { IfErr result (IsSecondEnd (P.seen place.old) (P.seen place.new) name.now) }
-    ensures others { KeepsOutput (P.seen place.old) (P.seen place.new) }
-    ensures later { (P.seen place.old).faults ≤ (P.seen place.new).faults }
+/// How the command ends where a store was not read.
+fn store_end(which: Which, stop: StoreStop) -> MergeEnd
+    ensures { result ≡ store_end which stop }
 {
-    match read_store_file(alloc, field, name, place, steps) {
-        Ok(receiver) => Ok(receiver),
-        Err(StoreStop::At(at, kind)) => Err(MergeEnd::BadSecond(at, kind)),
-        Err(StoreStop::NoMemory) => Err(MergeEnd::NoMemory),
-        Err(StoreStop::Failed) => Err(MergeEnd::PlaceFault),
+    match (which, stop) {
+        (Which::First, StoreStop::At(at, kind)) => MergeEnd::BadFirst(at, kind),
+        (Which::Second, StoreStop::At(at, kind)) => MergeEnd::BadSecond(at, kind),
+        (_, StoreStop::NoMemory) => MergeEnd::NoMemory,
+        (_, StoreStop::Failed) => MergeEnd::PlaceFault,
     }
 }
