@@ -17,7 +17,7 @@ use group_cutter::Group;
 use layer_split::{GroupCut, message};
 use packet_frame::Header;
 use pet_base::{Link, NoMemory, Place, Steps};
-use pet_encode::Encoder;
+use group_encoder::Encoder;
 use pet_tables::Gf16Tables;
 use session_packets::put_group;
 use std::alloc::Global;

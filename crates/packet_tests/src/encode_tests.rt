@@ -3,8 +3,8 @@ ghost use Rattle.std.specs.Prelude.{◌≡◌, ◌<◌};
 
 use crate::group_fixtures::{MESSAGE, header_of};
 use example_session::packets;
+use group_encoder::Encoder;
 use pet_base::{MAX_PACKETS, NoMemory, Steps};
-use pet_encode::Encoder;
 use pet_field::Gf16Plain;
 use pet_tables::Gf16Tables;
 use point_values::AllValues;

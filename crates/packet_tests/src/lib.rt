@@ -1,4 +1,5 @@
-//! Tests over the public calls of `packet_frame`, `pet_encode`, `session_packets`, `kept_sets` and `pet_receive`, as a caller sees them.
+//! Tests over the public calls of `packet_frame`, `group_encoder`, `session_packets`, `kept_sets` and `pet_receive`, as a
+//! caller sees them.
 //!
 //! They stand apart because the gate proves a crate with tests twice, once alone and once with them: here the second time is
 //! the tests' own. No program uses this crate.

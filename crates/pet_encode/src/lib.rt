@@ -1,24 +1,13 @@
-//! The packets of one group of a session.
+//! What the packets of a session are.
 //!
-//! An `Encoder` keeps the header of a group, and the words of its message as elements of a field, laid out in blocks of
-//! stripes. Packet `number` is the frame whose payload has, for each stripe of the table's plan in order, the value at
-//! the number's point of the polynomial that has the stripe's words as its coefficients: `specs/Payload.antt` defines
-//! it, and `specs/Session.antt` the packets of a whole session. `packet` appends exactly the text of that frame, counts
-//! exactly one step for each word of the table, and leaves what it appends to as it was where it finds no memory.
-//! `range` appends the frames of a range of numbers, and `all` those of the group, from the values of all stripes at
-//! all their points, which `point_values` gives. The definitions take a field's coding and hold at any
-//! width, as do the calls that turn bytes into elements, lay these out in the blocks of a plan, and turn the values of
-//! all stripes into bytes again; an `Encoder` asks for words of two bytes and a point for each packet.
-//! `specs/laws/SessionLaws.antt` says that the list of a session's packets has each of them and nothing else, and that
-//! each is a frame. `group_cost` is what a group's packets take of the bytes that a session may have.
+//! `specs/Payload.antt` defines what a packet carries: for each stripe of the table's plan in order, the value at the packet's
+//! point of the polynomial that has the stripe's words as its coefficients. `specs/Session.antt` defines a session and all of
+//! its packets, and `specs/Encoding.antt` the frames of one group by number, which an encoder makes. The definitions take a
+//! field's coding and hold at any width. `specs/laws/SessionLaws.antt` says that the list of a session's packets has each of
+//! them and nothing else, and that each is a frame. `group_cost` is what a group's packets take of the bytes that a session may
+//! have.
 #![tactic(auto)]
 
 mod cost;
-mod encoder;
-mod laid;
-mod values;
 
 pub use cost::group_cost;
-pub use encoder::Encoder;
-pub use laid::{laid_out, plan_blocks};
-pub use values::{append_elements, elements, stripe_values};

@@ -7,8 +7,8 @@ ghost use Rattle.datagram_route.specs.Way.{way_of};
 ghost use Rattle.session_packets.specs.Packets.{entry_text, group_datagrams, range_datagrams};
 
 use datagram_route::{Route, RouteStop, put_entry};
+use group_encoder::Encoder;
 use pet_base::{Link, MAX_DATAGRAM, NoMemory, Place, Steps};
-use pet_encode::Encoder;
 use pet_tables::Gf16Tables;
 use std::alloc::Global;
 use std::sync::ledger::Ledger;

@@ -12,8 +12,7 @@ use Rattle.stripe_plan.specs.Layers.{needs_of, plan_ends, plan_stripes, stripes_
 use Rattle.stripe_plan.specs.Plan.{plan_from}
 use Rattle.stripe_plan.specs.laws.StripeLaws.{length-stripes_of}
 use Rattle.stripe_plan.specs.declared.layer.LayerSize.{LayerSize}
-use Rattle.pet_encode.specs.Payload.{cut_in_stripes, payload_at}
-use Rattle.pet_encode.specs.Stored.{values_of}
+use Rattle.pet_encode.specs.Payload.{cut_in_stripes, payload_at, values_of}
 
 -- there is a stripe for each end of the plan
 pub stripe_count : (layers : List LayerSize) → length (plan_stripes layers) ≡ length (plan_ends layers)
