@@ -2,8 +2,10 @@
 ghost use Rattle.std.specs.Prelude.{◌≡◌, ℕ, ◌*◌, ◌<◌, ◌≤◌, length, vec_len, All, IfOk};
 
 use pet_base::Steps;
+use pet_field::Field;
 use pet_poly::{eval, eval_monic};
-use pet_rows::{MAX_WIDTH, Rows};
+use pet_rows::{MAX_WIDTH, Products, Rows};
+use pet_tables::Gf16Tables;
 use std::alloc::{AllocError, Global};
 use std::sync::ledger::Ledger;
 
@@ -11,113 +13,95 @@ use std::sync::ledger::Ledger;
 const MAX_ROWS: usize = 1_000;
 
 /// Prepares each factor.
-pub fn prepared<F: Rows<Elem = u16>>(
+pub fn prepared(
     alloc: Global,
-    f: &F,
+    tables: &Gf16Tables,
     factors: &[u16],
-) -> Result<Vec<F::Factor>, AllocError>
-    requires all { (a : ℕ) → a < 65536 → F.is_element a }
+) -> Result<Vec<Products>, AllocError>
     ensures long { IfOk result (λ v. vec_len v ≡ length factors.now) }
-    ensures factors { IfOk result (λ v. All (λ p. F.is_element (F.element_of p)) v.items) }
+    ensures factors { IfOk result (λ v. All (λ p. p.factor < 65536) v.items) }
 {
     let mut all = Vec::new(alloc);
     for i in 0..factors.len() {
-        all.push(f.prepare(factors[i]))?;
+        all.push(tables.prepare(factors[i]))?;
     }
     Ok(all)
 }
 
 /// The values of all columns of a block.
-pub fn values<F: Rows<Elem = u16>, L: Ledger>(
-    f: &F,
+pub fn values<L: Ledger>(
+    tables: &Gf16Tables,
     rows: &[u16],
     count: usize,
-    x: &F::Factor,
+    x: &Products,
     into: &mut [u16],
     steps: &mut Steps<L>,
-)
-    requires all { (a : ℕ) → a < 65536 → F.is_element a }
-    requires point { F.is_element (F.element_of x.now) }
-{
+) {
     let width = into.len();
     if count <= MAX_ROWS && width <= MAX_WIDTH && rows.len() == count * width {
-        f.values(rows, count, x, into, steps);
+        tables.values(rows, count, x, into, steps);
     }
 }
 
 /// A row, multiplied by a factor.
-pub fn scale<F: Rows<Elem = u16>, L: Ledger>(
-    f: &F,
-    by: &F::Factor,
-    row: &mut [u16],
-    steps: &mut Steps<L>,
-)
-    requires all { (a : ℕ) → a < 65536 → F.is_element a }
-    requires factor { F.is_element (F.element_of by.now) }
-{
+pub fn scale<L: Ledger>(tables: &Gf16Tables, by: &Products, row: &mut [u16], steps: &mut Steps<L>) {
     if row.len() <= MAX_WIDTH {
-        f.scale(by, row, steps);
+        tables.scale(by, row, steps);
     }
 }
 
 /// Multiples of a row, added to the rows of a block.
-pub fn add<F: Rows<Elem = u16>, L: Ledger>(
-    f: &F,
-    factors: &[F::Factor],
+pub fn add<L: Ledger>(
+    tables: &Gf16Tables,
+    factors: &[Products],
     row: &[u16],
     rows: &mut [u16],
     steps: &mut Steps<L>,
 )
-    requires all { (a : ℕ) → a < 65536 → F.is_element a }
-    requires factors { All (λ p. F.is_element (F.element_of p)) factors.now }
+    requires factors { All (λ p. p.factor < 65536) factors.now }
 {
     let count = factors.len();
     let width = row.len();
     if count <= MAX_ROWS && width <= MAX_WIDTH && rows.len() == count * width {
-        add_fitting(f, factors, row, rows, steps);
+        add_fitting(tables, factors, row, rows, steps);
     }
 }
 
 /// The same, where the shape is right.
-fn add_fitting<F: Rows<Elem = u16>, L: Ledger>(
-    f: &F,
-    factors: &[F::Factor],
+fn add_fitting<L: Ledger>(
+    tables: &Gf16Tables,
+    factors: &[Products],
     row: &[u16],
     rows: &mut [u16],
     steps: &mut Steps<L>,
 )
-    requires all { (a : ℕ) → a < 65536 → F.is_element a }
-    requires factors { All (λ p. F.is_element (F.element_of p)) factors.now }
+    requires factors { All (λ p. p.factor < 65536) factors.now }
     requires narrow { length row.now ≤ MAX_WIDTH }
     requires room { length factors.now * length row.now ≤ length rows.old }
 {
-    f.add_products(factors, row, rows, steps);
+    tables.add_products(factors, row, rows, steps);
 }
 
 /// The value at a point of the coefficients.
-pub fn value<F: Rows<Elem = u16>, L: Ledger>(
-    f: &F,
+pub fn value<L: Ledger>(
+    tables: &Gf16Tables,
     coefficients: &[u16],
     x: u16,
     steps: &mut Steps<L>,
-) -> u16
-    requires all { (a : ℕ) → a < 65536 → F.is_element a }
-{
-    eval(f, coefficients, x, steps)
+) -> u16 {
+    eval(tables, coefficients, x, steps)
 }
 
 /// The inverse of the value at a point of a monic polynomial, or nothing at a root.
-pub fn inverse_at<F: Rows<Elem = u16>, L: Ledger>(
-    f: &F,
+pub fn inverse_at<L: Ledger>(
+    tables: &Gf16Tables,
     low: &[u16],
     x: u16,
     steps: &mut Steps<L>,
-) -> Option<u16>
-    requires all { (a : ℕ) → a < 65536 → F.is_element a }
-{
-    let value = eval_monic(f, low, x, steps);
-    if value == f.zero() {
+) -> Option<u16> {
+    let value = eval_monic(tables, low, x, steps);
+    if value == tables.zero() {
         return None;
     }
-    Some(f.inv(value, steps))
+    Some(tables.inv(value, steps))
 }

@@ -3,7 +3,9 @@ ghost use Rattle.std.specs.Prelude.{◌≡◌, ℕ, ◌<◌, All};
 
 use crate::calls::{add, inverse_at, prepared, scale, value, values};
 use pet_base::Steps;
-use pet_rows::Rows;
+use pet_field::Field;
+use pet_rows::{Products, Rows};
+use pet_tables::Gf16Tables;
 use std::alloc::{AllocError, Global};
 use std::sync::ledger::Ledger;
 
@@ -27,61 +29,55 @@ impl Way {
 }
 
 /// A packet of the group: the value at x of each stripe, where the stripes stand in blocks.
-pub fn packet<F: Rows<Elem = u16>, L: Ledger>(
-    f: &F,
+pub fn packet<L: Ledger>(
+    tables: &Gf16Tables,
     way: Way,
     laid: &[u16],
     length: usize,
     x: u16,
     into: &mut [u16],
     steps: &mut Steps<L>,
-)
-    requires all { (a : ℕ) → a < 65536 → F.is_element a }
-{
+) {
     match way {
-        Way::Blocks(width) => by_blocks(f, laid, length, width, x, into, steps),
-        Way::Singly => singly(f, laid, length, x, into, steps),
+        Way::Blocks(width) => by_blocks(tables, laid, length, width, x, into, steps),
+        Way::Singly => singly(tables, laid, length, x, into, steps),
     }
 }
 
 /// The values of all blocks of one width.
 #[inline(never)]
-fn by_blocks<F: Rows<Elem = u16>, L: Ledger>(
-    f: &F,
+fn by_blocks<L: Ledger>(
+    tables: &Gf16Tables,
     laid: &[u16],
     length: usize,
     width: usize,
     x: u16,
     into: &mut [u16],
     steps: &mut Steps<L>,
-)
-    requires all { (a : ℕ) → a < 65536 → F.is_element a }
-{
-    let factor = f.prepare(x);
+) {
+    let factor = tables.prepare(x);
     let size = length.saturating_mul(width);
     if size > 0 {
         let blocks = laid.chunks_exact(size);
         for (rows, part) in blocks.zip(into.chunks_exact_mut(width)) {
-            values(f, rows, length, &factor, part, steps);
+            values(tables, rows, length, &factor, part, steps);
         }
     }
 }
 
 /// The values of all stripes, which stand on end.
 #[inline(never)]
-fn singly<F: Rows<Elem = u16>, L: Ledger>(
-    f: &F,
+fn singly<L: Ledger>(
+    tables: &Gf16Tables,
     row: &[u16],
     length: usize,
     x: u16,
     into: &mut [u16],
     steps: &mut Steps<L>,
-)
-    requires all { (a : ℕ) → a < 65536 → F.is_element a }
-{
+) {
     if length > 0 {
         for (stripe, place) in row.chunks_exact(length).zip(into.iter_mut()) {
-            *place = value(f, stripe, x, steps);
+            *place = value(tables, stripe, x, steps);
         }
     }
 }
@@ -99,66 +95,69 @@ pub struct Known {
 
 /// One more packet.
 #[inline(never)]
-pub fn absorb<F: Rows<Elem = u16>, L: Ledger>(
+pub fn absorb<L: Ledger>(
     alloc: Global,
-    f: &F,
+    tables: &Gf16Tables,
     known: &mut Known,
     length: usize,
     x: u16,
     payload: &[u16],
     steps: &mut Steps<L>,
-) -> Result<(), AllocError>
-    requires all { (a : ℕ) → a < 65536 → F.is_element a }
-{
-    if let Some(inverse) = inverse_at(f, &known.product, x, steps) {
-        let factors = prepared(alloc, f, &known.product)?;
-        lift_all(f, known, length, x, inverse, &factors, payload, steps);
-        times_linear(f, &mut known.product, x, steps)?;
+) -> Result<(), AllocError> {
+    if let Some(inverse) = inverse_at(tables, &known.product, x, steps) {
+        let factors = prepared(alloc, tables, &known.product)?;
+        lift_all(tables, known, length, x, inverse, &factors, payload, steps);
+        times_linear(tables, &mut known.product, x, steps)?;
     }
     Ok(())
 }
 
 /// One more value for each stripe of all blocks.
-fn lift_all<F: Rows<Elem = u16>, L: Ledger>(
-    f: &F,
+fn lift_all<L: Ledger>(
+    tables: &Gf16Tables,
     known: &mut Known,
     length: usize,
     x: u16,
     inverse: u16,
-    factors: &[F::Factor],
+    factors: &[Products],
     payload: &[u16],
     steps: &mut Steps<L>,
 )
-    requires all { (a : ℕ) → a < 65536 → F.is_element a }
-    requires factors { All (λ p. F.is_element (F.element_of p)) factors.now }
+    requires factors { All (λ p. p.factor < 65536) factors.now }
 {
-    let point = f.prepare(x);
-    let by = f.prepare(inverse);
+    let point = tables.prepare(x);
+    let by = tables.prepare(inverse);
     let width = known.row.len();
     let size = length.saturating_mul(width);
     if size > 0 {
         let blocks = known.places.chunks_exact_mut(size);
         for (rows, part) in blocks.zip(payload.chunks_exact(width)) {
-            lift(f, rows, part, factors, &point, &by, &mut known.row, steps);
+            lift(
+                tables,
+                rows,
+                part,
+                factors,
+                &point,
+                &by,
+                &mut known.row,
+                steps,
+            );
         }
     }
 }
 
 /// One more value for each stripe of a block.
-fn lift<F: Rows<Elem = u16>, L: Ledger>(
-    f: &F,
+fn lift<L: Ledger>(
+    tables: &Gf16Tables,
     rows: &mut [u16],
     payload: &[u16],
-    factors: &[F::Factor],
-    x: &F::Factor,
-    inverse: &F::Factor,
+    factors: &[Products],
+    x: &Products,
+    inverse: &Products,
     row: &mut [u16],
     steps: &mut Steps<L>,
 )
-    requires all { (a : ℕ) → a < 65536 → F.is_element a }
-    requires factors { All (λ p. F.is_element (F.element_of p)) factors.now }
-    requires point { F.is_element (F.element_of x.now) }
-    requires inverse { F.is_element (F.element_of inverse.now) }
+    requires factors { All (λ p. p.factor < 65536) factors.now }
 {
     let met = factors.len();
     let width = row.len();
@@ -166,60 +165,52 @@ fn lift<F: Rows<Elem = u16>, L: Ledger>(
         let size = met * width;
         if size <= rows.len() && rows.len() - size >= width {
             let (low, rest) = rows.split_at_mut(size);
-            values(f, low, met, x, row, steps);
-            subtract(f, payload, row);
-            scale(f, inverse, row, steps);
-            add(f, factors, row, low, steps);
+            values(tables, low, met, x, row, steps);
+            subtract(tables, payload, row);
+            scale(tables, inverse, row, steps);
+            add(tables, factors, row, low, steps);
             rest[..width].copy_from_slice(row);
         }
     }
 }
 
 /// What each value lacks.
-fn subtract<F: Rows<Elem = u16>>(f: &F, values: &[u16], row: &mut [u16])
-    requires all { (a : ℕ) → a < 65536 → F.is_element a }
-{
+fn subtract(tables: &Gf16Tables, values: &[u16], row: &mut [u16]) {
     for (place, value) in row.iter_mut().zip(values) {
-        *place = f.sub(*value, *place);
+        *place = tables.sub(*value, *place);
     }
 }
 
 /// Multiplies the monic polynomial by X - x.
-fn times_linear<F: Rows<Elem = u16>, L: Ledger>(
-    f: &F,
+fn times_linear<L: Ledger>(
+    tables: &Gf16Tables,
     product: &mut Vec<u16>,
     x: u16,
     steps: &mut Steps<L>,
-) -> Result<(), AllocError>
-    requires all { (a : ℕ) → a < 65536 → F.is_element a }
-{
-    let mut before = f.zero();
+) -> Result<(), AllocError> {
+    let mut before = tables.zero();
     for i in 0..product.len() {
         let here = product[i];
-        product[i] = less_product(f, before, x, here, steps);
+        product[i] = less_product(tables, before, x, here, steps);
         before = here;
     }
-    product.push(difference(f, before, x))?;
+    product.push(difference(tables, before, x))?;
     Ok(())
 }
 
 /// What is left when a product is taken away.
-fn less_product<F: Rows<Elem = u16>, L: Ledger>(
-    f: &F,
+fn less_product<L: Ledger>(
+    tables: &Gf16Tables,
     before: u16,
     x: u16,
     here: u16,
     steps: &mut Steps<L>,
-) -> u16
-    requires all { (a : ℕ) → a < 65536 → F.is_element a }
-{
-    let product = f.mul(x, here, steps);
-    difference(f, before, product)
+) -> u16 {
+    let product = tables.mul(x, here, steps);
+    difference(tables, before, product)
 }
 
 /// The difference of two elements.
-fn difference<F: Rows<Elem = u16>>(f: &F, a: u16, b: u16) -> u16
-    requires all { (a : ℕ) → a < 65536 → F.is_element a }
-{
-    f.sub(a, b)
+fn difference(tables: &Gf16Tables, a: u16, b: u16) -> u16 {
+    tables.sub(a, b)
 }

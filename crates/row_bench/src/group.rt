@@ -3,7 +3,8 @@ ghost use Rattle.std.specs.Prelude.{◌≡◌, ℕ, ◌<◌, length, vec_len, If
 
 use crate::coding::{Known, Way, absorb, packet};
 use pet_base::Steps;
-use pet_rows::{Rows, transpose};
+use pet_rows::transpose;
+use pet_tables::Gf16Tables;
 use std::alloc::{AllocError, Global};
 use std::sync::ledger::{Blank, Ledger};
 
@@ -69,15 +70,14 @@ pub fn lay_out(
 
 /// The packets.
 #[inline(never)]
-pub fn encode<F: Rows<Elem = u16>, L: Ledger>(
+pub fn encode<L: Ledger>(
     alloc: Global,
-    f: &F,
+    tables: &Gf16Tables,
     group: &Group,
     way: Way,
     row: &[u16],
     blank: Blank,
 ) -> Result<Vec<u16>, AllocError>
-    requires all { (a : ℕ) → a < 65536 → F.is_element a }
     requires name { blank.name ≡ L.name }
     requires parts { blank.parts ≡ L.parts }
     requires some { 0 < blank.parts }
@@ -90,7 +90,7 @@ pub fn encode<F: Rows<Elem = u16>, L: Ledger>(
         let places = packets.chunks_exact_mut(stripes);
         for (into, x) in places.zip(0..group.packets) {
             packet(
-                f,
+                tables,
                 way,
                 &laid,
                 usize::from(group.length),
@@ -105,15 +105,14 @@ pub fn encode<F: Rows<Elem = u16>, L: Ledger>(
 
 /// What is known after as many packets as a stripe has words.
 #[inline(never)]
-pub fn decode<F: Rows<Elem = u16>, L: Ledger>(
+pub fn decode<L: Ledger>(
     alloc: Global,
-    f: &F,
+    tables: &Gf16Tables,
     group: &Group,
     width: usize,
     packets: &[u16],
     blank: Blank,
 ) -> Result<Known, AllocError>
-    requires all { (a : ℕ) → a < 65536 → F.is_element a }
     requires name { blank.name ≡ L.name }
     requires parts { blank.parts ≡ L.parts }
     requires some { 0 < blank.parts }
@@ -128,7 +127,7 @@ pub fn decode<F: Rows<Elem = u16>, L: Ledger>(
     let length = usize::from(group.length);
     if stripes > 0 {
         for (payload, x) in packets.chunks_exact(stripes).zip(0..group.length) {
-            absorb(alloc, f, &mut known, length, x, payload, &mut steps)?;
+            absorb(alloc, tables, &mut known, length, x, payload, &mut steps)?;
         }
     }
     Ok(known)

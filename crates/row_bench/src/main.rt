@@ -3,8 +3,6 @@
 //! Fourier transform with them. With the word `time` a larger group is taken, and each line also tells how long a product took.
 #![tactic(auto)]
 
-ghost use Rattle.std.specs.Prelude.{ℕ, ◌<◌};
-
 mod calls;
 mod coding;
 mod group;
@@ -13,8 +11,6 @@ mod transform;
 use crate::coding::Way;
 use crate::group::{Group, decode, encode, lay_out, words};
 use crate::transform::transformed;
-use pet_field::Gf16Plain;
-use pet_rows::Rows;
 use pet_tables::Gf16Tables;
 use std::alloc::AllocError;
 use std::marker::Brand;
@@ -41,10 +37,9 @@ fn main(rt: HostRuntime) -> io::Result<()> {
     let Ok(tables) = Gf16Tables::new(rt.alloc()) else {
         return Err(AllocError.into());
     };
-    compare(&rt, &tables, "tables", 1, timed)?;
-    compare(&rt, &tables, "tables", 8, timed)?;
-    compare(&rt, &tables, "tables", 32, timed)?;
-    compare(&rt, &Gf16Plain, "plain", 32, timed)?;
+    compare(&rt, &tables, 1, timed)?;
+    compare(&rt, &tables, 8, timed)?;
+    compare(&rt, &tables, 32, timed)?;
     compare_transform(&rt, &tables, timed)
 }
 
@@ -58,22 +53,14 @@ fn is_timed(rt: &HostRuntime) -> io::Result<bool> {
 }
 
 /// Codes a group by blocks of one width, and compares.
-fn compare<F: Rows<Elem = u16>>(
-    rt: &HostRuntime,
-    f: &F,
-    name: &str,
-    width: usize,
-    timed: bool,
-) -> io::Result<()>
-    requires all { (a : ℕ) → a < 65536 → F.is_element a }
-{
+fn compare(rt: &HostRuntime, tables: &Gf16Tables, width: usize, timed: bool) -> io::Result<()> {
     let group = if timed { LARGE } else { SMALL };
     let row = words(rt.alloc(), group.words())?;
-    let (coded, encode) = packets(rt, f, &group, Way::Blocks(width), &row)?;
-    let (plain, singly) = packets(rt, f, &group, Way::Singly, &row)?;
-    let (decodes, decode) = found_again(rt, f, &group, width, &row, &coded)?;
+    let (coded, encode) = packets(rt, tables, &group, Way::Blocks(width), &row)?;
+    let (plain, singly) = packets(rt, tables, &group, Way::Singly, &row)?;
+    let (decodes, decode) = found_again(rt, tables, &group, width, &row, &coded)?;
     let encodes = coded == plain;
-    println!(rt; "{name} {width}: encodes {encodes}, decodes {decodes}")?;
+    println!(rt; "blocks of {width}: encodes {encodes}, decodes {decodes}")?;
     if timed {
         println!(rt; "  encode {encode} ps, singly {singly} ps, decode {decode} ps a product")?;
     }
@@ -81,34 +68,30 @@ fn compare<F: Rows<Elem = u16>>(
 }
 
 /// The packets of a group, and how many picoseconds a product took.
-fn packets<F: Rows<Elem = u16>>(
+fn packets(
     rt: &HostRuntime,
-    f: &F,
+    tables: &Gf16Tables,
     group: &Group,
     way: Way,
     row: &[u16],
-) -> io::Result<(Vec<u16>, u64)>
-    requires all { (a : ℕ) → a < 65536 → F.is_element a }
-{
+) -> io::Result<(Vec<u16>, u64)> {
     let start = Instant::now(rt)?;
-    let packets = encode::<F, Brand>(rt.alloc(), f, group, way, row, Blank::new(1))?;
+    let packets = encode::<Brand>(rt.alloc(), tables, group, way, row, Blank::new(1))?;
     let time = picoseconds(start.elapsed(rt)?, group.encoding());
     Ok((packets, time))
 }
 
 /// Whether the words are found again in the packets, and how many picoseconds a product took.
-fn found_again<F: Rows<Elem = u16>>(
+fn found_again(
     rt: &HostRuntime,
-    f: &F,
+    tables: &Gf16Tables,
     group: &Group,
     width: usize,
     row: &[u16],
     packets: &[u16],
-) -> io::Result<(bool, u64)>
-    requires all { (a : ℕ) → a < 65536 → F.is_element a }
-{
+) -> io::Result<(bool, u64)> {
     let start = Instant::now(rt)?;
-    let known = decode::<F, Brand>(rt.alloc(), f, group, width, packets, Blank::new(1))?;
+    let known = decode::<Brand>(rt.alloc(), tables, group, width, packets, Blank::new(1))?;
     let time = picoseconds(start.elapsed(rt)?, group.decoding());
     let laid = lay_out(rt.alloc(), group, width, row)?;
     Ok((known.places == laid, time))

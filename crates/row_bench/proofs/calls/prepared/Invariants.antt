@@ -1,8 +1,8 @@
-use Rattle.std.proofs.Common.{◌≡◌, length, All}
+use Rattle.std.proofs.Common.{◌≡◌, ◌<◌, length, All}
 use Rattle.row_bench.proofs.calls.prepared.Given as goal
 
 abbrev pub invariant-loop-i : goal.invariant-loop-i
-invariant-loop-i g l = record {
+invariant-loop-i l = record {
   long : length l.all.items ≡ l.i;
-  elements : All (λ p. g.F.Field.is_element (g.F.Rows.element_of p)) l.all.items;
+  elements : All (λ p. p.factor < 65536) l.all.items;
 }
