@@ -9,7 +9,7 @@ use Rattle.kept_sets.specs.KeptSet.{KeptSet, kept_in_all}
 use Rattle.kept_sets.specs.Union.{union, absorb_fault}
 use Rattle.kept_sets.specs.declared.union.Absorb.TheVariants as absorb
 use Rattle.store_merge.specs.Files.{HasStore, HasBadStore, store_file}
-use Rattle.store_merge.specs.declared.fault.BadStore.TheVariants.{At}
+use Rattle.store_text.specs.declared.fault.BadStore.TheVariants.{At}
 use Rattle.pet_text.specs.Lines.{merged_text}
 use Rattle.command_merge.specs.declared.command.MergeEnd.{MergeEnd}
 use Rattle.command_merge.specs.declared.command.MergeEnd.TheVariants.{Done, NoMemory, PlaceFault, OutFault, BadFirst, BadSecond, OtherSession, Clash, Full}

@@ -11,7 +11,7 @@ use pet_base::{Link, NoMemory, Outside, Place, Sink};
 use pet_text::merged_line;
 use std::alloc::Global;
 use std::sync::ledger::Ledger;
-use store_merge::StoreKind;
+use store_text::StoreKind;
 
 /// How `merge` ended.
 #[derive(Clone, Copy, Debug, PartialEq, Eq)]

@@ -22,7 +22,7 @@ use Rattle.pet_receive.specs.ShownBytes.{groups_told}
 use Rattle.reassemble.specs.Leading.{lengths_in}
 use Rattle.reassemble.specs.Video.{run_bytes, start_of, group_video}
 use Rattle.reassemble.proofs.Layers.{shown_in, shown_length}
-use Rattle.store_merge.specs.laws.ManyFrames.{group_frame, each_kept}
+use Rattle.store_text.specs.laws.ManyFrames.{group_frame, each_kept}
 use Rattle.command_video.specs.StoreVideo.{AreVideos, IsGroupVideo, numbers_in}
 
 -- ---- one group more

@@ -16,7 +16,7 @@ use Rattle.pet_receive.specs.ShownBytes.{IsShown, IsShownBytes}
 use Rattle.open_group.proofs.Agreement.{same_bytes}
 use Rattle.reassemble.specs.Leading.{IsUnfit, lengths_in}
 use Rattle.reassemble.proofs.Layers.{shown_in}
-use Rattle.store_merge.specs.laws.ManyFrames.{group_frame}
+use Rattle.store_text.specs.laws.ManyFrames.{group_frame}
 use Rattle.command_video.specs.StoreVideo.{IsGroupVideo, HasBadTable, numbers_in}
 
 -- the packets determine the bytes of a shown layer

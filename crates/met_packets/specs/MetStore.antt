@@ -1,7 +1,7 @@
 -- The store of a session's packets that were met. Nothing here speaks of payloads that were kept. This project's own.
 use Rattle.std.specs.Prelude.{ℕ, List}
 use Rattle.pet_encode.specs.Session.{Session}
-use Rattle.store_merge.specs.Store.{store_of}
+use Rattle.store_text.specs.Store.{store_of}
 use Rattle.met_packets.specs.Gf16.{met_frames}
 use Rattle.met_packets.specs.Met.{Pair, met_in}
 

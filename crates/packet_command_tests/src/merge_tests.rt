@@ -5,7 +5,7 @@ use crate::merge_fixtures::{OF_CHANGED, ONE_AND_TWO, THREE};
 use command_merge::MergeEnd;
 use example_session::SESSION;
 use std::alloc::Global;
-use store_merge::StoreKind;
+use store_text::StoreKind;
 
 const DONE: Run = Run::Merge(MergeEnd::Done);
 

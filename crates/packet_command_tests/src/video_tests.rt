@@ -10,7 +10,7 @@ use crate::video_fixtures::{
 };
 use command_video::VideoEnd;
 use example_session::{SESSION, STREAM};
-use store_merge::StoreKind;
+use store_text::StoreKind;
 
 const DONE: Run = Run::Video(VideoEnd::Done);
 

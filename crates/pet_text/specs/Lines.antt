@@ -5,8 +5,8 @@ use Rattle.mpeg_scan.specs.declared.refusal.Scan.{Scan}
 use Rattle.mpeg_scan.specs.declared.refusal.Scan.TheVariants as scan
 use Rattle.priority_file.specs.declared.fault.PriorityFault.{PriorityFault}
 use Rattle.priority_file.specs.declared.fault.PriorityFault.TheVariants as priority
-use Rattle.store_merge.specs.declared.fault.StoreKind.{StoreKind}
-use Rattle.store_merge.specs.declared.fault.StoreKind.TheVariants as store
+use Rattle.store_text.specs.declared.fault.StoreKind.{StoreKind}
+use Rattle.store_text.specs.declared.fault.StoreKind.TheVariants as store
 use Rattle.pet_text.specs.declared.status.PlanKind.{PlanKind}
 use Rattle.pet_text.specs.declared.status.PlanKind.TheVariants as plan
 use Rattle.pet_text.specs.declared.status.Status.{Status}

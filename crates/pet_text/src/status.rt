@@ -10,7 +10,7 @@ use arrayvec::ArrayVec;
 use mpeg_scan::Scan;
 use pet_base::MAX_STREAM;
 use priority_file::PriorityFault;
-use store_merge::StoreKind;
+use store_text::StoreKind;
 use stream_session::GroupMark;
 
 /// Why a stream has no plan, or a plan file is refused. Each kind comes with a number.

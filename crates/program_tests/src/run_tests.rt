@@ -10,7 +10,7 @@ use pet_base::NoMemory;
 use pet_text::{PlanKind, Status};
 use priority_file::PriorityFault;
 use std::alloc::Global;
-use store_merge::StoreKind;
+use store_text::StoreKind;
 
 /// The example session, with no plan file.
 const EXAMPLE: Files = (&STREAM, PRIORITIES, "");

@@ -2,7 +2,7 @@
 use mpeg_scan::Scan;
 use pet_text::{PlanKind, Status};
 use priority_file::PriorityFault;
-use store_merge::StoreKind;
+use store_text::StoreKind;
 use stream_session::GroupMark;
 
 /// Words that are no address, neither to send to nor to receive at.

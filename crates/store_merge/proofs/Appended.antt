@@ -13,8 +13,8 @@ use Rattle.session_packets.specs.Packets.{entry_text, entries_text}
 use Rattle.kept_sets.specs.KeptSet.{KeptSet, IsKeptSet, told_by}
 use Rattle.kept_sets.specs.Union.{frames_in}
 use Rattle.kept_sets.specs.laws.FramesLaws.{frames_of, frames_told, no_frames}
-use Rattle.store_merge.specs.Store.{text_before_tag, store_of}
-use Rattle.store_merge.specs.declared.format.TheConstants.{MARK}
+use Rattle.store_text.specs.Store.{text_before_tag, store_of}
+use Rattle.store_text.specs.declared.format.TheConstants.{MARK}
 
 -- ---- what stays in front
 

@@ -20,12 +20,12 @@ use Rattle.kept_sets.specs.Group.{group_in, number_in}
 use Rattle.kept_sets.specs.laws.KeptSetLaws.{verdict_read, verdict_damaged, after_kept, keepable}
 use Rattle.kept_sets.specs.laws.FramesInOrder.{IsAbove, frames_more, above_keep}
 use Rattle.pet_receive.specs.laws.StepLaws.{steps_keep}
-use Rattle.store_merge.specs.declared.fault.StoreKind.{StoreKind}
-use Rattle.store_merge.specs.declared.fault.StoreKind.TheVariants as kind
-use Rattle.store_merge.specs.Store.{store_steps}
-use Rattle.store_merge.specs.Refusals.{Last, is_above, kind_of, frame_fault}
+use Rattle.store_text.specs.declared.fault.StoreKind.{StoreKind}
+use Rattle.store_text.specs.declared.fault.StoreKind.TheVariants as kind
+use Rattle.store_merge.specs.Reading.{store_steps}
+use Rattle.store_text.specs.Refusals.{Last, is_above, kind_of, frame_fault}
 use Rattle.store_merge.specs.Reading.{frame_of, fault_of, fault_by, is_next, pairs_in, IsReadTo}
-use Rattle.store_merge.specs.laws.LedKeptSets.{EndsIn, absent_by, comes_after}
+use Rattle.store_text.specs.laws.LedKeptSets.{EndsIn, absent_by, comes_after}
 
 -- ---- the verdict of the next entry
 

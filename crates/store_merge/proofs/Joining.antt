@@ -6,11 +6,11 @@ use Rattle.pet_receive.specs.UnionSteps.{union_steps}
 use Rattle.kept_sets.specs.Union.{union, absorb_fault}
 use Rattle.kept_sets.specs.declared.union.Absorb.{Absorb}
 use Rattle.kept_sets.specs.declared.union.Absorb.TheVariants as absorb
-use Rattle.store_merge.specs.Store.{store_steps}
-use Rattle.store_merge.specs.Refusals.{read_text}
+use Rattle.store_merge.specs.Reading.{store_steps}
+use Rattle.store_text.specs.Refusals.{read_text}
 use Rattle.store_merge.specs.Merged.{of_first, of_second, of_both, joined, then_second, then_first, merged}
-use Rattle.store_merge.specs.declared.fault.BadStore.{BadStore}
-use Rattle.store_merge.specs.declared.fault.BadStore.TheVariants as store
+use Rattle.store_text.specs.declared.fault.BadStore.{BadStore}
+use Rattle.store_text.specs.declared.fault.BadStore.TheVariants as store
 use Rattle.store_merge.specs.declared.fault.MergeFault.{MergeFault}
 use Rattle.store_merge.specs.declared.fault.MergeFault.TheVariants.{NoMemory}
 

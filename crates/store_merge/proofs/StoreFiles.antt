@@ -11,10 +11,10 @@ use Rattle.command_files.specs.Inputs.{IsFrontOf, IsRead, Licensed}
 use Rattle.command_files.specs.Wrote.{File, Wrote}
 use Rattle.command_files.specs.laws.WroteLaws.{Wrote-file, Wrote-front}
 use Rattle.kept_sets.specs.KeptSet.{KeptSet}
-use Rattle.store_merge.specs.Refusals.{read_text}
-use Rattle.store_merge.specs.declared.fault.StoreKind.TheVariants.{Cut}
-use Rattle.store_merge.specs.declared.fault.BadStore.{BadStore}
-use Rattle.store_merge.specs.declared.fault.BadStore.TheVariants.{At, NoMemory}
+use Rattle.store_text.specs.Refusals.{read_text}
+use Rattle.store_text.specs.declared.fault.StoreKind.TheVariants.{Cut}
+use Rattle.store_text.specs.declared.fault.BadStore.{BadStore}
+use Rattle.store_text.specs.declared.fault.BadStore.TheVariants.{At, NoMemory}
 use Rattle.store_merge.specs.Files.{HasFile, IsStop, store_in, stop_of_place, stop_of_store}
 use Rattle.store_merge.proofs.Text.{long_by, short_by}
 

@@ -7,11 +7,11 @@ use Rattle.pet_base.specs.declared.limits.TheConstants.{TAG_LENGTH}
 use Rattle.packet_frame.specs.Refusals.{number, ends_in_tag}
 use Rattle.packet_frame.specs.declared.format.TheConstants.{FORMAT}
 use Rattle.kept_sets.specs.KeptSet.{KeptSet, empty_set}
-use Rattle.store_merge.specs.declared.format.TheConstants.{MARK, HEAD_LENGTH}
-use Rattle.store_merge.specs.declared.fault.StoreKind.TheVariants.{Cut, Magic, Tag}
-use Rattle.store_merge.specs.declared.fault.BadStore.{BadStore}
-use Rattle.store_merge.specs.declared.fault.BadStore.TheVariants.{At}
-use Rattle.store_merge.specs.Refusals.{read_entries, tag_at, then_tag, read_text}
+use Rattle.store_text.specs.declared.format.TheConstants.{MARK, HEAD_LENGTH}
+use Rattle.store_text.specs.declared.fault.StoreKind.TheVariants.{Cut, Magic, Tag}
+use Rattle.store_text.specs.declared.fault.BadStore.{BadStore}
+use Rattle.store_text.specs.declared.fault.BadStore.TheVariants.{At}
+use Rattle.store_text.specs.Refusals.{read_entries, tag_at, then_tag, read_text}
 
 -- what the entries come to
 abbrev pub entries_in : ℕ → List ℕ → Result KeptSet BadStore

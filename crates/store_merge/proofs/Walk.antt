@@ -10,13 +10,13 @@ use Rattle.kept_sets.specs.KeptSet.{KeptSet, IsKeptSet, keep}
 use Rattle.pet_receive.specs.Arrivals.{Order, ReceiverState, HasKept, kept_set}
 use Rattle.kept_sets.specs.Union.{frames_in_group}
 use Rattle.kept_sets.specs.laws.FramesInOrder.{above_none}
-use Rattle.store_merge.specs.declared.fault.StoreKind.{StoreKind}
-use Rattle.store_merge.specs.declared.fault.StoreKind.TheVariants.{Cut, Rest}
-use Rattle.store_merge.specs.declared.fault.BadStore.{BadStore}
-use Rattle.store_merge.specs.declared.fault.BadStore.TheVariants.{At}
-use Rattle.store_merge.specs.Refusals.{Last, entry_length, datagram_in, is_whole, then_next, read_entries}
-use Rattle.store_merge.specs.laws.EntryReading.{read_whole, read_cut, whole_long}
-use Rattle.store_merge.specs.laws.LedKeptSets.{EndsIn}
+use Rattle.store_text.specs.declared.fault.StoreKind.{StoreKind}
+use Rattle.store_text.specs.declared.fault.StoreKind.TheVariants.{Cut, Rest}
+use Rattle.store_text.specs.declared.fault.BadStore.{BadStore}
+use Rattle.store_text.specs.declared.fault.BadStore.TheVariants.{At}
+use Rattle.store_text.specs.Refusals.{Last, entry_length, datagram_in, is_whole, then_next, read_entries}
+use Rattle.store_text.specs.laws.EntryReading.{read_whole, read_cut, whole_long}
+use Rattle.store_text.specs.laws.LedKeptSets.{EndsIn}
 use Rattle.store_merge.specs.Reading.{frame_of, fault_of, pairs_in, IsReadTo}
 
 whole_is : (many at : ℕ) (set : KeptSet) (last : Last) (bytes : List ℕ) → is_whole bytes ≡ true

@@ -7,11 +7,11 @@ use Rattle.pet_base.specs.Seen.{Seen, Files}
 use Rattle.command_files.specs.Uses.{reading, Failed}
 use Rattle.command_files.specs.Wrote.{File}
 use Rattle.kept_sets.specs.KeptSet.{KeptSet}
-use Rattle.store_merge.specs.Store.{store_text}
-use Rattle.store_merge.specs.Refusals.{read_text}
-use Rattle.store_merge.specs.declared.fault.StoreKind.TheVariants.{Cut}
-use Rattle.store_merge.specs.declared.fault.BadStore.{BadStore}
-use Rattle.store_merge.specs.declared.fault.BadStore.TheVariants.{At, NoMemory}
+use Rattle.store_text.specs.Store.{store_text}
+use Rattle.store_text.specs.Refusals.{read_text}
+use Rattle.store_text.specs.declared.fault.StoreKind.TheVariants.{Cut}
+use Rattle.store_text.specs.declared.fault.BadStore.{BadStore}
+use Rattle.store_text.specs.declared.fault.BadStore.TheVariants.{At, NoMemory}
 use Rattle.store_merge.specs.declared.files.StoreStop.{StoreStop}
 use Rattle.store_merge.specs.declared.files.StoreStop.TheVariants as stop
 

@@ -1,5 +1,3 @@
-pub mod Store
-pub mod Refusals
 pub mod Merged
 pub mod Files
 pub mod laws

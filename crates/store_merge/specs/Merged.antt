@@ -4,9 +4,9 @@ use Rattle.kept_sets.specs.KeptSet.{KeptSet}
 use Rattle.kept_sets.specs.Union.{union, absorb_fault}
 use Rattle.kept_sets.specs.declared.union.Absorb.{Absorb}
 use Rattle.kept_sets.specs.declared.union.Absorb.TheVariants as absorb
-use Rattle.store_merge.specs.Refusals.{read_text}
-use Rattle.store_merge.specs.declared.fault.BadStore.{BadStore}
-use Rattle.store_merge.specs.declared.fault.BadStore.TheVariants as store
+use Rattle.store_text.specs.Refusals.{read_text}
+use Rattle.store_text.specs.declared.fault.BadStore.{BadStore}
+use Rattle.store_text.specs.declared.fault.BadStore.TheVariants as store
 use Rattle.store_merge.specs.declared.fault.MergeFault.{MergeFault}
 use Rattle.store_merge.specs.declared.fault.MergeFault.TheVariants.{First, Second, OtherSession, Clash, Full, NoMemory}
 

@@ -1,18 +1,20 @@
 -- Words of the contracts of the reader's parts. The frame of an entry and its refusal, opaque, since a datagram's fields
 -- open to all their places; what a receiver has after some entries.
-use Rattle.std.specs.Prelude.{ℕ, Bool, true, ◌&&◌, ◌||◌, ◌==◌, nat_lt, if◌then◌else◌, List, map, Option, None, Some}
+use Rattle.std.specs.Prelude.{ℕ, Bool, true, ◌&&◌, ◌||◌, ◌==◌, nat_lt, if◌then◌else◌, List, map, sum_by, Option, None, Some}
 use Rattle.packet_frame.specs.Frame.{Fields}
 use Rattle.packet_frame.specs.Refusals.{fields_of}
 use Rattle.pet_field.specs.Field.{Coding}
 use Rattle.kept_sets.specs.declared.verdict.Verdict.{Verdict}
 use Rattle.kept_sets.specs.declared.verdict.Verdict.TheVariants as verdict
 use Rattle.kept_sets.specs.KeptSet.{KeptSet, IsKeptSet}
-use Rattle.pet_receive.specs.Arrivals.{Order, ReceiverState, HasKept, kept_set}
+use Rattle.packet_set.specs.Packets.{count_in}
+use Rattle.pet_receive.specs.Arrivals.{Order, ReceiverState, HasKept, kept_set, layers_of, stripe_lengths}
+use Rattle.pet_receive.specs.UnionSteps.{steps_after}
 use Rattle.kept_sets.specs.Union.{frames_in}
-use Rattle.store_merge.specs.declared.fault.StoreKind.{StoreKind}
-use Rattle.store_merge.specs.declared.fault.StoreKind.TheVariants as kind
-use Rattle.store_merge.specs.Refusals.{Last, entry_fault}
-use Rattle.store_merge.specs.laws.LedKeptSets.{EndsIn}
+use Rattle.store_text.specs.declared.fault.StoreKind.{StoreKind}
+use Rattle.store_text.specs.declared.fault.StoreKind.TheVariants as kind
+use Rattle.store_text.specs.Refusals.{Last, entry_fault}
+use Rattle.store_text.specs.laws.LedKeptSets.{EndsIn}
 
 -- the frame of a datagram, and why it cannot be the next of these, or nothing
 unfoldable pub frame_of : List ℕ → Fields
@@ -44,3 +46,7 @@ pub record IsReadTo {E : Type 0} (is_element : E → Type 0) (c : Coding E) (r :
   pub sound : IsKeptSet (kept_set r)
   pub up_to : EndsIn (kept_set r) last
   pub order : HasKept is_element c r (pairs_in (kept_set r))
+
+-- how many steps the frames of a store may take, read one after the other
+abbrev pub store_steps : KeptSet → ℕ
+store_steps set = sum_by (λ e. steps_after 0 (stripe_lengths (layers_of e.1)) (count_in e.1)) set.groups

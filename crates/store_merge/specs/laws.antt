@@ -1,12 +1,3 @@
-pub mod EntryReading
-pub mod Leading
-pub mod LedKeptSets
-pub mod ReadLaws
-pub mod NextFault
-pub mod InOrder
-pub mod ManyFrames
-pub mod WrittenLaws
 pub mod MergeLaws
 pub mod MergeAssociates
-pub mod LengthLaws
 pub mod FileLaws

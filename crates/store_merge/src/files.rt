@@ -8,10 +8,9 @@ ghost use Rattle.command_files.specs.Wrote.{Wrote};
 ghost use Rattle.kept_sets.specs.KeptSet.{IsKeptSet};
 ghost use Rattle.pet_receive.specs.Arrivals.{kept_set, HasKept};
 ghost use Rattle.kept_sets.specs.Union.{frames_in};
-ghost use Rattle.store_merge.specs.Store.{store_steps};
+ghost use Rattle.store_merge.specs.Reading.{store_steps};
 ghost use Rattle.store_merge.specs.Files.{HasStore, IsStop, store_in, store_file};
 
-use crate::fault::{BadStore, StoreKind};
 use crate::read::read_store;
 use crate::write::write_store;
 use command_files::read_file;
@@ -20,6 +19,7 @@ use pet_receive::Receiver;
 use pet_rows::Rows;
 use std::alloc::Global;
 use std::sync::ledger::Ledger;
+use store_text::{BadStore, StoreKind};
 
 /// Why the store in a file is not read.
 #[derive(Clone, Copy, Debug, PartialEq, Eq)]

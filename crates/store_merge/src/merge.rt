@@ -3,11 +3,12 @@ ghost use Rattle.std.specs.Prelude.{◌≡◌, ◌≢◌, ◌++◌, ◌+◌, ◌
 ghost use Rattle.pet_base.specs.declared.limits.TheConstants.{MAX_PACKETS};
 ghost use Rattle.kept_sets.specs.KeptSet.{KeptSet};
 ghost use Rattle.pet_receive.specs.UnionSteps.{union_steps};
-ghost use Rattle.store_merge.specs.Store.{store_text, store_steps};
-ghost use Rattle.store_merge.specs.Refusals.{read_text};
+ghost use Rattle.store_text.specs.Store.{store_text};
+ghost use Rattle.store_merge.specs.Reading.{store_steps};
+ghost use Rattle.store_text.specs.Refusals.{read_text};
 ghost use Rattle.store_merge.specs.Merged.{merged, of_first, of_second};
 
-use crate::fault::{BadStore, MergeFault};
+use crate::fault::MergeFault;
 use crate::read::read_store;
 use crate::write::write_store;
 use kept_sets::Absorb;
@@ -15,6 +16,7 @@ use pet_base::{NoMemory, Steps};
 use pet_rows::Rows;
 use std::alloc::Global;
 use std::sync::ledger::Ledger;
+use store_text::BadStore;
 
 impl From<Absorb> for MergeFault {
     ghost use Rattle.store_merge.specs.Merged.{of_both};

@@ -8,13 +8,11 @@ ghost use Rattle.packet_frame.specs.declared.format.TheConstants.{FORMAT};
 ghost use Rattle.kept_sets.specs.KeptSet.{IsKeptSet, keep};
 ghost use Rattle.pet_receive.specs.Arrivals.{kept_set, HasKept};
 ghost use Rattle.kept_sets.specs.Union.{frames_in};
-ghost use Rattle.store_merge.specs.Store.{store_steps};
-ghost use Rattle.store_merge.specs.Refusals.{read_text, read_entries, is_whole, datagram_in, entry_length, tag_at};
-ghost use Rattle.store_merge.specs.declared.format.TheConstants.{MARK, HEAD_LENGTH};
+ghost use Rattle.store_merge.specs.Reading.{store_steps};
+ghost use Rattle.store_text.specs.Refusals.{read_text, read_entries, is_whole, datagram_in, entry_length, tag_at};
+ghost use Rattle.store_text.specs.declared.format.TheConstants.{MARK, HEAD_LENGTH};
 ghost use Rattle.store_merge.specs.Reading.{frame_of, fault_of, fault_by, is_next, pairs_in, IsReadTo};
 
-use crate::fault::{BadStore, StoreKind};
-use crate::format::{HEAD_LENGTH, MARK};
 use kept_sets::{Verdict, group_of, number_of};
 use pet_base::{Steps, TAG_LENGTH};
 use pet_receive::Receiver;
@@ -22,6 +20,7 @@ use pet_rows::Rows;
 use sha2::{Digest, Sha256};
 use std::alloc::Global;
 use std::sync::ledger::Ledger;
+use store_text::{BadStore, HEAD_LENGTH, MARK, StoreKind};
 
 /// The bytes of the tag.
 const TAG: usize = TAG_LENGTH as usize;

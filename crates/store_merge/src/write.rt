@@ -10,14 +10,14 @@ ghost use Rattle.kept_sets.specs.KeptSet.{IsKeptSet, open_group};
 ghost use Rattle.pet_receive.specs.Arrivals.{kept_set};
 ghost use Rattle.kept_sets.specs.Union.{frames_in, frames_in_group};
 ghost use Rattle.kept_sets.specs.laws.FramesLaws.{frames_of, frame_at};
-ghost use Rattle.store_merge.specs.Store.{store_text};
+ghost use Rattle.store_text.specs.Store.{store_text};
 
-use crate::format::MARK;
 use packet_frame::{FORMAT, Header, write_frame};
 use pet_base::NoMemory;
 use pet_receive::Receiver;
 use pet_rows::Rows;
 use sha2::{Digest, Sha256};
+use store_text::MARK;
 use stripe_plan::datagram_length;
 
 /// Appends the store of all packets that the receiver has kept, by group, then number. `into` is as before where no memory

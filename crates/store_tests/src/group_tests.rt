@@ -3,7 +3,8 @@ use crate::store_fixtures::{
     Merge, Stored, Written, first_merged_otherwise, first_written_otherwise,
 };
 use example_session::SESSION;
-use store_merge::{MergeFault, StoreKind};
+use store_merge::MergeFault;
+use store_text::StoreKind;
 
 /// What both groups cost: four packets each, of 49 bytes.
 const BOTH_COST: u64 = 392;

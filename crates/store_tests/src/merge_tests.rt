@@ -3,7 +3,8 @@ use crate::store_fixtures::{
     ALL, CHANGED_FIVE, DAMAGED, LIMIT, Merge, NONE, ONE_TWO, ONE_TWO_FIVE, OTHER_SESSION, TWO_FIVE,
     Written, first_merged_otherwise, first_written_otherwise,
 };
-use store_merge::{MergeFault, StoreKind};
+use store_merge::MergeFault;
+use store_text::StoreKind;
 
 static WRITTEN: [Written; 3] = [
     (&[], LIMIT, NONE, 32),

@@ -4,7 +4,7 @@ use Rattle.std.proofs.Common.{◌≡◌, ℕ, List, ap}
 use Rattle.pet_field.specs.Gf16.{gf16_coding}
 use Rattle.packet_frame.specs.Frame.{Fields}
 use Rattle.pet_encode.specs.Session.{Session}
-use Rattle.store_merge.specs.Store.{store_of}
+use Rattle.store_text.specs.Store.{store_of}
 use Rattle.met_packets.specs.Met.{Pair, met_in, has_pair}
 use Rattle.met_packets.specs.MetStore.{pairs_store, session_store}
 use Rattle.met_packets.specs.laws.FramesAreMet.{same_pairs}

@@ -9,13 +9,13 @@ use Rattle.pet_encode.specs.Session.{Session, IsSession, Fits}
 use Rattle.kept_sets.specs.KeptSet.{KeptSet, cost_kept}
 use Rattle.kept_sets.specs.Union.{frames_in}
 use Rattle.store_merge.specs.Files.{HasStore, HasBadStore, store_in}
-use Rattle.store_merge.specs.Refusals.{read_text}
-use Rattle.store_merge.specs.Store.{store_of, store_text}
-use Rattle.store_merge.specs.laws.LengthLaws.{store_fits}
-use Rattle.store_merge.specs.laws.WrittenLaws.{written_is_read}
-use Rattle.store_merge.specs.declared.fault.StoreKind.TheVariants.{Cut}
-use Rattle.store_merge.specs.declared.fault.BadStore.{BadStore}
-use Rattle.store_merge.specs.declared.fault.BadStore.TheVariants.{At}
+use Rattle.store_text.specs.Refusals.{read_text}
+use Rattle.store_text.specs.Store.{store_of, store_text}
+use Rattle.store_text.specs.laws.LengthLaws.{store_fits}
+use Rattle.store_text.specs.laws.WrittenLaws.{written_is_read}
+use Rattle.store_text.specs.declared.fault.StoreKind.TheVariants.{Cut}
+use Rattle.store_text.specs.declared.fault.BadStore.{BadStore}
+use Rattle.store_text.specs.declared.fault.BadStore.TheVariants.{At}
 use Rattle.met_packets.specs.Met.{Pair}
 use Rattle.met_packets.specs.MetStore.{pairs_store}
 use Rattle.met_packets.specs.laws.SetOfPairs.{IsMetSet, its_frames, store_exists}

@@ -9,14 +9,14 @@ use Rattle.kept_sets.specs.Union.{union, absorb_fault}
 use Rattle.kept_sets.specs.laws.UnionLaws.{fit_commutes, union_commutes, union_itself, fit_itself}
 use Rattle.kept_sets.specs.laws.UnionAssociates.{union_associates, fit_rest, fit_first}
 use Rattle.store_merge.specs.Files.{store_in}
-use Rattle.store_merge.specs.Store.{store_text}
-use Rattle.store_merge.specs.Refusals.{read_text}
-use Rattle.store_merge.specs.declared.fault.BadStore.{BadStore}
-use Rattle.store_merge.specs.declared.fault.BadStore.TheVariants.{At}
-use Rattle.store_merge.specs.declared.fault.StoreKind.TheVariants.{Cut}
-use Rattle.store_merge.specs.laws.LengthLaws.{store_fits}
-use Rattle.store_merge.specs.laws.ReadLaws.{read_sound, read_limit, read_is_written}
-use Rattle.store_merge.specs.laws.WrittenLaws.{written_is_read}
+use Rattle.store_text.specs.Store.{store_text}
+use Rattle.store_text.specs.Refusals.{read_text}
+use Rattle.store_text.specs.declared.fault.BadStore.{BadStore}
+use Rattle.store_text.specs.declared.fault.BadStore.TheVariants.{At}
+use Rattle.store_text.specs.declared.fault.StoreKind.TheVariants.{Cut}
+use Rattle.store_text.specs.laws.LengthLaws.{store_fits}
+use Rattle.store_text.specs.laws.ReadLaws.{read_sound, read_limit, read_is_written}
+use Rattle.store_text.specs.laws.WrittenLaws.{written_is_read}
 
 -- ---- a file that is not longer than a store may be is read as a store
 

@@ -5,12 +5,12 @@ use Rattle.kept_sets.specs.Union.{union, absorb_fault}
 use Rattle.kept_sets.specs.laws.KeptSetLaws.{empty_sound}
 use Rattle.kept_sets.specs.laws.UnionLaws.{union_nothing, fit_nothing}
 use Rattle.kept_sets.specs.laws.UnionAssociates.{union_associates, fit_rest, fit_first}
-use Rattle.store_merge.specs.Store.{store_text}
-use Rattle.store_merge.specs.Refusals.{read_text}
+use Rattle.store_text.specs.Store.{store_text}
+use Rattle.store_text.specs.Refusals.{read_text}
 use Rattle.store_merge.specs.Merged.{merged}
-use Rattle.store_merge.specs.declared.fault.BadStore.{BadStore}
-use Rattle.store_merge.specs.laws.ReadLaws.{read_sound, read_session, read_limit}
-use Rattle.store_merge.specs.laws.WrittenLaws.{written_is_read}
+use Rattle.store_text.specs.declared.fault.BadStore.{BadStore}
+use Rattle.store_text.specs.laws.ReadLaws.{read_sound, read_session, read_limit}
+use Rattle.store_text.specs.laws.WrittenLaws.{written_is_read}
 use Rattle.store_merge.specs.laws.MergeLaws.{IsMergedFrom, merged_from, from_merged, merge_commutes, merge_sound, merge_session, merge_limit}
 
 -- a kept set under this limit is read again of its text

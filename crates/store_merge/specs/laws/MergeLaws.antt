@@ -5,12 +5,12 @@ use Rattle.kept_sets.specs.KeptSet.{KeptSet, IsKeptSet, cost_kept}
 use Rattle.kept_sets.specs.Union.{union, absorb_fault}
 use Rattle.kept_sets.specs.declared.union.Absorb.{Absorb}
 use Rattle.kept_sets.specs.laws.UnionLaws.{fit_commutes, union_commutes, fit_sound, union_itself, fit_itself}
-use Rattle.store_merge.specs.Store.{store_text}
-use Rattle.store_merge.specs.Refusals.{read_text}
+use Rattle.store_text.specs.Store.{store_text}
+use Rattle.store_text.specs.Refusals.{read_text}
 use Rattle.store_merge.specs.Merged.{joined, then_second, then_first, merged}
-use Rattle.store_merge.specs.declared.fault.BadStore.{BadStore}
+use Rattle.store_text.specs.declared.fault.BadStore.{BadStore}
 use Rattle.store_merge.specs.declared.fault.MergeFault.{MergeFault}
-use Rattle.store_merge.specs.laws.ReadLaws.{read_sound, read_session, read_limit, read_is_written}
+use Rattle.store_text.specs.laws.ReadLaws.{read_sound, read_session, read_limit, read_is_written}
 
 -- what two stores are merged from: the sets that are read of them, which can be joined
 pub record IsMergedFrom (first second : Result KeptSet BadStore) (set : KeptSet) : Type 0 where

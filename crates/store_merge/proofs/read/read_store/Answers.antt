@@ -1,8 +1,8 @@
 use Rattle.std.proofs.Common.{◌≡◌, ◌+◌, length, None, Err, sym, ap, ◌∙◌}
 use Rattle.pet_base.specs.declared.limits.TheConstants.{TAG_LENGTH}
 use Rattle.pet_receive.specs.Arrivals.{kept_set}
-use Rattle.store_merge.specs.declared.format.TheConstants.{HEAD_LENGTH}
-use Rattle.store_merge.specs.Refusals.{read_entries}
+use Rattle.store_text.specs.declared.format.TheConstants.{HEAD_LENGTH}
+use Rattle.store_text.specs.Refusals.{read_entries}
 use Rattle.store_merge.proofs.Walk.{each_err_and}
 use Rattle.store_merge.proofs.Text.{entries_in, entries_are, text_short, text_other, text_refused, text_untagged, text_read, long_by, short_by}
 use Rattle.store_merge.proofs.read.read_store.Given.{Over}

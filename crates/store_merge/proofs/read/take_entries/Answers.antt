@@ -1,7 +1,7 @@
 use Rattle.std.proofs.Common.{length, None, Err, sym, ap, ◌∙◌, arith}
 use Rattle.pet_receive.specs.Arrivals.{kept_set}
-use Rattle.store_merge.specs.declared.format.TheConstants.{HEAD_LENGTH}
-use Rattle.store_merge.specs.Refusals.{read_entries}
+use Rattle.store_text.specs.declared.format.TheConstants.{HEAD_LENGTH}
+use Rattle.store_text.specs.Refusals.{read_entries}
 use Rattle.store_merge.proofs.Walk.{same_first, same_next, same_cut, same_fault, same_end, same_rest, read_none, left_behind, each_err_and, no_bytes, some_bytes}
 use Rattle.store_merge.proofs.read.take_entries.Goals as goal
 

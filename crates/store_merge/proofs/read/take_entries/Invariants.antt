@@ -1,8 +1,8 @@
 use Rattle.std.proofs.Common.{◌≤◌, ◌+◌, length, None}
 use Rattle.pet_receive.specs.Arrivals.{kept_set}
-use Rattle.store_merge.specs.declared.format.TheConstants.{HEAD_LENGTH}
-use Rattle.store_merge.specs.Store.{store_steps}
-use Rattle.store_merge.specs.Refusals.{read_entries}
+use Rattle.store_text.specs.declared.format.TheConstants.{HEAD_LENGTH}
+use Rattle.store_merge.specs.Reading.{store_steps}
+use Rattle.store_text.specs.Refusals.{read_entries}
 use Rattle.store_merge.specs.Reading.{IsReadTo}
 use Rattle.store_merge.proofs.Walk.{IsSame}
 use Rattle.store_merge.proofs.read.take_entries.Given as goal

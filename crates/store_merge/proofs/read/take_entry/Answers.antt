@@ -1,7 +1,7 @@
 use Rattle.std.proofs.Common.{◌≡◌, None, refl, sym, ap, ◌∙◌}
 use Rattle.packet_frame.specs.Refusals.{first_fault}
 use Rattle.pet_receive.specs.Arrivals.{kept_set}
-use Rattle.store_merge.specs.declared.fault.StoreKind.TheVariants.{Frame}
+use Rattle.store_text.specs.declared.fault.StoreKind.TheVariants.{Frame}
 use Rattle.store_merge.specs.Reading.{frame_of, fault_of, fault_by, is_next}
 use Rattle.store_merge.proofs.Entry.{fault_is, damaged_is, whole_is, taken, group_named, number_named}
 use Rattle.store_merge.proofs.read.take_entry.Goals as goal

@@ -4,7 +4,7 @@ use Rattle.pet_receive.specs.Arrivals.{kept_set}
 use Rattle.kept_sets.specs.Union.{frames_in}
 use Rattle.kept_sets.specs.laws.FramesLaws.{frames_many}
 use Rattle.store_merge.proofs.Appended.{stored}
-use Rattle.store_merge.specs.declared.format.TheConstants.{MARK}
+use Rattle.store_text.specs.declared.format.TheConstants.{MARK}
 use Rattle.store_merge.proofs.write.append_store.Goals as goal
 
 pub returns-clause-text : goal.returns-clause-text

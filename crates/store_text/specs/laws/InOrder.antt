@@ -19,9 +19,9 @@ use Rattle.kept_sets.specs.Union.{frames_in_group, frames_in}
 use Rattle.kept_sets.specs.laws.EntryLaws.{all_found, cmp_says_less}
 use Rattle.kept_sets.specs.laws.FramesInOrder.{frames_from, group_from}
 use Rattle.kept_sets.specs.laws.LastEntry.{below_end}
-use Rattle.store_merge.specs.Refusals.{Last, is_above}
-use Rattle.store_merge.specs.laws.Leading.{Leads}
-use Rattle.store_merge.specs.laws.NextFault.{both_false, same_itself, IsNextGroup, before, opened, above_in, none_opens, keep_opens, none_goes_on, keep_goes_on}
+use Rattle.store_text.specs.Refusals.{Last, is_above}
+use Rattle.store_text.specs.laws.Leading.{Leads}
+use Rattle.store_text.specs.laws.NextFault.{both_false, same_itself, IsNextGroup, before, opened, above_in, none_opens, keep_opens, none_goes_on, keep_goes_on}
 
 abbrev Slots : Type 0
 Slots = List (Option (List ℕ))

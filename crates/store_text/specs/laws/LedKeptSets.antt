@@ -14,10 +14,10 @@ use Rattle.kept_sets.specs.declared.verdict.Verdict.TheVariants as verdict
 use Rattle.kept_sets.specs.declared.verdict.LayerSet.{LayerSet}
 use Rattle.kept_sets.specs.laws.KeptSetLaws.{IsKeepable, keepable, keep_sound, keep_session, keep_limit, empty_sound}
 use Rattle.kept_sets.specs.laws.FramesInOrder.{IsAbove, ComesBefore, frames_more, above_keep, above_none}
-use Rattle.store_merge.specs.declared.fault.StoreKind.{StoreKind}
-use Rattle.store_merge.specs.declared.fault.StoreKind.TheVariants.{Session, Order}
-use Rattle.store_merge.specs.Refusals.{Last, is_above, kind_of, frame_fault}
-use Rattle.store_merge.specs.laws.Leading.{pair_of, Leads}
+use Rattle.store_text.specs.declared.fault.StoreKind.{StoreKind}
+use Rattle.store_text.specs.declared.fault.StoreKind.TheVariants.{Session, Order}
+use Rattle.store_text.specs.Refusals.{Last, is_above, kind_of, frame_fault}
+use Rattle.store_text.specs.laws.Leading.{pair_of, Leads}
 
 -- what is above the last pair is above all that is kept
 abbrev pub EndsIn : KeptSet → Last → Type 0

@@ -24,8 +24,8 @@ use Rattle.kept_sets.specs.declared.verdict.Verdict.TheVariants as verdict
 use Rattle.kept_sets.specs.declared.verdict.LayerSet.{LayerSet}
 use Rattle.kept_sets.specs.laws.FramesInOrder.{lookup_past}
 use Rattle.kept_sets.specs.laws.LastEntry.{insert_end, insert_at_end, lookup_end}
-use Rattle.store_merge.specs.declared.fault.StoreKind.TheVariants.{Session, Order}
-use Rattle.store_merge.specs.Refusals.{Last, is_above, kind_of, frame_fault}
+use Rattle.store_text.specs.declared.fault.StoreKind.TheVariants.{Session, Order}
+use Rattle.store_text.specs.Refusals.{Last, is_above, kind_of, frame_fault}
 
 record MayFollow (set : KeptSet) (last : Last) (f : Fields) : Type 0 where
   session : f.session ≡ set.session

@@ -1,16 +1,13 @@
 -- The text of a store: all frames that are kept of one session. Numbers are big-endian, and the tag is the front of the
 -- SHA-256 digest (FIPS 180-4) of all bytes before it. This project's own format.
-use Rattle.std.specs.Prelude.{ℕ, List, ◌++◌, length, sum_by}
+use Rattle.std.specs.Prelude.{ℕ, List, ◌++◌, length}
 use Rattle.std.specs.Int.{w32, to_be_bytes}
 use Rattle.packet_frame.specs.Frame.{Fields, tag_of}
 use Rattle.packet_frame.specs.declared.format.TheConstants.{FORMAT}
 use Rattle.session_packets.specs.Packets.{entries_text}
-use Rattle.packet_set.specs.Packets.{count_in}
 use Rattle.kept_sets.specs.KeptSet.{KeptSet}
-use Rattle.pet_receive.specs.Arrivals.{layers_of, stripe_lengths}
-use Rattle.pet_receive.specs.UnionSteps.{steps_after}
 use Rattle.kept_sets.specs.Union.{frames_in}
-use Rattle.store_merge.specs.declared.format.TheConstants.{MARK}
+use Rattle.store_text.specs.declared.format.TheConstants.{MARK}
 
 -- all that is before the tag: the mark, the session number, how many frames there are, and an entry for each
 abbrev pub text_before_tag : List ℕ → List Fields → List ℕ
@@ -23,7 +20,3 @@ store_of session frames = text_before_tag session frames ++ tag_of FORMAT (text_
 -- the store of what is kept: its frames by group, then number. Equal sets have equal texts.
 abbrev pub store_text : KeptSet → List ℕ
 store_text set = store_of set.session (frames_in set)
-
--- how many steps the frames of a store may take, read one after the other
-abbrev pub store_steps : KeptSet → ℕ
-store_steps set = sum_by (λ e. steps_after 0 (stripe_lengths (layers_of e.1)) (count_in e.1)) set.groups

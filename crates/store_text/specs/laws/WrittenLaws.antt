@@ -16,15 +16,15 @@ use Rattle.packet_frame.specs.laws.Again.{length-tag}
 use Rattle.session_packets.specs.Packets.{entries_text}
 use Rattle.kept_sets.specs.KeptSet.{KeptSet, IsKeptSet, empty_set, cost_kept}
 use Rattle.kept_sets.specs.Union.{frames_in}
-use Rattle.store_merge.specs.declared.format.TheConstants.{MARK, HEAD_LENGTH}
-use Rattle.store_merge.specs.declared.fault.StoreKind.TheVariants.{Cut, Magic}
-use Rattle.store_merge.specs.declared.fault.BadStore.{BadStore}
-use Rattle.store_merge.specs.declared.fault.BadStore.TheVariants.{At}
-use Rattle.store_merge.specs.Store.{store_text, store_of, text_before_tag}
-use Rattle.store_merge.specs.Refusals.{tag_at, then_tag, read_entries, read_text}
-use Rattle.store_merge.specs.laws.Leading.{Leads, leads_read}
-use Rattle.store_merge.specs.laws.InOrder.{in_order}
-use Rattle.store_merge.specs.laws.ManyFrames.{few_frames}
+use Rattle.store_text.specs.declared.format.TheConstants.{MARK, HEAD_LENGTH}
+use Rattle.store_text.specs.declared.fault.StoreKind.TheVariants.{Cut, Magic}
+use Rattle.store_text.specs.declared.fault.BadStore.{BadStore}
+use Rattle.store_text.specs.declared.fault.BadStore.TheVariants.{At}
+use Rattle.store_text.specs.Store.{store_text, store_of, text_before_tag}
+use Rattle.store_text.specs.Refusals.{tag_at, then_tag, read_entries, read_text}
+use Rattle.store_text.specs.laws.Leading.{Leads, leads_read}
+use Rattle.store_text.specs.laws.InOrder.{in_order}
+use Rattle.store_text.specs.laws.ManyFrames.{few_frames}
 
 none_refused : (a b : Bool) (x y : BadStore) (set : KeptSet) (rest : Result KeptSet BadStore) (bytes : List ℕ) → a ≡ false → b ≡ true → rest ≡ Ok set → ends_in_tag FORMAT bytes ≡ true
     → (if a then Err x else if not b then Err y else then_tag bytes rest) ≡ Ok set

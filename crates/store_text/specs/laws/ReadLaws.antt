@@ -16,15 +16,15 @@ use Rattle.packet_frame.specs.declared.format.TheConstants.{FORMAT}
 use Rattle.session_packets.specs.Packets.{entries_text}
 use Rattle.kept_sets.specs.KeptSet.{KeptSet, IsKeptSet, empty_set}
 use Rattle.kept_sets.specs.Union.{frames_in}
-use Rattle.store_merge.specs.declared.format.TheConstants.{MARK, HEAD_LENGTH}
-use Rattle.store_merge.specs.declared.fault.StoreKind.TheVariants.{Cut, Magic, Tag}
-use Rattle.store_merge.specs.declared.fault.BadStore.{BadStore}
-use Rattle.store_merge.specs.declared.fault.BadStore.TheVariants.{At}
-use Rattle.store_merge.specs.Store.{store_text, store_of, text_before_tag}
-use Rattle.store_merge.specs.Refusals.{tag_at, then_tag, read_entries, read_text}
-use Rattle.store_merge.specs.laws.EntryReading.{at_each}
-use Rattle.store_merge.specs.laws.Leading.{StandThere, read_leads}
-use Rattle.store_merge.specs.laws.LedKeptSets.{HasGrownBy, leads_make}
+use Rattle.store_text.specs.declared.format.TheConstants.{MARK, HEAD_LENGTH}
+use Rattle.store_text.specs.declared.fault.StoreKind.TheVariants.{Cut, Magic, Tag}
+use Rattle.store_text.specs.declared.fault.BadStore.{BadStore}
+use Rattle.store_text.specs.declared.fault.BadStore.TheVariants.{At}
+use Rattle.store_text.specs.Store.{store_text, store_of, text_before_tag}
+use Rattle.store_text.specs.Refusals.{tag_at, then_tag, read_entries, read_text}
+use Rattle.store_text.specs.laws.EntryReading.{at_each}
+use Rattle.store_text.specs.laws.Leading.{StandThere, read_leads}
+use Rattle.store_text.specs.laws.LedKeptSets.{HasGrownBy, leads_make}
 
 -- what the bytes before the entries and behind them tell, where nothing is refused
 record ReadsOn (limit : ℕ) (bytes : List ℕ) (set : KeptSet) : Type 0 where

@@ -11,11 +11,11 @@ use Rattle.kept_sets.specs.KeptSet.{KeptSet, empty_set, keep}
 use Rattle.kept_sets.specs.Verdicts.{frame_verdict}
 use Rattle.kept_sets.specs.declared.verdict.Verdict.{Verdict}
 use Rattle.kept_sets.specs.declared.verdict.Verdict.TheVariants as verdict
-use Rattle.store_merge.specs.declared.format.TheConstants.{MARK, HEAD_LENGTH}
-use Rattle.store_merge.specs.declared.fault.StoreKind.{StoreKind}
-use Rattle.store_merge.specs.declared.fault.StoreKind.TheVariants.{Cut, Magic, Frame, Session, Order, Clash, Full, Rest, Tag}
-use Rattle.store_merge.specs.declared.fault.BadStore.{BadStore}
-use Rattle.store_merge.specs.declared.fault.BadStore.TheVariants.{At}
+use Rattle.store_text.specs.declared.format.TheConstants.{MARK, HEAD_LENGTH}
+use Rattle.store_text.specs.declared.fault.StoreKind.{StoreKind}
+use Rattle.store_text.specs.declared.fault.StoreKind.TheVariants.{Cut, Magic, Frame, Session, Order, Clash, Full, Rest, Tag}
+use Rattle.store_text.specs.declared.fault.BadStore.{BadStore}
+use Rattle.store_text.specs.declared.fault.BadStore.TheVariants.{At}
 
 -- the group and the number of the entry before, where there is one
 abbrev pub Last : Type 0

@@ -10,10 +10,10 @@ use Rattle.std.proofs.lemmas.Nat.{from_be_bytes-to_be_bytes_2, be_bytes_2}
 use Rattle.packet_frame.specs.Refusals.{number, fields_of}
 use Rattle.session_packets.specs.Packets.{entry_text}
 use Rattle.kept_sets.specs.KeptSet.{KeptSet, keep}
-use Rattle.store_merge.specs.declared.fault.BadStore.{BadStore}
-use Rattle.store_merge.specs.declared.fault.BadStore.TheVariants.{At}
-use Rattle.store_merge.specs.declared.fault.StoreKind.TheVariants.{Cut}
-use Rattle.store_merge.specs.Refusals.{Last, entry_fault, entry_length, datagram_in, is_whole, then_next, read_entries}
+use Rattle.store_text.specs.declared.fault.BadStore.{BadStore}
+use Rattle.store_text.specs.declared.fault.BadStore.TheVariants.{At}
+use Rattle.store_text.specs.declared.fault.StoreKind.TheVariants.{Cut}
+use Rattle.store_text.specs.Refusals.{Last, entry_fault, entry_length, datagram_in, is_whole, then_next, read_entries}
 
 -- ---- the entry of a datagram, and bytes behind it
 

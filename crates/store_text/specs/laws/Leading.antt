@@ -1,6 +1,6 @@
 -- Frames that may be read one after the other: their entries are read as the set that they lead to, and what is read are
 -- the entries of such frames.
-use Rattle.std.proofs.Common.{◌≡◌, ℕ, ◌+◌, ◌<◌, zero, suc, true, List, [], ◌∷◌, ◌++◌, length, drop, All, Option, None, Some, Result, Ok, Err, refl, sym, ap, ◌∙◌, arith, inl, inr}
+use Rattle.std.proofs.Common.{◌≡◌, ℕ, ◌+◌, ◌<◌, zero, suc, true, List, [], ◌∷◌, ◌++◌, length, drop, All, Option, None, Some, Result, Ok, Err, refl, sym, ap, ◌∙◌, inl, inr}
 use Rattle.std.specs.Prelude.{if◌then◌else◌, is_some}
 use Rattle.std.specs.Int.{w16}
 use Rattle.std.proofs.lemmas.Bool.{cases_Bool}
@@ -12,12 +12,12 @@ use Rattle.packet_frame.specs.laws.Laws.{texts_are_read, reads_frames, reads_tex
 use Rattle.session_packets.specs.Packets.{entry_text, entries_text}
 use Rattle.session_packets.specs.laws.SentLaws.{text_short}
 use Rattle.kept_sets.specs.KeptSet.{KeptSet, keep}
-use Rattle.store_merge.specs.declared.fault.StoreKind.{StoreKind}
-use Rattle.store_merge.specs.declared.fault.StoreKind.TheVariants.{Frame, Cut}
-use Rattle.store_merge.specs.declared.fault.BadStore.{BadStore}
-use Rattle.store_merge.specs.declared.fault.BadStore.TheVariants.{At}
-use Rattle.store_merge.specs.Refusals.{Last, frame_fault, entry_fault, entry_length, datagram_in, is_whole, then_next, read_entries}
-use Rattle.store_merge.specs.laws.EntryReading.{entry_datagram, entry_rest, entry_whole, read_whole, read_cut, whole_is}
+use Rattle.store_text.specs.declared.fault.StoreKind.{StoreKind}
+use Rattle.store_text.specs.declared.fault.StoreKind.TheVariants.{Frame, Cut}
+use Rattle.store_text.specs.declared.fault.BadStore.{BadStore}
+use Rattle.store_text.specs.declared.fault.BadStore.TheVariants.{At}
+use Rattle.store_text.specs.Refusals.{Last, frame_fault, entry_fault, entry_length, datagram_in, is_whole, then_next, read_entries}
+use Rattle.store_text.specs.laws.EntryReading.{entry_datagram, entry_rest, entry_whole, read_whole, read_cut, whole_is}
 
 -- the pair of a frame
 abbrev pub pair_of : Fields → ℕ × ℕ

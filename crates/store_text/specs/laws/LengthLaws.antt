@@ -20,9 +20,9 @@ use Rattle.session_packets.specs.Packets.{entry_text, entries_text}
 use Rattle.kept_sets.specs.KeptSet.{KeptSet, IsKeptSet, IsKeptGroup, cost_in, cost_kept}
 use Rattle.kept_sets.specs.Union.{frames_in_group, frames_in}
 use Rattle.kept_sets.specs.laws.FramesInOrder.{frames_from, group_from}
-use Rattle.store_merge.specs.declared.format.TheConstants.{MARK}
-use Rattle.store_merge.specs.Store.{store_text, store_of, text_before_tag}
-use Rattle.store_merge.specs.laws.ManyFrames.{each_kept, group_frame}
+use Rattle.store_text.specs.declared.format.TheConstants.{MARK}
+use Rattle.store_text.specs.Store.{store_text, store_of, text_before_tag}
+use Rattle.store_text.specs.laws.ManyFrames.{each_kept, group_frame}
 
 -- the length of the entry of a frame
 abbrev pub entry_bytes : Fields → ℕ

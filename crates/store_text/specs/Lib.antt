@@ -1,0 +1,3 @@
+pub mod Store
+pub mod Refusals
+pub mod laws

@@ -1,0 +1,9 @@
+pub mod EntryReading
+pub mod Leading
+pub mod LedKeptSets
+pub mod ReadLaws
+pub mod NextFault
+pub mod InOrder
+pub mod ManyFrames
+pub mod WrittenLaws
+pub mod LengthLaws
