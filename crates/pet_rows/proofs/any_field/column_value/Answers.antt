@@ -1,4 +1,5 @@
-use Rattle.std.proofs.Common.{◌≡◌, ◌+◌, ◌-◌, ◌*◌, ◌<◌, length, get_or, ap, ◌∙◌, arith}
+use Rattle.std.proofs.Common.{◌≡◌, ◌+◌, ◌-◌, ◌*◌, ◌<◌, length, get_or, ap, ◌∙◌, arith, rules}
+use Rattle.pet_rows.specs.laws.PlaceLaws.{rows_le}
 use Rattle.pet_rows.proofs.ColumnLoop.{row_place, row_room}
 use Rattle.pet_rows.proofs.AnyField.{horner_is, start, next, done}
 use Rattle.pet_rows.proofs.any_field.column_value.Goals as goal
@@ -48,3 +49,25 @@ returns-clause-value g c =
     let F = g.F.Field in
     done F.is_element F.coding.ops g.met.F.Field.lawful.field c.args.rows.now c.args.width c.args.count c.args.c c.args.x c.requires.whole c.requires.column c.requires.elements c.requires.point
     c.loop-j.j c.loop-j.value (omega arith) c.loop-j.invariant.value
+
+pub returns-clause-cost : goal.returns-clause-cost
+returns-clause-cost g c = omega (arith, c.loop-j.invariant.cost)
+
+pub overflow_sub-at : goal.overflow_sub-at
+overflow_sub-at g c = omega (arith, rows_le 1 c.loop-j.j c.args.width (omega arith), c.loop-j.invariant.place)
+
+pub overflow_add-at : goal.overflow_add-at
+overflow_add-at g c =
+    let j = c.loop-j.j in
+    let w = c.args.width in
+    let place : c.loop-j.at - w ≡ (j - 1) * w = row_place j w c.loop-j.at (omega arith) c.loop-j.invariant.place in
+    let room : c.loop-j.at - w + c.args.c < length c.args.rows.now = rw (place, c.requires.whole) (row_room j w c.args.count c.args.c (omega arith) (omega arith) c.requires.column) in
+    search rules
+
+pub bounds-rows-at : goal.bounds-rows-at
+bounds-rows-at g c =
+    let j = c.loop-j.j in
+    let w = c.args.width in
+    let place : c.loop-j.at - w ≡ (j - 1) * w = row_place j w c.loop-j.at (omega arith) c.loop-j.invariant.place in
+    let room : c.loop-j.at - w + c.args.c < length c.args.rows.now = rw (place, c.requires.whole) (row_room j w c.args.count c.args.c (omega arith) (omega arith) c.requires.column) in
+    room

@@ -1,4 +1,4 @@
-use Rattle.std.proofs.Common.{◌≡◌, ◌*◌, ◌<◌, length, ap, ◌∙◌, arith}
+use Rattle.std.proofs.Common.{◌≡◌, ◌*◌, ◌<◌, length, refl, ap, ◌∙◌, arith}
 use native.Mathlib.Nat.{mul_comm}
 use Rattle.std.proofs.lemmas.List.{length-set}
 use Rattle.pet_poly.specs.Value.{value}
@@ -41,3 +41,6 @@ returns-clause-elements g c =
     rw (c.loop-c.invariant.values k (omega arith))
     (value_is F.is_element F.coding.ops g.met.F.Field.lawful.field (column F.coding.ops.nought w c.args.count k c.args.rows.now) c.args.x
     (column_elements F.is_element F.coding.ops.nought w c.args.count k c.args.rows.now m (omega (arith, c.requires.whole)) c.requires.elements) c.requires.point))
+
+pub loop-c-init : goal.loop-c-init
+loop-c-init g c = record { long = refl; values = λ k l. absurd (omega arith); cost = omega arith }

@@ -1,4 +1,4 @@
-use Rattle.std.proofs.Common.{◌≡◌, ◌<◌, length, get_or, ap, ◌∙◌, arith}
+use Rattle.std.proofs.Common.{◌≡◌, ◌<◌, length, get_or, refl, ap, ◌∙◌, arith}
 use Rattle.std.proofs.lemmas.List.{length-set, get_or-set_other, get_or_default}
 use Rattle.pet_rows.specs.laws.PlaceLaws.{filled}
 use Rattle.pet_rows.proofs.AnyField.{all_from}
@@ -31,3 +31,21 @@ returns-clause-elements g c =
     let m : k < length c.args.row.now = omega (arith, c.loop-c.invariant.long) in
     rw (c.loop-c.invariant.done k (omega arith))
     (g.met.F.Field.lawful.field.times_is c.args.factor (get_or c.args.row.now k F.coding.ops.nought) c.requires.factor (c.requires.elements k F.coding.ops.nought m)))
+
+pub loop-c-init : goal.loop-c-init
+loop-c-init g c = record { long = refl; done = λ k l. absurd (omega arith); rest = λ k l. refl; cost = omega arith }
+
+pub returns-clause-products : goal.returns-clause-products
+returns-clause-products g c = λ k l. c.loop-c.invariant.done k (omega arith)
+
+pub mul-requires : goal.mul-requires
+mul-requires g c =
+    let z = g.F.Field.coding.ops.nought in
+    let row = c.loop-c.row in
+    let n = c.loop-c.c in
+    let e = c.index-row-c.result in
+    let l : n < length c.args.row.now = omega (arith, c.loop-c.invariant.long) in
+    record {
+      first = c.requires.factor;
+      second = rw (c.index-row-c.is ∙ get_or_default row n e z (omega (arith, c.loop-c.invariant.long)) ∙ c.loop-c.invariant.rest n (omega arith)) (c.requires.elements n z l);
+    }

@@ -1,8 +1,9 @@
 use borrow.Rule.Slice.PartMut.{put_mid}
-use Rattle.std.proofs.Common.{◌≡◌, ◌+◌, ◌-◌, ◌*◌, ◌<◌, ◌≤◌, List, length, get_or, take, drop, ap, sym, ◌∙◌, add-one, arith, rules}
-use Rattle.std.proofs.lemmas.List.{length-take-le, length-drop}
+use Rattle.std.proofs.Common.{◌≡◌, ◌+◌, ◌-◌, ◌*◌, ◌<◌, ◌≤◌, List, length, get_or, take, drop, map, refl, ap, sym, ◌∙◌, add-one, arith, rules}
+use Rattle.std.proofs.lemmas.List.{length-take-le, length-drop, take_all}
+use Rattle.std.proofs.lemmas.List.Elements.{All-take, All-drop}
 use Rattle.pet_poly.specs.Value.{value}
-use Rattle.pet_rows.specs.Blocks.{size_of, width_of}
+use Rattle.pet_rows.specs.Blocks.{size_of, width_of, columns_of}
 use Rattle.pet_rows.proofs.Parts.{part_length}
 use Rattle.pet_rows.proofs.FirstBlocks.{room_size, room_width, more_size, more_width, step_done, b0}
 use Rattle.pet_rows.proofs.blocks.block_values.Goals as goal
@@ -65,4 +66,43 @@ loop-i-preserved g c =
           step_done V F.coding.ops.nought bs i c.loop-i.at c.loop-i.to laid into new l c.loop-i.invariant.place c.loop-i.invariant.until c.requires.whole c.loop-i.invariant.long
           c.values.auto.into c.values.ensures.values c.loop-i.invariant.done;
       cost = omega (arith, c.values.ensures.cost, c.loop-i.invariant.cost, long_part);
+    }
+
+pub loop-i-init : goal.loop-i-init
+loop-i-init g c = record { within = omega arith; fits = omega arith; place = refl; until = refl; long = c.requires.room; done = refl; cost = omega arith }
+
+pub returns-clause-values : goal.returns-clause-values
+returns-clause-values g c =
+    let F = g.F.Field in
+    let bs = c.args.blocks.now in
+    let i = c.loop-i.i in
+    let all : take i bs ≡ bs = take_all i bs (omega arith) in
+    sym (take_all c.loop-i.to c.loop-i.into (omega (arith, c.loop-i.invariant.until, ap width_of all, c.loop-i.invariant.long))) ∙ c.loop-i.invariant.done
+    ∙ ap (λ b. map (λ s. value F.coding.ops s (g.F.Rows.element_of c.args.x.now)) (columns_of F.coding.ops.nought b c.args.laid.now)) all
+
+pub returns-clause-cost : goal.returns-clause-cost
+returns-clause-cost g c =
+    let bs = c.args.blocks.now in
+    let i = c.loop-i.i in
+    omega (arith, c.loop-i.invariant.cost, c.loop-i.invariant.place, ap size_of (take_all i bs (omega arith)), c.requires.whole)
+
+pub values-requires : goal.values-requires
+values-requires g c =
+    let P = g.F.Field.is_element in
+    let i = c.loop-i.i in
+    let bs = c.args.blocks.now in
+    let b = get_or bs i b0 in
+    let l : i < length bs = omega arith in
+    let n = c.loop-i.at + b.length * b.width - c.loop-i.at in
+    let w = c.loop-i.to + b.width - c.loop-i.to in
+    let room : c.loop-i.at + b.length * b.width ≤ length c.args.laid.now = omega (arith, room_size bs i l, c.loop-i.invariant.place, c.requires.whole) in
+    let till : c.loop-i.to + b.width ≤ length c.loop-i.into = omega (arith, room_width bs i l, c.loop-i.invariant.until, c.loop-i.invariant.long) in
+    let long : length (take n (drop c.loop-i.at c.args.laid.now)) ≡ n = length-take-le n (drop c.loop-i.at c.args.laid.now) (omega (arith, length-drop c.loop-i.at c.args.laid.now)) in
+    let size : n ≡ b.length * b.width = omega arith in
+    let wide : length (take w (drop c.loop-i.to c.loop-i.into)) ≡ b.width = length-take-le w (drop c.loop-i.to c.loop-i.into) (omega (arith, length-drop c.loop-i.to c.loop-i.into)) ∙ omega arith in
+    record {
+      whole = long ∙ size ∙ ap (λ k. b.length * k) (sym wide);
+      narrow = rw wide (c.requires.narrow i b0 l);
+      elements = All-take P n (drop c.loop-i.at c.args.laid.now) (All-drop P c.loop-i.at c.args.laid.now c.requires.elements);
+      point = c.requires.point;
     }

@@ -1,5 +1,5 @@
-use Rattle.std.proofs.Common.{◌≡◌, ◌+◌, ◌-◌, ◌*◌, ◌<◌, ◌≤◌, length, get_or, take, drop, ap, sym, ◌∙◌, add-one, arith, rules}
-use Rattle.std.proofs.lemmas.List.{length-take-le, length-drop}
+use Rattle.std.proofs.Common.{◌≡◌, ◌+◌, ◌-◌, ◌*◌, ◌<◌, ◌≤◌, length, get_or, take, drop, refl, ap, sym, ◌∙◌, add-one, arith, rules}
+use Rattle.std.proofs.lemmas.List.{length-take-le, length-drop, take_all}
 use Rattle.pet_rows.specs.Blocks.{size_of}
 use Rattle.pet_rows.proofs.FirstBlocks.{room_size, more_size, b0}
 use Rattle.pet_rows.proofs.LayingOut.{laid_more, long_put}
@@ -41,3 +41,13 @@ loop-i-preserved g c =
       place = ap (λ n. n + b.length * b.width) c.loop-i.invariant.place ∙ sym (ap (λ n. size_of (take n bs)) (add-one i) ∙ more_size bs i l);
       done = λ d. laid_more d bs i at row laid new l c.loop-i.invariant.place c.requires.row c.loop-i.invariant.long c.transpose.auto.into (c.transpose.ensures d) (c.loop-i.invariant.done d);
     }
+
+pub loop-i-init : goal.loop-i-init
+loop-i-init g c = record { within = omega arith; long = c.requires.laid; place = refl; done = λ d. refl }
+
+pub returns : goal.returns
+returns g c =
+    let bs = c.args.blocks.now in
+    let all : take c.loop-i.i bs ≡ bs = take_all c.loop-i.i bs (omega arith) in
+    λ d.
+    rw all at (c.loop-i.invariant.done d)

@@ -1,4 +1,4 @@
-use Rattle.std.proofs.Common.{◌≡◌, ◌+◌, ◌*◌, ◌<◌, length, ◌∙◌, arith, rules}
+use Rattle.std.proofs.Common.{◌≡◌, ◌+◌, ◌*◌, ◌<◌, length, refl, ◌∙◌, arith, rules}
 use Rattle.std.proofs.lemmas.List.{length-set}
 use Rattle.pet_rows.proofs.LayingOut.{written_more, others_same}
 use Rattle.pet_rows.specs.laws.PlaceLaws.{place_below}
@@ -24,3 +24,9 @@ loop-j-preserved g c =
       written = λ d. written_more from into w n j v d c.requires.column l room c.index-from-j.is (c.loop-j.invariant.written d);
       others = λ d i m h ne. others_same from into w n j v d c.requires.column l room c.index-from-j.is i m h ne ∙ c.loop-j.invariant.others d i m h ne;
     }
+
+pub loop-j-init : goal.loop-j-init
+loop-j-init g c = record { long = refl; written = λ d i l. absurd (omega arith); others = λ d i n l h. refl }
+
+pub returns : goal.returns
+returns g c = record { written = λ d i l. c.loop-j.invariant.written d i (omega arith); others = c.loop-j.invariant.others }

@@ -1,4 +1,4 @@
-use Rattle.std.proofs.Common.{◌≡◌, ◌+◌, ◌-◌, ◌*◌, ◌≤◌, inl, inr, length, get_or, take, drop, ◌∙◌, ap, sym, arith}
+use Rattle.std.proofs.Common.{◌≡◌, ◌+◌, ◌-◌, ◌*◌, ◌≤◌, inl, inr, length, get_or, take, drop, refl, ◌∙◌, ap, sym, arith}
 use native.Mathlib.Nat.{mul_comm}
 use Rattle.std.proofs.lemmas.Bool.{cases_lt}
 use Rattle.std.proofs.lemmas.List.{get_or-take, get_or-drop, length-take-le, length-drop}
@@ -30,3 +30,9 @@ loop-c-preserved g c =
                 ∙ ap (λ t. get_or from (t + j) d) (place ∙ ap (λ t. t * k) (sym e))
           ];
     }
+
+pub loop-c-init : goal.loop-c-init
+loop-c-init g c = record { place = omega arith; long = refl; done = λ d n j l h. absurd (omega arith) }
+
+pub returns : goal.returns
+returns g c = λ d n j l h. c.loop-c.invariant.done d n j (omega arith) h

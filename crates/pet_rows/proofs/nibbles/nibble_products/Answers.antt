@@ -32,3 +32,6 @@ returns c =
       low = λ n l. c.loop-n.invariant.low n (omega arith);
       high = λ n l. c.loop-n.invariant.high n (omega arith);
     }
+
+pub loop-n-init : goal.loop-n-init
+loop-n-init c = record { long_low = refl; long_high = refl; low = λ k l. absurd (omega arith); high = λ k l. absurd (omega arith) }

@@ -1,4 +1,4 @@
-use Rattle.std.proofs.Common.{◌≡◌, ℕ, ◌+◌, ◌*◌, length, map, get_or, ap, sym, ◌∙◌, arith}
+use Rattle.std.proofs.Common.{◌≡◌, ℕ, ◌+◌, ◌*◌, length, map, get_or, refl, ap, sym, ◌∙◌, arith}
 use Rattle.std.proofs.lemmas.List.{get_or-map, length-map}
 use Rattle.pet_rows.proofs.AddedRows.{sums_more, rest_more, next_room, next_cost}
 use Rattle.pet_rows.specs.laws.PlaceLaws.{more_rows}
@@ -45,3 +45,13 @@ loop-j-preserved g c =
       rest = rest_more o j at row rows old new by factor place added.sums added.before added.behind by_is c.loop-j.invariant.rest;
       cost = next_cost j (length row) c.args.steps.now c.loop-j.steps c.add_scaled_at.new.steps c.loop-j.invariant.cost added.cost;
     }
+
+pub loop-j-init : goal.loop-j-init
+loop-j-init g c =
+    record { place = omega arith; long = refl; elements = c.requires.elements; sums = λ i k l m. absurd (omega arith); rest = λ i l. refl; cost = omega arith }
+
+pub returns-clause-sums : goal.returns-clause-sums
+returns-clause-sums g c = λ i k l m. c.loop-j.invariant.sums i k (omega arith) m
+
+pub returns-clause-others : goal.returns-clause-others
+returns-clause-others g c = λ i l. let e : c.loop-j.j ≡ length c.args.factors.now = omega arith in c.loop-j.invariant.rest i (rw e l)

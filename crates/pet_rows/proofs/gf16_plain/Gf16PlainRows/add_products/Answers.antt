@@ -1,0 +1,11 @@
+use Rattle.pet_rows.proofs.AnyField.{all_elements}
+use Rattle.pet_rows.proofs.gf16_plain.Gf16PlainRows.add_products.Goals as goal
+
+pub returns-clause-sums : goal.returns-clause-sums
+returns-clause-sums g c = c.add_multiples.ensures.sums
+
+pub returns-clause-elements : goal.returns-clause-elements
+returns-clause-elements g c = all_elements c.add_multiples.new.rows c.type_inv.rows
+
+pub returns-clause-others : goal.returns-clause-others
+returns-clause-others g c = c.add_multiples.ensures.others
