@@ -1,4 +1,4 @@
-use Rattle.std.proofs.Common.{◌≡◌, ◌∙◌, ap, ap₂, sym, take, set, get_or, length, add-one, arith}
+use Rattle.std.proofs.Common.{◌≡◌, ◌∙◌, ap, ap₂, sym, take, set, get_or, length, refl, add-one, arith}
 use Rattle.std.proofs.lemmas.List.{get_or-take, length-take-le, take_all}
 use Rattle.pet_poly.specs.InPlace.{scaled_sum}
 use Rattle.pet_poly.specs.laws.InPlaceLaws.{scaled_sum_is, scaled_sum_value}
@@ -44,3 +44,17 @@ returns-clause-value g c h y hy =
     let F = g.F.Field in
     rw (returns-clause-places g c)
     (scaled_sum_value F.is_element F.coding.ops g.met.F.Field.lawful.field c.args.by c.args.into.now c.args.other.now y c.requires.room c.requires.factor h c.requires.others hy)
+
+pub loop-i-init : goal.loop-i-init
+loop-i-init g c = record { places = refl; cost = omega arith }
+
+pub mul-requires-clause-second : goal.mul-requires-clause-second
+mul-requires-clause-second g c = rw c.index-other-i.is (c.requires.others c.loop-i.i c.index-other-i.result (omega arith))
+
+pub add-requires-clause-second : goal.add-requires-clause-second
+add-requires-clause-second g c =
+    let entry : g.F.Field.is_element c.index-other-i.result = rw c.index-other-i.is (c.requires.others c.loop-i.i c.index-other-i.result (omega arith)) in
+    rw c.mul.ensures.product (g.met.F.Field.lawful.field.times_is c.args.by c.index-other-i.result c.requires.factor entry)
+
+pub returns-clause-cost : goal.returns-clause-cost
+returns-clause-cost g c = omega (arith, c.loop-i.invariant.cost)

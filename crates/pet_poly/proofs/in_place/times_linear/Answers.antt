@@ -1,4 +1,5 @@
-use Rattle.std.proofs.Common.{◌∙◌, ap, arith, take}
+use Rattle.std.proofs.Common.{◌∙◌, refl, sym, ap, subst, arith, take}
+use Rattle.pet_poly.specs.InPlace.{linear_product_from}
 use Rattle.pet_poly.specs.laws.InPlaceLaws.{linear_front, linear_product_is, linear_product_value}
 use Rattle.pet_poly.proofs.Places.{here_is, linear_rest, linear_done, linear_end}
 use Rattle.pet_poly.proofs.in_place.times_linear.Goals as goal
@@ -47,3 +48,16 @@ returns-clause-value g c y hy =
     let F = g.F.Field in
     rw (linear_front F.coding.ops c.args.x c.args.low.now _ c.args.degree c.requires.room (returns-clause-places g c))
     (linear_product_value F.is_element F.coding.ops g.met.F.Field.lawful.field c.args.x (take c.args.degree c.args.low.now) y c.requires.point c.requires.elements hy)
+
+pub loop-i-init : goal.loop-i-init
+loop-i-init g c =
+    let F = g.F.Field in
+    record {
+      done = ap (λ b. linear_product_from F.coding.ops c.args.x b (take c.args.degree c.args.low.now)) c.zero-before.ensures;
+      rest = refl;
+      element = subst F.is_element (sym c.zero-before.ensures) g.met.F.Field.lawful.field.zero_is;
+      cost = omega arith;
+    }
+
+pub returns-clause-cost : goal.returns-clause-cost
+returns-clause-cost g c = omega (arith, c.loop-i.invariant.cost)
