@@ -1,5 +1,5 @@
 -- What an accepted file stands for is a priority.
-use Rattle.std.proofs.Common.{◌≡◌, ◌+◌, zero, suc, nat_eq, ℕ, ◌*◌, ◌/◌, ◌<◌, ◌≤◌, max, Bool, true, false, cond, not, ◌==◌, ◌&&◌, ◌||◌, nat_lt, List, [], ◌∷◌, ◌++◌, map, Option, Some, None, refl, ap, sym, ◌∙◌, arith, count_by, inl, inr, if◌then◌else◌}
+use Rattle.std.proofs.Common.{◌≡◌, ◌+◌, zero, suc, nat_eq, ℕ, ◌*◌, ◌/◌, ◌<◌, ◌≤◌, max, Bool, true, false, cond, not, ◌==◌, ◌&&◌, ◌||◌, nat_lt, List, [], ◌∷◌, ◌++◌, length, map, Option, Some, None, refl, ap, sym, ◌∙◌, arith, count_by, inl, inr, if◌then◌else◌}
 use Rattle.std.specs.List.{list_any, list_all, range_with_len}
 use Rattle.std.proofs.lemmas.Bool.{cases_Bool}
 use Rattle.std.proofs.Math.Nat.{mul-le-mul_left}
@@ -14,9 +14,9 @@ use Rattle.priority_file.specs.declared.draft.Need.TheVariants.{Packets, Percent
 use Rattle.priority_file.specs.Kinds.{index_of, lists, has_class, has_some_class, place_after}
 use Rattle.priority_file.specs.Priority.{Rule, Priorities, layers_with, has_places_once, has_each_kind_once, has_no_place_twice, is_priority, is_packets, is_need, head_is_first}
 use Rattle.priority_file.specs.Draft.{LayerText, FileText}
-use Rattle.priority_file.specs.Bounds.{count_of, packets_of, need_in, is_need_out_of_range, need_out_of_range, packets_out_of_range, has_bad_name, has_repeat, listed_kinds, lists_kind_twice, misses_kind, kinds_of_first, head_is_not_first, has_too_many_layers}
+use Rattle.priority_file.specs.Bounds.{count_of, packets_of, need_in, is_name, is_need_out_of_range, need_out_of_range, packets_out_of_range, has_bad_name, has_repeat, listed_kinds, lists_kind_twice, misses_kind, kinds_of_first, head_is_not_first, has_too_many_layers}
 use Rattle.priority_file.specs.Refusals.{Row, number_rows, layer_rows, first_of, kinds_with_d, rule_of, priorities_of_text}
-use Rattle.pet_base.specs.declared.limits.TheConstants.{MAX_PACKETS}
+use Rattle.pet_base.specs.declared.limits.TheConstants.{MAX_LAYERS, MAX_PACKETS}
 use Rattle.priority_file.specs.laws.OnlyOne.{count_by-none, nothing_passes}
 use Rattle.priority_file.proofs.KindLaws.{has_class-bits_of, list_any-append, none_lists, one_lists, or_parts, or_false, listed_in, layers_listing}
 
@@ -242,3 +242,23 @@ made d packets with_d layers rules result sound same_packets same_d same_layers 
     let items : rules ≡ (priorities_of_text d).layers = are ∙ rw (same_packets, same_d, same_layers) in
     let keeps : is_priority (record { packets = packets; layers = rules }) ≡ true = rw (same_packets, items) (accepted d sound) in
     gives ∙ rw keeps (rw (same_packets, items))
+
+-- the bounds of an accepted file that its rules ask for
+pub record HasBounds (packets : ℕ) (layers : List LayerText) : Type 0 where
+  pub packets_fit : packets ≤ MAX_PACKETS
+  pub few : length layers ≤ MAX_LAYERS
+  pub needs : list_any (λ l. is_need_out_of_range packets l.need) layers ≡ false
+  pub names : list_any (λ l. not (is_name l.name)) layers ≡ false
+
+up_to : (most n : ℕ) → nat_lt most n ≡ false → n ≤ most
+up_to most n h = grind (arith, nat_tests)
+
+pub has_bounds : (d : FileText) (packets : ℕ) (layers : List LayerText) → first_of (number_rows d ++ layer_rows d) ≡ None → packets ≡ packets_of d → layers ≡ d.layers → HasBounds packets layers
+has_bounds d packets layers sound same_packets same_layers =
+    let s = IsSound-from d sound in
+    rw (same_packets, same_layers) (record {
+      packets_fit = (within MAX_PACKETS (packets_of d) (from_not_false (is_packets (packets_of d)) s.packets)).1;
+      few = up_to MAX_LAYERS (length d.layers) s.few;
+      needs = s.needs;
+      names = (or_parts (list_any (λ l. not (is_name l.name)) d.layers) _ s.names).0;
+    })

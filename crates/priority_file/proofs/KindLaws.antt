@@ -1,9 +1,12 @@
 -- Lists of classes and their sets.
-use Rattle.std.proofs.Common.{nat_eq, ◌^◌, ◌*◌, ◌+◌, nat_lt, ◌<◌, ◌≡◌, ℕ, Bool, true, false, cond, not, ◌==◌, ◌||◌, bit_and, bit_or, List, [], ◌∷◌, ◌++◌, refl, ap, sym, ◌∙◌, arith, fold, count_by, flat_map, inl, inr}
+use Rattle.std.proofs.Common.{nat_eq, ◌^◌, ◌*◌, ◌+◌, nat_lt, ◌<◌, ◌≡◌, ℕ, Bool, true, false, cond, not, ◌==◌, ◌||◌, bit_and, bit_or, List, [], ◌∷◌, ◌++◌, length, take, get_or, append-nil, refl, ap, sym, ◌∙◌, arith, fold, count_by, flat_map, inl, inr}
 use Rattle.std.specs.List.{list_any}
 use Rattle.std.proofs.lemmas.Bool.{cases_Bool}
 use Rattle.std.proofs.lemmas.Bool.Decides.{nat_tests}
 use Rattle.std.proofs.lemmas.List.Sums.{sum_by-cons}
+use Rattle.std.proofs.lemmas.List.{take_more}
+use Rattle.std.proofs.lemmas.List.Concat.{flat_map-cons}
+use Rattle.std.proofs.lemmas.Grind.{flat_map-append}
 use Rattle.std.proofs.lemmas.Nat.{and_or_self, and_or_apart}
 use Rattle.std.specs.Int.Bits.{and_zero_l, and_zero_r}
 use Rattle.std.proofs.lemmas.Nat.{and_block, and_comm, pow_below, pow_pos}
@@ -130,3 +133,8 @@ one_lists k (l ∷ ls) h has =
           let rest = one_lists k ls (has_repeat-back nat_eq l.kinds (listed_in ls) h) more in
           sum_by-cons (λ x. cond (lists k x.kinds) 1 0) l ls ∙ rw later (omega (arith, rest))
     ]
+
+-- the lists of one element more
+pub flat_map_more : {X A : Type 0} (f : X → List A) (xs : List X) (i : ℕ) (x : X) → i < length xs → x ≡ get_or xs i x → flat_map f (take (i + 1) xs) ≡ flat_map f (take i xs) ++ f x
+flat_map_more f xs i x within is =
+    ap (flat_map f) (take_more xs i x within) ∙ (flat_map-append f (take i xs) (get_or xs i x ∷ []) ∙ rw (← is, flat_map-cons f x [], append-nil (f x)))
