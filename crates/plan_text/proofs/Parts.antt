@@ -1,11 +1,12 @@
 -- The parts of a plan file: lines, words and numbers.
-use Rattle.std.proofs.Common.{◌≡◌, ◌≢◌, ℕ, ◌+◌, ◌<◌, List, [], ◌∷◌, ◌++◌, length, refl, sym, ap, ◌∙◌, subst, true, inl, inr, arith}
-use Rattle.std.specs.Prelude.{Option, Some, None, Result, Ok, Err, MatchOption, is_some, option_map, ◌==◌}
+use Rattle.std.proofs.Common.{◌≡◌, ◌≢◌, ℕ, ◌+◌, ◌-◌, ◌<◌, List, [], ◌∷◌, ◌++◌, length, take, drop, append_assoc, refl, sym, ap, ◌∙◌, subst, Bool, true, false, inl, inr, arith}
+use Rattle.std.specs.Prelude.{Option, Some, None, Result, Ok, Err, MatchOption, is_some, option_map, ◌==◌, if◌then◌else◌}
 use Rattle.std.proofs.lemmas.Bool.{cases_Bool}
+use Rattle.std.proofs.lemmas.List.{take_all, length-drop}
 use Rattle.plan_text.specs.declared.plan_file.Repeat.{Repeat}
 use Rattle.plan_text.specs.declared.plan_file.PlanFault.{PlanFault}
 use Rattle.plan_text.specs.declared.plan_file.PlanFault.TheVariants.{Text, NoMemory}
-use Rattle.plan_text.specs.PlanFile.{split_from, split_at, without_empty_end, lines_of, repeat_in, repeats_in, with_line, behind_lists, lists_from, lists_of, IsRefused}
+use Rattle.plan_text.specs.PlanFile.{split_from, split_at, without_empty_end, lines_of, repeat_in, repeats_in, behind_lengths, repeats_of_line, is_lengths_line, then_lists, with_line, behind_lists, lists_from, lists_of, IsRefused}
 
 -- the repeats that were read, and those of the words ahead
 abbrev pub repeats_ahead : List Repeat → Option (List ℕ) → Option (List Repeat)
@@ -64,6 +65,34 @@ behind_none (Err line) = refl
 pub lists_begun : (bytes : List ℕ) → lists_of bytes ≡ behind_lists [] (lists_from 1 (lines_of bytes))
 unfolding lists_of
 lists_begun bytes = behind_none (lists_from 1 (lines_of bytes))
+
+-- a line that lists nothing
+pub line_skipped : (lists : List (List Repeat)) (number : ℕ) (line : List ℕ) (later : Result (List (List Repeat)) ℕ) → is_lengths_line line ≡ false → behind_lists lists (with_line number line later) ≡ behind_lists lists later
+line_skipped lists number line later other = ap (λ (b : Bool). behind_lists lists (if b then then_lists number (repeats_of_line line) later else later)) other
+
+-- the part of a line that is read
+behind_word : (line : List ℕ) → take (length line - 7) (drop 7 line) ≡ drop 7 line
+behind_word line = take_all (length line - 7) (drop 7 line) (omega (arith, length-drop 7 line))
+
+one_list : (lists : List (List Repeat)) (list : List Repeat) (number : ℕ) (later : Result (List (List Repeat)) ℕ) → behind_lists lists (then_lists number (Some list) later) ≡ behind_lists (lists ++ list ∷ []) later
+one_list lists list number (Ok later) = ap Ok (sym (append_assoc lists (list ∷ []) later))
+one_list lists list number (Err line) = refl
+
+with_repeats : (number : ℕ) (line : List ℕ) (later : Result (List (List Repeat)) ℕ) (repeats read : Option (List Repeat)) → is_lengths_line line ≡ true → read ≡ behind_lengths (take (length line - 7) (drop 7 line)) → read ≡ repeats
+    → with_line number line later ≡ then_lists number repeats later
+with_repeats number line later repeats read starts is same =
+    ap (λ (b : Bool). if b then then_lists number (repeats_of_line line) later else later) starts
+    ∙ ap (λ (r : Option (List Repeat)). then_lists number r later) (sym (sym same ∙ (is ∙ ap behind_lengths (behind_word line))))
+
+-- a line whose list was read, and one of another form
+pub line_read : (lists : List (List Repeat)) (number : ℕ) (line : List ℕ) (later : Result (List (List Repeat)) ℕ) (list : List Repeat) (read : Option (List Repeat)) → is_lengths_line line ≡ true
+    → read ≡ behind_lengths (take (length line - 7) (drop 7 line)) → read ≡ Some list → behind_lists lists (with_line number line later) ≡ behind_lists (lists ++ list ∷ []) later
+line_read lists number line later list read starts is some =
+    ap (behind_lists lists) (with_repeats number line later (Some list) read starts is some) ∙ one_list lists list number later
+
+pub line_refused : (number : ℕ) (line : List ℕ) (later : Result (List (List Repeat)) ℕ) (read : Option (List Repeat)) → is_lengths_line line ≡ true → read ≡ behind_lengths (take (length line - 7) (drop 7 line)) → read ≡ None
+    → with_line number line later ≡ Err number
+line_refused number line later read starts is none = with_repeats number line later None read starts is none
 
 -- a line of another form
 pub refused_at : (bytes : List ℕ) (lists : List (List Repeat)) (number : ℕ) (line rest behind : List ℕ) (fault : PlanFault)

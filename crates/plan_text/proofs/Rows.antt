@@ -1,5 +1,5 @@
 -- Rows of equal stripe lengths, and the text that they have on end.
-use Rattle.std.proofs.Common.{◌≡◌, ◌≢◌, ℕ, zero, suc, ◌+◌, ◌-◌, ◌<◌, ◌≤◌, ◌^◌, ◌==◌, nat_lt, List, [], ◌∷◌, ◌++◌, length, replicate, take, drop, refl, sym, ap, ◌∙◌, inl, inr, arith, append_assoc}
+use Rattle.std.proofs.Common.{◌≡◌, ◌≢◌, ℕ, zero, suc, ◌+◌, ◌-◌, ◌<◌, ◌≤◌, ◌^◌, ◌==◌, nat_lt, List, [], ◌∷◌, ◌++◌, length, replicate, map, take, drop, append-nil, refl, sym, ap, ◌∙◌, inl, inr, arith, append_assoc}
 use Rattle.std.specs.Prelude.{codes}
 use Rattle.std.specs.List.{flat_map}
 use Rattle.std.proofs.lemmas.Bool.{cases_Bool}
@@ -85,6 +85,14 @@ text_other size times next sizes before into other is =
 pub text_more : (old new rest next whole : List ℕ) → new ++ next ≡ old ++ rest → old ++ (rest ++ codes "\n") ≡ whole → new ++ (next ++ codes "\n") ≡ whole
 text_more old new rest next whole step so =
     sym (append_assoc new next (codes "\n")) ∙ ap (λ (t : List ℕ). t ++ codes "\n") step ∙ append_assoc old rest (codes "\n") ∙ so
+
+-- the last row, and the newline
+pub text_ended : (size times : ℕ) (left : List (ℕ × ℕ)) (into with_row new whole : List ℕ) → left ≡ [] → with_row ≡ into ++ flat_map row_text (rows_of (replicate times size)) → new ≡ with_row ++ codes "\n"
+    → into ++ (flat_map row_text (rows_of (replicate times size ++ map (λ (s : ℕ × ℕ). s.1) left)) ++ codes "\n") ≡ whole → new ≡ whole
+text_ended size times left into with_row new whole none row newline so =
+    newline
+    ∙ (ap (λ (t : List ℕ). t ++ codes "\n") row
+    ∙ (append_assoc into (flat_map row_text (rows_of (replicate times size))) (codes "\n") ∙ (rw (none, append-nil (replicate times size)) at so)))
 
 -- what stood at the front stands there
 pub front_kept : (old before more into : List ℕ) → into ≡ before ++ more → take (length old) before ≡ old → take (length old) into ≡ old

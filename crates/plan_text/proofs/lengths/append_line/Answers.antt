@@ -1,11 +1,11 @@
-use Rattle.std.proofs.Common.{arith, ap, subst, sym, map, ◌≡◌, ◌∙◌, ◌++◌, ℕ, List, length, replicate}
+use Rattle.std.proofs.Common.{arith, ap, subst, sym, map, ◌≡◌, ◌∙◌, ◌++◌, ℕ, List, length, replicate, take}
 use Rattle.std.specs.Prelude.{codes}
 use Rattle.std.proofs.Math.Seq.{take-length}
 use Rattle.std.specs.List.{flat_map}
 use Rattle.stripe_plan.specs.Walk.{stripes_left, IsWithin}
 use Rattle.plan_text.specs.PlanLines.{plan_lengths, rows_of, row_text, lengths_text}
 use Rattle.pet_base.specs.laws.Through.{on_any_err}
-use Rattle.plan_text.proofs.Rows.{few_stripes, text_begun, text_more, front_kept, front_stays}
+use Rattle.plan_text.proofs.Rows.{few_stripes, text_begun, text_more, text_ended, front_kept, front_stays}
 use Rattle.plan_text.proofs.lengths.append_line.Goals as goal
 
 pub loop-size-init : goal.loop-size-init
@@ -41,3 +41,21 @@ pub returns-in_err-row-clause-err : goal.returns-in_err-row-clause-err
 returns-in_err-row-clause-err c =
     on_any_err c.from_residual-in_err-row.result
     (front_stays c.args.into.now.items c.loop-size.into.items c.with_stripe.new.into.items c.in_err-row.ensures.front c.loop-size.invariant.front)
+
+pub returns-clause-ok : goal.returns-clause-ok
+returns-clause-ok c =
+    text_ended c.loop-size.row.size c.loop-size.row.times (stripes_left c.loop-size.size-iterator) c.loop-size.into.items c.append_row.new.into.items c.push.new.self.items (c.args.into.now.items ++ lengths_text (plan_lengths c.args.table.now.layers))
+    c.in-None.ensures.steps.0 c.in_ok-append_row.ensures.ok c.in_ok-push.ensures.items c.loop-size.invariant.text
+
+pub returns-in_err-append_row-clause-err : goal.returns-in_err-append_row-clause-err
+returns-in_err-append_row-clause-err c =
+    on_any_err c.from_residual-in_err-append_row.result (ap (take (length c.args.into.now.items)) c.in_err-append_row.ensures.err ∙ c.loop-size.invariant.front)
+
+pub returns-in_err-push-clause-err : goal.returns-in_err-push-clause-err
+returns-in_err-push-clause-err c =
+    on_any_err c.from_residual-in_err-push.result
+    (front_kept c.args.into.now.items c.loop-size.into.items _ c.push.new.self.items (c.in_err-push.ensures.items ∙ c.in_ok-append_row.ensures.ok) c.loop-size.invariant.front)
+
+pub returns-in_err-extend_from_slice-clause-err : goal.returns-in_err-extend_from_slice-clause-err
+returns-in_err-extend_from_slice-clause-err c =
+    on_any_err c.from_residual.result (ap (take (length c.args.into.now.items)) c.in_err-extend_from_slice.ensures.items ∙ take-length c.args.into.now.items)

@@ -1,7 +1,10 @@
-use Rattle.std.proofs.Common.{◌++◌, append_assoc, ap, ◌∙◌}
+use Rattle.std.proofs.Common.{◌++◌, codes, decimal, ap, ◌∙◌}
+use Rattle.plan_text.proofs.Pieces.{eleven}
 use Rattle.plan_text.proofs.plan_lines.plan_group_line.Goals as goal
 
 pub returns-clause-ok : goal.returns-clause-ok
 returns-clause-ok c =
     c.in_ok-extend_from_slice.ensures.items
-    ∙ ap (λ bytes. c.args.into.now.items ++ bytes) (c.as_bytes.ensures.value ∙ (c.in_ok-line.ensures.ok ∙ simp append_assoc))
+    ∙ ap (λ bytes. c.args.into.now.items ++ bytes) (c.as_bytes.ensures.value ∙ (c.in_ok-line.ensures.ok ∙ eleven
+    (codes "group ") (decimal c.args.group) (codes " words ") (decimal c.args.words) (codes " stripes ") (decimal c.args.stripes)
+    (codes " bound ") (decimal c.args.bound) (codes " datagram ") (decimal c.args.datagram) (codes "\n")))
