@@ -19,6 +19,20 @@ begins_same old new e = ap (take (length old)) e ∙ take-length old
 pub begins_more : (old new more : List ℕ) → new ≡ old ++ more → Begins old new
 begins_more old new more e = ap (take (length old)) e ∙ take-append_seam old more
 
+-- two parts behind the old bytes, and one more of the second
+pub part_after : (old front so_far part more middle new : List ℕ) → middle ≡ old ++ (front ++ so_far) → new ≡ middle ++ part → more ≡ so_far ++ part → new ≡ old ++ (front ++ more)
+part_after old front so_far part more middle new before appended is =
+    appended
+    ∙ (ap (λ l. l ++ part) before
+    ∙ (append_assoc old (front ++ so_far) part ∙ ap (λ l. old ++ l) (append_assoc front so_far part ∙ ap (λ l. front ++ l) (sym is))))
+
+-- the run table is in layer 0 alone
+pub table_of_first : (runs : List Run) (layer : ℕ) → layer ≡ 0 → table_of runs layer ≡ run_table runs
+table_of_first runs layer first = rw first
+
+pub table_of_other : (runs : List Run) (layer : ℕ) → layer ≢ 0 → table_of runs layer ≡ []
+table_of_other runs layer other = cond-false (layer == 0) (run_table runs) [] (ne_eqb layer 0 other)
+
 flat_more : {X : Type 0} (f : X → List ℕ) (xs ys : List X) → flat_map f (xs ++ ys) ≡ flat_map f xs ++ flat_map f ys
 flat_more f [] ys = refl
 flat_more f (x ∷ xs) ys = ap (λ l. f x ++ l) (flat_more f xs ys) ∙ sym (append_assoc (f x) (flat_map f xs) (flat_map f ys))
