@@ -7,13 +7,14 @@ use Rattle.group_cutter.proofs.groups.GroupCutter.look_on.Given as goal
 
 -- pieces were looked at, and no group has ended
 abbrev pub invariant-loop-self : goal.invariant-loop-self
-invariant-loop-self l =
-    ((priority : Priorities) (seen : List ℕ) (pieces : List Piece) (given : List CutGroup) → HasLooked l.initial.self priority seen pieces given → HasLooked l.self priority seen pieces given)
-    × (pieces_left l.self ≤ pieces_left l.initial.self)
-    × (pieces_left l.initial.self ≡ 0 → l.self ≡ l.initial.self)
-    × (l.self.scanner ≡ l.initial.self.scanner)
-    × (l.self.scan ≡ l.initial.self.scan)
-    × (l.self.fault ≡ l.initial.self.fault)
+invariant-loop-self l = record {
+  looked : (priority : Priorities) (seen : List ℕ) (pieces : List Piece) (given : List CutGroup) → HasLooked l.initial.self priority seen pieces given → HasLooked l.self priority seen pieces given;
+  fewer : pieces_left l.self ≤ pieces_left l.initial.self;
+  idle : pieces_left l.initial.self ≡ 0 → l.self ≡ l.initial.self;
+  scanner : l.self.scanner ≡ l.initial.self.scanner;
+  scan : l.self.scan ≡ l.initial.self.scan;
+  fault : l.self.fault ≡ l.initial.self.fault;
+}
 
 abbrev pub decreases-loop-self : goal.decreases-loop-self
 decreases-loop-self l = pieces_left l.self
