@@ -11,7 +11,6 @@ const NUMBER: usize = 22;
 
 /// The group of a datagram that is known to be a frame, as one is that was kept: read at its place, with nothing checked
 /// again.
-#[tactic(auto, unfolding(crate::specs::Group::group_in), using(crate::proofs::Named::has_group))]
 pub fn group_of(datagram: &[u8]) -> u32
     requires { first_fault datagram.now ≡ None }
     ensures { result ≡ group_in datagram.now }
@@ -25,7 +24,6 @@ pub fn group_of(datagram: &[u8]) -> u32
 }
 
 /// The packet's number in a datagram that is known to be a frame: read at its place, with nothing checked again.
-#[tactic(auto, unfolding(crate::specs::Group::number_in), using(crate::proofs::Named::has_number))]
 pub fn number_of(datagram: &[u8]) -> u16
     requires { first_fault datagram.now ≡ None }
     ensures { result ≡ number_in datagram.now }

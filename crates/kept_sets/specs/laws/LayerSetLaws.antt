@@ -1,5 +1,5 @@
 -- Laws of the layers that are newly shown, and of the set that has them as bits.
-use Rattle.std.specs.Prelude.{filter, sum_by, nat_lt, nat_le}
+use Rattle.std.specs.Prelude.{filter, sum_by, count_by, nat_lt, nat_le}
 use Rattle.std.proofs.Common.{◌≡◌, ◌↔◌, ℕ, zero, suc, ◌+◌, ◌-◌, ◌*◌, ◌^◌, ◌<◌, ◌≤◌, ◌&&◌, cond, Bool, true, false, List, [], ◌∷◌, ◌++◌, length, Contains, refl, sym, ap, ◌∙◌, arith, subst, inl, inr}
 use Rattle.std.specs.Int.{bit_at}
 use Rattle.std.specs.List.{range_with_len}
@@ -22,6 +22,15 @@ range_more n =
 -- and the numbers that pass, up to one more
 pub filter_more : (p : ℕ → Bool) (n : ℕ) → filter p (range_with_len 0 (n + 1)) ≡ filter p (range_with_len 0 n) ++ cond (p n) (n ∷ []) []
 filter_more p n = ap (filter p) (range_more n) ∙ filter-append p (range_with_len 0 n) (n ∷ [])
+
+-- how many these are
+pub count_more : (p : ℕ → Bool) (n : ℕ) → count_by p (range_with_len 0 (n + 1)) ≡ count_by p (range_with_len 0 n) + cond (p n) 1 0
+count_more p n =
+    ap (count_by p) (range_more n) ∙ sum_by-append (λ j. cond (p j) 1 0) (range_with_len 0 n) (n ∷ []) ∙ omega (arith, sum_by-cons (λ j. cond (p j) 1 0) n [])
+
+pub one-le : (b : Bool) → cond b 1 0 ≤ 1
+one-le true = omega arith
+one-le false = omega arith
 
 -- the sum of the powers of two at the numbers below n that pass
 abbrev pub bits_below : (ℕ → Bool) → ℕ → ℕ
