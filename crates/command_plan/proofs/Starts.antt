@@ -2,11 +2,11 @@
 use Rattle.std.proofs.Common.{drop, ◌≡◌, ℕ, zero, suc, ◌+◌, ◌*◌, ◌<◌, ◌≤◌, Bool, true, false, List, [], ◌∷◌, ◌++◌, length, replicate, get_or, take, All, refl, sym, ap, subst, ◌∙◌, arith, true≢false, ◌||◌, ◌⊎◌, inl, inr}
 use Rattle.std.specs.Prelude.{sum}
 use Rattle.std.specs.List.{list_any}
-use Rattle.std.proofs.Math.Nat.{le-mul_of_pos_right}
+use Rattle.std.proofs.Math.Nat.{le-mul_of_pos_right, mul-le-mul_right, suc-mul}
 use Rattle.std.proofs.lemmas.Bool.{cases_lt}
 use Rattle.std.proofs.lemmas.List.{length-append, length-replicate, take_more, append-nil, replicate_more}
 use Rattle.std.proofs.lemmas.List.Elements.{All-cons, All-nil, All-tail}
-use Rattle.std.proofs.lemmas.List.Sums.{sum_by-cons, sum_by-append}
+use Rattle.std.proofs.lemmas.List.Sums.{sum_by-cons, sum_by-append, sum_by_more_le}
 use Rattle.std.proofs.lemmas.List.Folds.{sum_by-replicate}
 use Rattle.std.proofs.lemmas.Grind.{flat_map-append}
 use Rattle.stripe_plan.specs.Stripes.{IsPartition}
@@ -44,6 +44,14 @@ starts_more repeats i d lt =
     ∙ ap (starts_by 0) (flat_map-append row (take i repeats) (get_or repeats i d ∷ []) ∙ ap (◌++◌ (lengths_in (take i repeats))) (append-nil one))
     ∙ starts_by-append 0 (lengths_in (take i repeats)) one
     ∙ ap (λ n. starts_by 0 (lengths_in (take i repeats)) ++ starts_by n one) along
+
+-- a row's words and those of the rows before it are no more than all
+pub row_within : (repeats : List Repeat) (i : ℕ) (d : Repeat) → i < length repeats → listed_words (take i repeats) + (get_or repeats i d).times * (get_or repeats i d).length ≤ listed_words repeats
+row_within = sum_by_more_le (λ (r : Repeat). r.times * r.length)
+
+-- a stripe's words and those of the row's stripes before it are no more than the row's
+pub stripe_within : (turn times len : ℕ) → turn < times → turn * len + len ≤ times * len
+stripe_within turn times len lt = omega (arith, mul-le-mul_right {m = suc turn} {n = times} len lt, suc-mul turn len)
 
 -- the starts of one stripe more
 pub row_more : (first turn len : ℕ) → starts_by first (replicate (turn + 1) len) ≡ starts_by first (replicate turn len) ++ (first + turn * len) ∷ []

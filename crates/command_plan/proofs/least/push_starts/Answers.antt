@@ -1,7 +1,10 @@
-use Rattle.std.proofs.Common.{◌++◌, ◌∷◌, [], List, ℕ, ap, sym, arith, ◌∙◌, append_assoc, replicate}
+use Rattle.std.proofs.Common.{◌≡◌, ◌++◌, ◌∷◌, [], List, ℕ, ap, sym, arith, ◌∙◌, append_assoc, replicate}
 use Rattle.command_plan.specs.Least.{starts_by}
-use Rattle.command_plan.proofs.Starts.{row_more}
+use Rattle.command_plan.proofs.Starts.{row_more, stripe_within}
 use Rattle.command_plan.proofs.least.push_starts.Goals as goal
+
+pub overflow_add-at : goal.overflow_add-at
+overflow_add-at c = omega (arith, stripe_within c.loop.counter c.args.repeat.now.times c.args.repeat.now.length c.loop-test.true)
 
 pub loop-preserved : goal.loop-preserved
 loop-preserved c =
@@ -17,3 +20,8 @@ loop-preserved c =
           ∙ append_assoc old (starts_by first (replicate turn len)) _
           ∙ ap (λ (l : List ℕ). old ++ l) (sym (row_more first turn len));
     }
+
+pub returns : goal.returns
+returns c =
+    let all : c.loop.counter ≡ c.args.repeat.now.times = omega arith in
+    c.loop.invariant.starts ∙ ap (λ n. c.args.starts.now.items ++ starts_by c.args.first (replicate n c.args.repeat.now.length)) all
