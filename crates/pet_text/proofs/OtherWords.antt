@@ -1,14 +1,20 @@
 -- Words of another number than a form has.
-use Rattle.std.proofs.Common.{◌≡◌, ◌≢◌, List, [], ◌∷◌, length, None, refl}
+use Rattle.std.proofs.Common.{◌≡◌, ◌<◌, ◌≤◌, List, [], ◌∷◌, length, None, refl, arith}
 use Rattle.std.specs.Prelude.{String}
 use Rattle.std.specs.declared.alloc.Global.{Global}
 use Rattle.pet_text.specs.Words.{texts_of, command_of}
 
-pub none_of_other : (words : List (String Global)) → length words ≢ 3 → length words ≢ 4 → length words ≢ 5 → command_of (texts_of words) ≡ None
-none_of_other [] three four five = refl
-none_of_other (a ∷ []) three four five = refl
-none_of_other (a ∷ b ∷ []) three four five = refl
-none_of_other (a ∷ b ∷ c ∷ []) three four five = absurd (three refl)
-none_of_other (a ∷ b ∷ c ∷ d ∷ []) three four five = absurd (four refl)
-none_of_other (a ∷ b ∷ c ∷ d ∷ e ∷ []) three four five = absurd (five refl)
-none_of_other (a ∷ b ∷ c ∷ d ∷ e ∷ f ∷ words) three four five = refl
+pub none_of_few : (words : List (String Global)) → length words < 3 → command_of (texts_of words) ≡ None
+none_of_few [] few = refl
+none_of_few (a ∷ []) few = refl
+none_of_few (a ∷ b ∷ []) few = refl
+none_of_few (a ∷ b ∷ c ∷ words) few = absurd (omega (arith, few))
+
+pub none_of_many : (words : List (String Global)) → 6 ≤ length words → command_of (texts_of words) ≡ None
+none_of_many (a ∷ b ∷ c ∷ d ∷ e ∷ f ∷ words) many = refl
+none_of_many [] many = absurd (omega (arith, many))
+none_of_many (a ∷ []) many = absurd (omega (arith, many))
+none_of_many (a ∷ b ∷ []) many = absurd (omega (arith, many))
+none_of_many (a ∷ b ∷ c ∷ []) many = absurd (omega (arith, many))
+none_of_many (a ∷ b ∷ c ∷ d ∷ []) many = absurd (omega (arith, many))
+none_of_many (a ∷ b ∷ c ∷ d ∷ e ∷ []) many = absurd (omega (arith, many))

@@ -1,6 +1,7 @@
 //! The command words.
-ghost use Rattle.std.specs.Prelude.{◌≡◌, ◌↔◌, [], ◌∷◌, Err, None, Some, IfOk, option_map};
-ghost use Rattle.pet_text.specs.Words.{texts_of, end_of, session_of, plan_of, check_of, send_files, send_of, receive_files, receive_of, merge_of, video_of, command_of};
+ghost use Rattle.std.specs.Prelude.{◌≡◌, ◌↔◌, ◌&&◌, not, [], ◌∷◌, Err, None, Some, IfOk, option_map};
+ghost use Rattle.std.specs.Str.{bytes_eq};
+ghost use Rattle.pet_text.specs.Words.{is_name, texts_of, end_of, session_of, plan_of, check_of, send_files, send_of, receive_files, receive_of, merge_of, video_of, command_of};
 ghost use Rattle.pet_text.specs.Forms.{receive_command};
 ghost use Rattle.pet_text.specs.Ends.{end_in};
 
@@ -341,13 +342,24 @@ fn read_merge_words(
     ensures command { IfOk result (λ command. merge_of first.now second.now out.now
         ≡ Some command) }
 {
-    if first.is_empty() || second.is_empty() || out.is_empty() || out == first || out == second {
+    if !are_merge_files(first, second, out) {
         return Err(WordsFault::Usage);
     }
     let first = Name::new(alloc, first)?;
     let second = Name::new(alloc, second)?;
     let out = Name::new(alloc, out)?;
     Ok(Command::Merge { first, second, out })
+}
+
+/// Whether the three files have names, and the file that is written another than both that are read.
+fn are_merge_files(first: &str, second: &str, out: &str) -> bool
+    ensures { result ≡ (is_name first.now && (is_name second.now
+        && (is_name out.now && (not (bytes_eq out.now first.now) && not (bytes_eq out.now second.now))))) }
+{
+    if first.is_empty() || second.is_empty() || out.is_empty() {
+        return false;
+    }
+    out != first && out != second
 }
 
 /// The words behind `video`.

@@ -1,14 +1,12 @@
 use Rattle.std.proofs.Common.{arith, refl}
 use borrow.Author.Tests.{ltb-true, ltb-false}
-use Rattle.pet_text.proofs.OtherWords.{none_of_other}
+use Rattle.pet_text.proofs.OtherWords.{none_of_few, none_of_many}
 use Rattle.pet_text.proofs.words.read_words.Goals.{in_default-via-then-words-lt3, in_default-via-else-words-lt3+else-words-lt4+else-words-lt5+else-words-lt6}
 use Rattle.pet_text.proofs.words.read_words.Goals as goal
 
 pub returns-in_default-clause-usage : goal.returns-in_default-clause-usage
 returns-in_default-clause-usage c =
     elim c.in_default.branch [
-      | in_default-via-then-words-lt3 w ↦
-          (λ _. none_of_other c.args.words.now (λ e. omega (arith, ltb-true, ltb-false)) (λ e. omega (arith, ltb-true, ltb-false)) (λ e. omega (arith, ltb-true, ltb-false)), λ _. refl)
-      | in_default-via-else-words-lt3+else-words-lt4+else-words-lt5+else-words-lt6 w ↦
-          (λ _. none_of_other c.args.words.now (λ e. omega (arith, ltb-true, ltb-false)) (λ e. omega (arith, ltb-true, ltb-false)) (λ e. omega (arith, ltb-true, ltb-false)), λ _. refl)
+      | in_default-via-then-words-lt3 w ↦ (λ _. none_of_few c.args.words.now (omega (arith, ltb-true, ltb-false)), λ _. refl)
+      | in_default-via-else-words-lt3+else-words-lt4+else-words-lt5+else-words-lt6 w ↦ (λ _. none_of_many c.args.words.now (omega (arith, ltb-true, ltb-false)), λ _. refl)
     ]
