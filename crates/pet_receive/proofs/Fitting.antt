@@ -19,7 +19,8 @@ use Rattle.kept_sets.specs.KeptSet.{KeptSet, IsKeptSet, told_by}
 use Rattle.kept_sets.specs.Verdicts.{clashes, tells_other_count}
 use Rattle.pet_receive.specs.Arrivals.{GroupState, ReceiverState, kept_set}
 use Rattle.kept_sets.specs.Union.{frames_in_group, first_clash, first_full, then_clash, then_full, absorb_fault}
-use Rattle.pet_receive.specs.Joining.{packets_of, packets_at, is_other_payload, clashes_by, clash_or, clash_from}
+use Rattle.kept_sets.specs.GroupClash.{is_other_payload, clashes_by}
+use Rattle.pet_receive.specs.Joining.{packets_of, packets_at, clash_or, clash_from}
 use Rattle.kept_sets.specs.laws.EntryLaws.{lookup_values, keys_values, all_found}
 use Rattle.kept_sets.specs.laws.JoinedGroups.{Rises}
 use Rattle.pet_receive.proofs.Received.{count_told}

@@ -22,7 +22,8 @@ use Rattle.kept_sets.specs.declared.verdict.Verdict.TheVariants.{Foreign, Clash,
 use Rattle.kept_sets.specs.KeptSet.{KeptSet, IsKeptSet, open_group, payload_of, count_kept, cost_kept, header_of, group_with, keep, told_by}
 use Rattle.kept_sets.specs.Verdicts.{tells_other_count, clashes, is_too_much, newly_shown, frame_verdict, layer_set, shown_between, is_kept}
 use Rattle.pet_receive.specs.Arrivals.{GroupState, ReceiverState, Order, HoldsAfter, HasKept, kept_set, state_of, numbers_of}
-use Rattle.pet_receive.specs.Receiving.{IsReceiver, IsReadyFor, HasGrown, verdict_at, verdict_in, verdict_new}
+use Rattle.kept_sets.specs.GroupVerdict.{verdict_at, verdict_in}
+use Rattle.pet_receive.specs.Receiving.{IsReceiver, IsReadyFor, HasGrown, verdict_new}
 use Rattle.kept_sets.specs.laws.EntryLaws.{lookup_here, lookup_other, lookup_values, insert_values, all_found}
 use Rattle.kept_sets.specs.laws.ToldLaws.{open_tells}
 use Rattle.kept_sets.specs.laws.KeptSetLaws.{IsKeepable, keepable, keep_sound, open_here, header_with, cost_opened, cost_same}

@@ -10,7 +10,7 @@ use Rattle.std.proofs.lemmas.Bool.{eq-eqb, cases_lt}
 use Rattle.std.proofs.lemmas.List.{length-map, nil_from_length}
 use Rattle.std.proofs.lemmas.List.Elements.{All-map, All-head, All-tail, All-cons}
 use Rattle.std.proofs.lemmas.List.FromFn.{length-range_with_len, get_or-range_with_len}
-use Rattle.std.proofs.lemmas.List.Sums.{sum_by-append, sum_by-cons, sum_by-le, count_by-le-length}
+use Rattle.std.proofs.lemmas.List.Sums.{sum_by-cons, sum_by-le, count_by-le-length}
 use Rattle.std.proofs.lemmas.Map.Entries.{All-lookup}
 use Rattle.std.proofs.lemmas.Map.Views.{length-le_from_below, Contains-keys_from_lookup, list_any-from_Contains, exact_unsigned_eq, tells_apart}
 use Rattle.std.proofs.lemmas.Map.Lookups.{exact_unsigned}
@@ -23,21 +23,13 @@ use Rattle.stripe_plan.specs.Layers.{count_of}
 use Rattle.packet_set.specs.Packets.{Packets, count_in}
 use Rattle.kept_sets.specs.KeptSet.{KeptSet, IsKeptSet, open_group, told_by}
 use Rattle.pet_receive.specs.Arrivals.{GroupState, layers_of}
-use Rattle.pet_receive.specs.ShownBytes.{IsShownIn, IsComplete, shown_in, groups_told}
-use Rattle.pet_receive.specs.Receiving.{is_whole, whole_in}
+use Rattle.kept_sets.specs.GroupLayers.{shown_in, is_whole, whole_in}
+use Rattle.pet_receive.specs.ShownBytes.{IsShownIn, IsComplete, groups_told}
 use Rattle.kept_sets.specs.laws.EntryLaws.{all_found, rises_insert, sum_insert}
-use Rattle.kept_sets.specs.laws.LayerSetLaws.{range_more}
+use Rattle.kept_sets.specs.laws.LayerSetLaws.{one-le}
 use Rattle.kept_sets.specs.laws.ToldLaws.{first_some, none_open, open_tells}
 
 -- ---- counting
-
-pub count_more : (p : ℕ → Bool) (n : ℕ) → count_by p (range_with_len 0 (n + 1)) ≡ count_by p (range_with_len 0 n) + cond (p n) 1 0
-count_more p n =
-    ap (count_by p) (range_more n) ∙ sum_by-append (λ j. cond (p j) 1 0) (range_with_len 0 n) (n ∷ []) ∙ omega (arith, sum_by-cons (λ j. cond (p j) 1 0) n [])
-
-pub one-le : (b : Bool) → cond b 1 0 ≤ 1
-one-le true = omega arith
-one-le false = omega arith
 
 count_all : {A : Type 0} (test : A → Bool) (xs : List A) → count_by test xs ≡ length xs → All (λ x. test x ≡ true) xs
 count_all test [] e = λ k d l. absurd (omega arith)

@@ -1,20 +1,19 @@
 -- How a receiver takes in what another has kept, step by step: the checks, the room, and the packets. This project's own.
-use Rattle.std.specs.Prelude.{◌≡◌, ℕ, ◌+◌, ◌<◌, ◌≤◌, ◌==◌, Bool, false, not, ◌||◌, nat_lt, if◌then◌else◌, List, [], ◌∷◌, ◌++◌, ⊤, length, map, filter, Option, None, Some, option_map, option_and_then, unwrap_or, is_none, MatchOption}
-use Rattle.std.specs.Option.{option_map_or, option_or}
+use Rattle.std.specs.Prelude.{◌≡◌, ℕ, ◌+◌, ◌<◌, ◌≤◌, Bool, not, nat_lt, if◌then◌else◌, List, [], ◌∷◌, ◌++◌, ⊤, length, map, filter, Option, None, Some, is_none, MatchOption}
+use Rattle.std.specs.Option.{option_or}
 use Rattle.std.specs.Ordering.{nat_cmp}
 use Rattle.std.specs.BTreeMap.{is_at, insert_entry}
 use Rattle.std.specs.Map.{lookup}
-use Rattle.std.specs.Str.{bytes_eq}
-use Rattle.std.specs.List.{find, range_with_len, flat_map}
+use Rattle.std.specs.List.{range_with_len, flat_map}
 use Rattle.pet_field.specs.Field.{Coding}
-use Rattle.stripe_plan.specs.Same.{same_table}
 use Rattle.stripe_plan.specs.Sizes.{IsTable}
 use Rattle.packet_frame.specs.declared.frame.Header.{Header}
 use Rattle.packet_set.specs.Packets.{Packets, slot_at, with_packet, count_in, no_packets}
-use Rattle.kept_sets.specs.Verdicts.{shown_between}
+use Rattle.kept_sets.specs.GroupClash.{first_clash_in}
+use Rattle.kept_sets.specs.GroupLayers.{shown_by_both}
 use Rattle.pet_receive.specs.Arrivals.{GroupState, HoldsAfter, layers_of, stripe_lengths}
 use Rattle.pet_receive.specs.UnionSteps.{steps_after}
-use Rattle.kept_sets.specs.Union.{frames_in_group, join_group, is_new, new_numbers}
+use Rattle.kept_sets.specs.Union.{join_group, is_new, new_numbers}
 use Rattle.kept_sets.specs.declared.union.Absorb.{Absorb}
 use Rattle.kept_sets.specs.declared.union.Absorb.TheVariants.{Clash}
 
@@ -26,34 +25,7 @@ packets_of es = map (λ e. (e.0, e.1.packets)) es
 abbrev pub packets_at : {E : Type 0} → List (ℕ × GroupState E) → ℕ → Option Packets
 packets_at es group = lookup (is_at (nat_cmp group)) (packets_of es)
 
--- how many these are
-abbrev pub count_at : {E : Type 0} → List (ℕ × GroupState E) → ℕ → ℕ
-count_at es group = unwrap_or (option_map count_in (packets_at es group)) 0
-
 -- ---- the checks
-
--- another number of groups was told, or the group is open with another table
-abbrev pub is_other_group : Option ℕ → Option Packets → Header → Bool
-is_other_group told mine header =
-    option_map_or (λ n. not (n == header.groups)) told false || option_map_or (λ p. not (same_table p.header.table header.table)) mine false
-
--- the number is kept with another payload
-abbrev pub is_other_payload : Option Packets → ℕ → List ℕ → Bool
-is_other_payload mine number payload =
-    option_map_or (λ kept. not (bytes_eq kept payload)) (option_and_then (λ p. slot_at p number) mine) false
-
--- a frame of a group clashes with what is kept of it, where `told` is the number of groups that was told
-abbrev pub clashes_by : Option ℕ → Option Packets → Header → ℕ → List ℕ → Bool
-clashes_by told mine header number payload = is_other_group told mine header || is_other_payload mine number payload
-
--- the packet of a number is kept there and clashes, where `other` says whether its group does
-abbrev pub clash_at : Bool → Option Packets → Packets → ℕ → Bool
-clash_at other mine theirs number = option_map_or (λ payload. other || is_other_payload mine number payload) (slot_at theirs number) false
-
--- the number of the first packet of a group that clashes
-abbrev pub first_clash_in : Option ℕ → Option Packets → Packets → Option ℕ
-first_clash_in told mine theirs =
-    option_map (λ f. f.number) (find (λ f. clashes_by told mine theirs.header f.number f.payload) (frames_in_group theirs))
 
 -- the first packet that clashes: of this group, or else of the later ones
 abbrev pub clash_or : ℕ → Option ℕ → Option Absorb → Option Absorb
@@ -74,7 +46,7 @@ cost_beside limit cost closed more = if not closed then Some cost else if nat_lt
 
 -- the layers that are shown by all that is kept here or there, and not by what is kept here
 abbrev pub shown_at : {E : Type 0} → List (ℕ × GroupState E) → ℕ × Packets → List (ℕ × ℕ)
-shown_at mine e = map (λ layer. (e.0, layer)) (shown_between (layers_of e.1) (count_at mine e.0) (count_at mine e.0 + length (new_numbers (packets_at mine e.0) e.1)))
+shown_at mine e = map (λ layer. (e.0, layer)) (shown_by_both (packets_at mine e.0) e.1)
 
 abbrev pub shown_by : {E : Type 0} → List (ℕ × GroupState E) → List (ℕ × GroupState E) → List (ℕ × ℕ)
 shown_by mine theirs = flat_map (shown_at mine) (packets_of theirs)

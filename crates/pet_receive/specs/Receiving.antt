@@ -1,46 +1,22 @@
--- What the fields of a receiver keep to, and the verdict of a frame in two steps: by what is kept of its group.
-use Rattle.std.specs.Prelude.{◌≡◌, ℕ, ◌+◌, ◌^◌, ◌<◌, ◌≤◌, ◌==◌, Bool, not, nat_lt, if◌then◌else◌, List, [], ◌∷◌, ◌++◌, length, Option, None, Some, option_map, unwrap_or, MatchOption}
+-- What the fields of a receiver keep to, and the verdict of a frame whose group is not open.
+use Rattle.std.specs.Prelude.{◌≡◌, ℕ, ◌+◌, ◌^◌, ◌<◌, ◌≤◌, nat_lt, if◌then◌else◌, List, [], ◌∷◌, ◌++◌, length, Option, None, Some, option_map, unwrap_or, MatchOption}
 use Rattle.std.specs.Ordering.{nat_cmp}
 use Rattle.std.specs.BTreeMap.{is_at, insert_entry}
 use Rattle.std.specs.Map.{lookup}
-use Rattle.std.specs.Str.{bytes_eq}
 use Rattle.pet_base.specs.declared.limits.TheConstants.{MAX_PACKETS}
 use Rattle.pet_field.specs.Field.{Coding}
-use Rattle.stripe_plan.specs.Same.{same_table}
 use Rattle.packet_frame.specs.Frame.{Fields}
-use Rattle.packet_set.specs.Packets.{Packets, slot_at, with_packet, count_in, no_packets}
+use Rattle.packet_set.specs.Packets.{slot_at, with_packet, no_packets}
 use Rattle.stripe_plan.specs.Sizes.{cost_of}
 use Rattle.kept_sets.specs.declared.verdict.Verdict.{Verdict}
-use Rattle.kept_sets.specs.declared.verdict.Verdict.TheVariants.{Clash, Repeated, Full, Kept}
+use Rattle.kept_sets.specs.declared.verdict.Verdict.TheVariants.{Full}
 use Rattle.kept_sets.specs.KeptSet.{IsKeptSet, cost_kept, told_by, header_of}
-use Rattle.kept_sets.specs.Verdicts.{layer_set, shown_between}
-use Rattle.pet_receive.specs.ShownBytes.{shown_in}
-use Rattle.pet_receive.specs.Arrivals.{layers_of, GroupState, ReceiverState, Order, HoldsAfter, kept_set, HasKept}
-
--- a frame whose number is not kept: it opens its group, or follows so many packets of it
-abbrev pub shows_next : Fields → ℕ → Verdict
-shows_next f before = Kept (layer_set (shown_between f.layers before (before + 1)))
-
--- by what is kept for its number
-abbrev pub verdict_at : Fields → ℕ → Option (List ℕ) → Verdict
-verdict_at f before None = shows_next f before
-verdict_at f before (Some payload) = if bytes_eq payload f.payload then Repeated else Clash
-
--- by what is kept of its group, which is open
-abbrev pub verdict_in : Fields → Packets → Verdict
-verdict_in f p = if not (same_table p.header.table (header_of f).table) then Clash else verdict_at f (count_in p) (slot_at p f.number)
+use Rattle.kept_sets.specs.GroupVerdict.{shows_next}
+use Rattle.pet_receive.specs.Arrivals.{GroupState, ReceiverState, Order, HoldsAfter, kept_set, HasKept}
 
 -- where its group is not open
 abbrev pub verdict_new : Fields → ℕ → ℕ → Verdict
 verdict_new f limit cost = if nat_lt limit (cost + cost_of f.packets f.layers) then Full else shows_next f 0
-
--- every layer of a group is shown
-abbrev pub is_whole : Packets → Bool
-is_whole p = shown_in p == length (layers_of p)
-
--- one for such a group, and nothing for another
-unfoldable pub whole_in : Packets → ℕ
-whole_in p = if is_whole p then 1 else 0
 
 module _ {E : Type 0} (is_element : E → Type 0) (c : Coding E) where
   -- a frame can be kept next: where its group is open, it has the group's table and its number is not kept

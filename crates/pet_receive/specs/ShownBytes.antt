@@ -1,20 +1,14 @@
 -- The layers that a kept set shows, and when it shows all of a session. This project's own.
-use Rattle.std.specs.Prelude.{ℕ, ◌<◌, nat_le, length, sum_by, count_by, unwrap_or, MatchOption}
-use Rattle.std.specs.List.{range_with_len}
-use Rattle.stripe_plan.specs.Layers.{count_of}
-use Rattle.packet_set.specs.Packets.{Packets, count_in}
+use Rattle.std.specs.Prelude.{ℕ, ◌<◌, length, sum_by, unwrap_or, MatchOption}
 use Rattle.kept_sets.specs.KeptSet.{KeptSet, open_group, told_by}
 use Rattle.pet_receive.specs.Arrivals.{layers_of}
--- the bytes of one layer are defined with the group
+-- the bytes of one layer, and how many layers of a group are shown, are defined with the group
 pub use Rattle.open_group.specs.ShownBytes.{IsShownIn, IsShownBytes, Agrees}
+pub use Rattle.kept_sets.specs.GroupLayers.{shown_in}
 
 -- the group is open, and the layer is shown
 abbrev pub IsShown : KeptSet → ℕ → ℕ → Type 0
 IsShown set group layer = MatchOption (open_group set group) ⊥ (λ p. IsShownIn p layer)
-
--- how many layers of a group are shown
-abbrev pub shown_in : Packets → ℕ
-shown_in p = count_by (λ layer. nat_le (count_of (layers_of p) layer) (count_in p)) (range_with_len 0 (length (layers_of p)))
 
 -- how many layers are shown
 abbrev pub shown_in_all : KeptSet → ℕ

@@ -1,20 +1,15 @@
 //! Why a receiver cannot take in what another has kept.
-ghost use Rattle.std.specs.Prelude.{◌≡◌, ◌+◌, ◌≤◌, not, false, is_none, None, Some, option_copied, IfOk, OnOk, IfErr, sum_by};
-ghost use Rattle.std.specs.Option.{option_map_or};
-ghost use Rattle.stripe_plan.specs.Same.{same_table};
+ghost use Rattle.std.specs.Prelude.{◌≡◌, ◌+◌, ◌≤◌, is_none, None, Some, option_copied, IfOk, OnOk, IfErr, sum_by};
 ghost use Rattle.kept_sets.specs.KeptSet.{cost_in};
 ghost use Rattle.kept_sets.specs.Union.{first_past};
-ghost use Rattle.pet_receive.specs.Joining.{packets_at, is_other_group, is_other_payload, clash_at, first_clash_in, clash_from, new_of, cost_beside};
+ghost use Rattle.pet_receive.specs.Joining.{packets_at, clash_from, new_of, cost_beside};
 
-use crate::judge::is_other;
-use kept_sets::Absorb;
+use kept_sets::{Absorb, clash_in};
 use open_group::OpenGroup;
-use packet_frame::Header;
 use packet_set::PacketSet;
 use pet_encode::group_cost;
 use pet_rows::Rows;
 use std::collections::BTreeMap;
-use stripe_plan::Table;
 
 /// The first packet of the other's, by group, then number, that clashes with what is kept here, where `told` is the
 /// number of groups that the packets here tell.
@@ -87,59 +82,4 @@ fn with_group(mine: Option<&PacketSet>, theirs: &PacketSet, limit: u64, cost: u6
         return None;
     }
     Some(cost + more)
-}
-
-/// The first packet of a group that clashes with what is kept of it here.
-fn clash_in(told: Option<u32>, mine: Option<&PacketSet>, theirs: &PacketSet) -> Option<u16>
-    ensures { result ≡ first_clash_in told (option_copied mine.entry) theirs.now }
-{
-    let header = theirs.header();
-    let other = contradicts(told, mine, header);
-    for number in 0..header.table.packets() {
-        if clashes_at(other, mine, theirs, number) {
-            return Some(number);
-        }
-    }
-    None
-}
-
-/// Whether a packet is there, and clashes: as its group does, or by its payload.
-fn clashes_at(other: bool, mine: Option<&PacketSet>, theirs: &PacketSet, number: u16) -> bool
-    ensures { result ≡ clash_at other (option_copied mine.entry) theirs.now number }
-{
-    match theirs.payload(number) {
-        Some(payload) => other || has_other_payload(mine, number, payload),
-        None => false,
-    }
-}
-
-/// Whether another number of groups was told, or the group is open with another table.
-fn contradicts(told: Option<u32>, mine: Option<&PacketSet>, header: &Header) -> bool
-    ensures { result ≡ is_other_group told (option_copied mine.entry) header.now }
-{
-    is_other(told, header.groups) || has_other_table(mine, &header.table)
-}
-
-/// Whether the group is open with another table.
-fn has_other_table(mine: Option<&PacketSet>, table: &Table) -> bool
-    ensures { result ≡ option_map_or (λ p. not (same_table p.header.table table.now))
-        (option_copied mine.entry) false }
-{
-    match mine {
-        Some(packets) => packets.header().table != *table,
-        None => false,
-    }
-}
-
-/// Whether the number is kept with another payload.
-fn has_other_payload(mine: Option<&PacketSet>, number: u16, payload: &[u8]) -> bool
-    ensures { result ≡ is_other_payload (option_copied mine.entry) number payload.now }
-{
-    match mine {
-        Some(packets) => match packets.payload(number) {
-            Some(kept) => kept != payload,
-            None => false,
-        },
-        None => false,
-    }
 }

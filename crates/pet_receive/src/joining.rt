@@ -1,13 +1,14 @@
 //! Room for the groups that another receiver has kept, and their packets.
-ghost use Rattle.std.specs.Prelude.{◌≡◌, ℕ, ◌+◌, ◌<◌, ◌≤◌, cond, true, nat_lt, filter, All, List, [], ◌∷◌, ◌++◌, length, Some, OnOk, OnErr};
+ghost use Rattle.std.specs.Prelude.{◌≡◌, ℕ, ◌+◌, ◌<◌, ◌≤◌, cond, true, nat_lt, filter, All, List, [], ◌∷◌, ◌++◌, Some, IfOk, OnOk, OnErr};
 ghost use Rattle.pet_base.specs.declared.limits.TheConstants.{MAX_PACKETS};
-ghost use Rattle.packet_set.specs.Packets.{with_packet, slot_at, count_in};
+ghost use Rattle.packet_set.specs.Packets.{count_in};
 ghost use Rattle.pet_interp.specs.Progressive.{step_bound};
-ghost use Rattle.pet_receive.specs.Arrivals.{HoldsAfter, layers_of, stripe_lengths};
+ghost use Rattle.pet_receive.specs.Arrivals.{GroupState, HoldsAfter, layers_of, stripe_lengths};
 ghost use Rattle.kept_sets.specs.Union.{is_new};
-ghost use Rattle.pet_receive.specs.Joining.{OpensAll, IsReadyAt, IsFillable, HasFilled, CanJoin, JoinsOne, JoinsAll, with_theirs};
+ghost use Rattle.pet_receive.specs.Joining.{OpensAll, IsReadyAt, IsFillable, HasFilled, CanJoin, JoinsOne, JoinsAll, with_theirs, shown_by};
 
 use crate::opening::open_missing;
+use crate::shown::newly_shown;
 use open_group::OpenGroup;
 use packet_set::PacketSet;
 use pet_base::{NoMemory, Steps};
@@ -16,8 +17,33 @@ use std::alloc::Global;
 use std::collections::BTreeMap;
 use std::sync::ledger::Ledger;
 
+/// Takes in the packets of the other's groups, and answers the layers that are shown then and were not before. It takes
+/// all its memory before it keeps the first packet: where memory ends, nothing has changed.
+pub(crate) fn take_in<'f, F: Rows, L: Ledger>(
+    alloc: Global,
+    field: &'f F,
+    groups: &mut BTreeMap<u32, OpenGroup<'f, F>>,
+    others: &BTreeMap<u32, OpenGroup<'f, F>>,
+    steps: &mut Steps<L>,
+) -> Result<Vec<(u32, u8)>, NoMemory>
+    requires width { F.coding.width ≡ 2 }
+    requires points { MAX_PACKETS ≤ F.COUNT }
+    requires some { All (λ e. nat_lt 0 (count_in e.1.packets) ≡ true) groups.old.entries }
+    requires ready { (opened : List (ℕ × GroupState F.Elem)) → OpensAll F.is_element F.coding groups.old.entries others.now.entries opened
+        → CanJoin F.is_element F.coding opened others.now.entries }
+    ensures shown { IfOk result (λ shown. shown.items ≡ shown_by groups.old.entries others.now.entries) }
+    ensures joined { OnOk result ((opened : List (ℕ × GroupState F.Elem)) × OpensAll F.is_element F.coding groups.old.entries others.now.entries opened
+        × JoinsAll F.is_element F.coding opened steps.old others.now.entries groups.new.entries steps.new) }
+    ensures err { OnErr result ((groups.new.entries ≡ groups.old.entries) × (steps.new ≡ steps.old)) }
+{
+    let shown = newly_shown(alloc, groups, others)?;
+    open_all(alloc, field, groups, others)?;
+    join_all(groups, others, steps);
+    Ok(shown)
+}
+
 /// Opens each group of the other's that is not open here. Where memory ends, nothing has changed.
-pub(crate) fn open_all<'f, F: Rows>(
+fn open_all<'f, F: Rows>(
     alloc: Global,
     field: &'f F,
     groups: &mut BTreeMap<u32, OpenGroup<'f, F>>,
@@ -62,7 +88,7 @@ fn close_empty<'f, F: Rows>(groups: &mut BTreeMap<u32, OpenGroup<'f, F>>)
 }
 
 /// Takes in the packets of all groups. It takes no memory.
-pub(crate) fn join_all<'f, F: Rows, L: Ledger>(
+fn join_all<'f, F: Rows, L: Ledger>(
     groups: &mut BTreeMap<u32, OpenGroup<'f, F>>,
     others: &BTreeMap<u32, OpenGroup<'f, F>>,
     steps: &mut Steps<L>,

@@ -16,12 +16,11 @@ ghost use Rattle.kept_sets.specs.Union.{union, absorb_fault, new_pairs, shown_by
 ghost use Rattle.pet_receive.specs.ShownBytes.{IsShown, IsShownBytes, Agrees, IsComplete, shown_in_all};
 
 use crate::checks::{cost_with, find_clash};
-use crate::joining::{join_all, open_all};
-use crate::judge::{is_other, judge_in, judge_new};
+use crate::joining::take_in;
+use crate::judge::judge_new;
 use crate::keeping::keep_frame;
-use crate::shown::newly_shown;
 use crate::totals::{total_kept, total_shown, total_whole};
-use kept_sets::{Absorb, Verdict};
+use kept_sets::{Absorb, Verdict, is_other_count, judge_in};
 use open_group::OpenGroup;
 use packet_frame::{Frame, Header, read_frame};
 use pet_base::{NoMemory, Steps};
@@ -139,9 +138,13 @@ impl<'f, F: Rows> Receiver<'f, F> {
         ensures sound { IsKeptSet (kept_set self.new) }
     {
         let cost = self.fit(other)?;
-        let shown = newly_shown(self.alloc, &self.groups, &other.groups)?;
-        open_all(self.alloc, self.field, &mut self.groups, &other.groups)?;
-        join_all(&mut self.groups, &other.groups, steps);
+        let shown = take_in(
+            self.alloc,
+            self.field,
+            &mut self.groups,
+            &other.groups,
+            steps,
+        )?;
         self.told = told_by_either(self.told, other.told);
         self.cost = cost;
         Ok(shown)
@@ -303,7 +306,7 @@ impl<'f, F: Rows> Receiver<'f, F> {
         if frame.header.session != self.session {
             return Verdict::Foreign;
         }
-        if is_other(self.told, frame.header.groups) {
+        if is_other_count(self.told, frame.header.groups) {
             return Verdict::Clash;
         }
         match self.groups.get(&frame.header.group) {

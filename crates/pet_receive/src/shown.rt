@@ -1,20 +1,14 @@
 //! The layers that are shown by what another receiver has kept.
-ghost use Rattle.std.specs.Prelude.{◌≡◌, ◌<◌, ◌&&◌, nat_lt, nat_le, cond, List, [], ◌∷◌, ◌++◌, length, map, unwrap_or, option_map, option_copied, IfOk, OnOk, is_some, false};
-ghost use Rattle.std.specs.Option.{option_map_or};
-ghost use Rattle.packet_set.specs.Packets.{slot_at, count_in};
-ghost use Rattle.stripe_plan.specs.Layers.{count_of};
-ghost use Rattle.kept_sets.specs.Verdicts.{shown_between};
-ghost use Rattle.kept_sets.specs.Union.{new_numbers, is_new};
+ghost use Rattle.std.specs.Prelude.{◌≡◌, IfOk};
 ghost use Rattle.pet_receive.specs.Joining.{shown_by};
 
 use crate::checks::packets_in;
+use kept_sets::push_shown;
 use open_group::OpenGroup;
-use packet_set::PacketSet;
 use pet_base::NoMemory;
 use pet_rows::Rows;
 use std::alloc::Global;
 use std::collections::BTreeMap;
-use stripe_plan::{Table, count};
 
 /// The layers that are shown by all that is kept here or there, and not by what is kept here, by group, then layer.
 pub(crate) fn newly_shown<F: Rows>(
@@ -26,99 +20,12 @@ pub(crate) fn newly_shown<F: Rows>(
 {
     let mut shown = Vec::new(alloc);
     for (group, other) in others.iter() {
-        let mine = packets_in(groups, *group);
-        let before = count_in_open(mine);
-        let after = before + count_new(mine, other.packets());
         push_shown(
             &mut shown,
             *group,
-            &other.packets().header().table,
-            before,
-            after,
+            packets_in(groups, *group),
+            other.packets(),
         )?;
     }
     Ok(shown)
-}
-
-/// How many packets are kept of a group.
-fn count_in_open(mine: Option<&PacketSet>) -> u32
-    ensures value { result ≡ unwrap_or (option_map count_in (option_copied mine.entry)) 0 }
-    ensures few { result < 65536 }
-{
-    match mine {
-        Some(packets) => u32::from(packets.len()),
-        None => 0,
-    }
-}
-
-/// How many packets of a group are kept there and not here.
-fn count_new(mine: Option<&PacketSet>, theirs: &PacketSet) -> u32
-    ensures value { result ≡ length (new_numbers (option_copied mine.entry) theirs.now) }
-    ensures few { result < 65536 }
-{
-    let mut total = 0;
-    for number in 0..theirs.header().table.packets() {
-        total += one_if_new(mine, theirs, number);
-    }
-    total
-}
-
-/// One where a packet is kept there and not here, and else nothing.
-fn one_if_new(mine: Option<&PacketSet>, theirs: &PacketSet, number: u16) -> u32
-    ensures { result ≡ cond (is_new (option_copied mine.entry) theirs.now number) 1 0 }
-{
-    if theirs.has(number) && !has_number(mine, number) {
-        1
-    } else {
-        0
-    }
-}
-
-/// Whether a packet of a group is kept.
-fn has_number(mine: Option<&PacketSet>, number: u16) -> bool
-    ensures { result ≡ option_map_or (λ p. is_some (slot_at p number)) (option_copied mine.entry) false }
-{
-    match mine {
-        Some(packets) => packets.has(number),
-        None => false,
-    }
-}
-
-/// Puts the layers of a group at the end that are shown by `after` packets, and not by `before`.
-fn push_shown(
-    shown: &mut Vec<(u32, u8)>,
-    group: u32,
-    table: &Table,
-    before: u32,
-    after: u32,
-) -> Result<(), NoMemory>
-    ensures { OnOk result (shown.new.items ≡ shown.old.items
-        ++ map (λ layer. (group, layer)) (shown_between table.now.layers before after)) }
-{
-    let layers = table.layers().len() as u8;
-    for layer in 0..layers {
-        push_if(shown, group, layer, is_between(table, layer, before, after))?;
-    }
-    Ok(())
-}
-
-/// Whether a layer is shown by `after` packets, and not by `before`.
-fn is_between(table: &Table, layer: u8, before: u32, after: u32) -> bool
-    requires { layer < length table.now.layers }
-    ensures { result ≡ (nat_lt before (count_of table.now.layers layer)
-        && nat_le (count_of table.now.layers layer) after) }
-{
-    let needed = u32::from(count(table, layer));
-    before < needed && needed <= after
-}
-
-/// Puts a layer of a group at the end where it is wanted.
-fn push_if(shown: &mut Vec<(u32, u8)>, group: u32, layer: u8, wanted: bool) -> Result<(), NoMemory>
-    ensures { OnOk result (shown.new.items
-        ≡ shown.old.items ++ cond wanted ((group, layer) ∷ []) []) }
-{
-    if wanted {
-        shown.push((group, layer))?;
-    }
-    Ok(())
 }

@@ -1,5 +1,5 @@
 use Rattle.std.specs.Prelude.{option_copied, is_none, sum_by}
-use Rattle.std.proofs.Common.{◌≡◌, ℕ, ◌+◌, Option, List, sym, ap, ◌∙◌}
+use Rattle.std.proofs.Common.{◌≡◌, ℕ, ◌+◌, ◌≤◌, Option, None, Some, List, [], ◌∷◌, sym, ap, ap₂, ◌∙◌, arith}
 use Rattle.packet_set.specs.Packets.{Packets}
 use Rattle.kept_sets.specs.KeptSet.{cost_in}
 use Rattle.kept_sets.specs.Union.{first_past}
@@ -8,36 +8,46 @@ use Rattle.pet_receive.specs.Arrivals.{GroupState}
 use Rattle.pet_receive.proofs.Clashes.{beside_next, beside_stop, past_end}
 use Rattle.pet_receive.proofs.checks.cost_with.Goals as goal
 
-beside : {E : Type 0} (mine : List (ℕ × GroupState E)) (limit t : ℕ) (e : ℕ × GroupState E) (o : Option Packets) (p : Packets) (r : Option ℕ)
-    → o ≡ packets_at mine e.0 → p ≡ e.1.packets → r ≡ cost_beside limit t (is_none o) (cost_in p) → cost_beside limit t (is_none (packets_at mine e.0)) (cost_in e.1.packets) ≡ r
-beside mine limit t e o p r here packets is =
-    sym (is ∙ ap (λ x. cost_beside limit t (is_none x) (cost_in p)) here ∙ ap (λ x. cost_beside limit t (is_none (packets_at mine e.0)) (cost_in x)) packets)
+-- one group more
+module _ {E : Type 0} (mine : List (ℕ × GroupState E)) (limit t : ℕ) (it : List (ℕ × GroupState E)) (e : ℕ × GroupState E) (rest : List (ℕ × GroupState E)) (o : Option Packets) (p : Packets) (r : Option ℕ)
+    (is : it ≡ e ∷ rest) (here : o ≡ packets_at mine e.0) (packets : p ≡ e.1.packets) (beside : r ≡ cost_beside limit t (is_none o) (cost_in p)) where
+  cost : cost_beside limit t (is_none (packets_at mine e.0)) (cost_in e.1.packets) ≡ r
+  cost = sym (beside ∙ ap₂ (λ x y. cost_beside limit t (is_none x) (cost_in y)) here packets)
+
+  next : (m sum : ℕ) (full : Option ℕ) → r ≡ Some m → t ≤ limit → first_past limit t (new_of mine it) ≡ full → t + sum_by (λ x. cost_in x.1) (new_of mine it) ≡ sum
+      → (m ≤ limit) × (first_past limit m (new_of mine rest) ≡ full) × (m + sum_by (λ x. cost_in x.1) (new_of mine rest) ≡ sum)
+  next m sum full more room past total =
+      let n = beside_next mine limit t m e rest room (cost ∙ more) in (
+        n.0,
+        sym (ap (λ x. first_past limit t (new_of mine x)) is ∙ n.1) ∙ past,
+        sym (ap (λ x. t + sum_by (λ y. cost_in y.1) (new_of mine x)) is ∙ n.2) ∙ total,
+      )
+
+  stop : (full : Option ℕ) → r ≡ None → first_past limit t (new_of mine it) ≡ full → full ≡ Some e.0
+  stop full none past = sym past ∙ ap (λ x. first_past limit t (new_of mine x)) is ∙ beside_stop mine limit t e rest (cost ∙ none)
+
+ended : {E : Type 0} (mine : List (ℕ × GroupState E)) (limit t : ℕ) (it : List (ℕ × GroupState E)) (full : Option ℕ) → it ≡ [] → first_past limit t (new_of mine it) ≡ full → full ≡ None
+ended mine limit t it full is past = sym past ∙ ap (λ x. first_past limit t (new_of mine x)) is ∙ past_end mine limit t
+
+pub with_group-requires : goal.with_group-requires
+with_group-requires g c = c.loop-group.invariant.room
 
 pub loop-group-preserved : goal.loop-group-preserved
 loop-group-preserved g c =
-    let es = c.args.groups.now.entries in
-    let e : ℕ × GroupState g.row.F-Elem.Denot = (c.in-Some.group.now, c.in-Some.other.now) in
-    let one = beside es c.args.limit c.loop-group.total e (option_copied c.packets_in.result) c.packets.result.now c.with_group.result c.packets_in.ensures c.packets.ensures c.with_group.ensures in
-    let next = beside_next es c.args.limit c.loop-group.total c.in-Some-with_group.more e c.next.new.self c.loop-group.invariant.room (one ∙ c.in-Some-with_group.is) in
-    let past = ap (λ it. first_past c.args.limit c.loop-group.total (new_of es it)) c.in-Some.ensures.steps in
-    let sum = ap (λ it. c.loop-group.total + sum_by (λ x. cost_in x.1) (new_of es it)) c.in-Some.ensures.steps in
-    record {
-      room = next.0;
-      full = sym (past ∙ next.1) ∙ c.loop-group.invariant.full;
-      sum = sym (sum ∙ next.2) ∙ c.loop-group.invariant.sum;
-    }
+    let n = next c.args.groups.now.entries c.args.limit c.loop-group.total c.loop-group.group-iterator (c.in-Some.group.now, c.in-Some.other.now) c.next.new.self (option_copied c.packets_in.result) c.packets.result.now c.with_group.result
+    c.in-Some.ensures.steps c.packets_in.ensures c.packets.ensures c.with_group.ensures c.in-Some-with_group.more _ _ c.in-Some-with_group.is c.loop-group.invariant.room c.loop-group.invariant.full c.loop-group.invariant.sum in
+    record { room = n.0; full = n.1; sum = n.2 }
 
 pub returns-in-None-with_group-clause-full : goal.returns-in-None-with_group-clause-full
 returns-in-None-with_group-clause-full g c =
-    let es = c.args.groups.now.entries in
-    let e : ℕ × GroupState g.row.F-Elem.Denot = (c.in-Some.group.now, c.in-Some.other.now) in
-    let one = beside es c.args.limit c.loop-group.total e (option_copied c.packets_in.result) c.packets.result.now c.with_group.result c.packets_in.ensures c.packets.ensures c.with_group.ensures in
-    let stop = beside_stop es c.args.limit c.loop-group.total e c.next.new.self (one ∙ c.in-None-with_group.is) in
-    let past = ap (λ it. first_past c.args.limit c.loop-group.total (new_of es it)) c.in-Some.ensures.steps in
-    sym c.loop-group.invariant.full ∙ past ∙ stop
+    stop c.args.groups.now.entries c.args.limit c.loop-group.total c.loop-group.group-iterator (c.in-Some.group.now, c.in-Some.other.now) c.next.new.self (option_copied c.packets_in.result) c.packets.result.now c.with_group.result
+    c.in-Some.ensures.steps c.packets_in.ensures c.packets.ensures c.with_group.ensures _ c.in-None-with_group.is c.loop-group.invariant.full
 
 pub returns-clause-fits : goal.returns-clause-fits
 returns-clause-fits g c =
-    let es = c.args.groups.now.entries in
-    let past = ap (λ it. first_past c.args.limit c.loop-group.total (new_of es it)) c.in-None.ensures.steps.0 in
-    sym c.loop-group.invariant.full ∙ past ∙ past_end es c.args.limit c.loop-group.total
+    ended c.args.groups.now.entries c.args.limit c.loop-group.total c.loop-group.group-iterator _ c.in-None.ensures.steps.0 c.loop-group.invariant.full
+
+pub returns-clause-total : goal.returns-clause-total
+returns-clause-total g c =
+    let none = ap (λ it. sum_by (λ e. cost_in e.1) (new_of c.args.groups.now.entries it)) c.in-None.ensures.steps.0 in
+    omega (arith, c.loop-group.invariant.sum, none)

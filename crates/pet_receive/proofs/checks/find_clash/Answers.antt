@@ -1,7 +1,8 @@
 use Rattle.std.specs.Prelude.{option_copied}
 use Rattle.std.proofs.Common.{◌≡◌, ℕ, Option, List, ◌∷◌, sym, ap, ◌∙◌}
 use Rattle.packet_set.specs.Packets.{Packets}
-use Rattle.pet_receive.specs.Joining.{clash_from, clash_or, first_clash_in, packets_at}
+use Rattle.kept_sets.specs.GroupClash.{first_clash_in}
+use Rattle.pet_receive.specs.Joining.{clash_from, clash_or, packets_at}
 use Rattle.pet_receive.specs.Arrivals.{GroupState}
 use Rattle.pet_receive.proofs.Clashes.{clash_next, clash_end}
 use Rattle.pet_receive.proofs.checks.find_clash.Goals as goal

@@ -1,5 +1,5 @@
 use Rattle.std.proofs.Common.{ap, ◌∙◌, arith}
-use Rattle.pet_receive.specs.ShownBytes.{shown_in}
+use Rattle.kept_sets.specs.GroupLayers.{shown_in}
 use Rattle.pet_receive.proofs.Sums.{sum_more}
 use Rattle.pet_receive.proofs.totals.total_shown.Goals as goal
 

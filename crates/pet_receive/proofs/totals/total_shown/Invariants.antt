@@ -1,6 +1,6 @@
 use Rattle.std.proofs.Common.{◌≡◌, ◌+◌, sum_by}
 use Rattle.std.specs.Map.{values_of}
-use Rattle.pet_receive.specs.ShownBytes.{shown_in}
+use Rattle.kept_sets.specs.GroupLayers.{shown_in}
 use Rattle.pet_receive.proofs.totals.total_shown.Given as goal
 
 abbrev pub invariant-loop-open : goal.invariant-loop-open

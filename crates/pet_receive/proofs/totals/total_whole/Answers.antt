@@ -1,5 +1,5 @@
 use Rattle.std.proofs.Common.{ap, ◌∙◌, arith}
-use Rattle.pet_receive.specs.Receiving.{whole_in}
+use Rattle.kept_sets.specs.GroupLayers.{whole_in}
 use Rattle.pet_receive.proofs.Sums.{sum_more}
 use Rattle.pet_receive.proofs.totals.total_whole.Goals as goal
 

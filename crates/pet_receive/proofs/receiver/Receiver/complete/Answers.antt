@@ -3,7 +3,7 @@ use Rattle.std.proofs.Common.{◌≡◌, ◌↔◌, None, Some, false, sym, ◌�
 use Rattle.pet_receive.specs.ShownBytes.{IsComplete}
 use Rattle.pet_receive.specs.Arrivals.{ReceiverState, kept_set}
 use Rattle.kept_sets.specs.KeptSet.{told_by}
-use Rattle.pet_receive.specs.Receiving.{whole_in}
+use Rattle.kept_sets.specs.GroupLayers.{whole_in}
 use Rattle.pet_receive.proofs.Sums.{sum_is, whole_fits, complete_is, not_complete}
 use Rattle.pet_receive.proofs.receiver.Receiver.complete.Goals as goal
 

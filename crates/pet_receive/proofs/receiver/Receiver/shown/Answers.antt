@@ -1,5 +1,6 @@
 use Rattle.std.proofs.Common.{ap, ◌∙◌, arith}
-use Rattle.pet_receive.specs.ShownBytes.{shown_in, shown_in_all}
+use Rattle.kept_sets.specs.GroupLayers.{shown_in}
+use Rattle.pet_receive.specs.ShownBytes.{shown_in_all}
 use Rattle.pet_receive.specs.Arrivals.{ReceiverState, kept_set}
 use Rattle.pet_receive.proofs.Sums.{sum_is, shown_fits}
 use Rattle.pet_receive.proofs.receiver.Receiver.shown.Goals as goal

@@ -1,6 +1,0 @@
-use Rattle.std.proofs.Common.{rules}
-use Rattle.pet_receive.proofs.judge.is_other.Goals as goal
-
--- edits are refused here, without a search for an answer to offer
-pub returns-in-Some : goal.returns-in-Some
-returns-in-Some c = search rules
