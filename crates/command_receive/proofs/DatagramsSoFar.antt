@@ -99,8 +99,8 @@ received_all set n into first before now all left next_left r a b s few step rea
     }
 
 -- 16,777,216 datagrams were read
-pub received_many : (set : KeptSet) (n : ℕ) (first now : Seen) (all left : Option (List (List ℕ))) (r : ReceiverState ℕ) (a b : ℕ) → SoFar set n first now all left r a b → n ≡ MAX_DATAGRAMS → HasReceived set n first now all left r a b
-received_many set n first now all left r a b s is = record { so_far = s; few = omega (arith, is); ended = λ lt. absurd (omega (arith, is, lt)) }
+pub received_many : (set : KeptSet) (n : ℕ) (first now : Seen) (all left : Option (List (List ℕ))) (r : ReceiverState ℕ) (a b : ℕ) → SoFar set n first now all left r a b → n ≡ MAX_DATAGRAMS → HasReceived set MAX_DATAGRAMS first now all left r a b
+received_many set n first now all left r a b s is = subst (λ m. HasReceived set m first now all left r a b) is (record { so_far = s; few = omega (arith, is); ended = λ lt. absurd (omega (arith, is, lt)) })
 
 first_of_told : (read : List (List ℕ)) (rest : Option (List ℕ)) → IfSome (option_map datagrams rest) (AreFirst read) → IfSome rest (λ bytes. AreFirst read (datagrams bytes))
 first_of_told read None is = tt

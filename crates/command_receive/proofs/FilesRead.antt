@@ -1,5 +1,5 @@
 -- What was read of FROM and written to the other files, seen from before FROM was opened.
-use Rattle.std.proofs.Common.{◌≡◌, ◌⊎◌, ℕ, ◌<◌, ◌≤◌, Bool, List, [], ◌∷◌, length, Option, None, Some, refl, sym, ap, subst, ◌∙◌, arith, inl, inr}
+use Rattle.std.proofs.Common.{◌≡◌, ◌⊎◌, ℕ, ◌<◌, ◌≤◌, List, [], ◌∷◌, length, Option, None, Some, refl, sym, ap, subst, ◌∙◌, arith, inl, inr}
 use Rattle.std.specs.Prelude.{IfSome, IsSome, IsTrue, ◌↔◌, option_map}
 use Rattle.std.specs.Io.KnownBytes.{append_known}
 use Rattle.std.proofs.lemmas.List.{append-nil}
@@ -12,7 +12,7 @@ use Rattle.pet_base.specs.laws.SeenLaws.{Grows-named}
 use Rattle.command_files.specs.Wrote.{File, Wrote}
 use Rattle.command_files.specs.laws.WroteLaws.{Wrote-file, Wrote-as_front, Wrote-then}
 use Rattle.datagram_route.specs.Way.{Way, OnFile, OnLink}
-use Rattle.datagram_route.specs.Coming.{coming, HaveCome}
+use Rattle.datagram_route.specs.Coming.{coming, HasInput, HaveCome}
 use Rattle.datagram_route.specs.Sending.{AreFirst}
 use Rattle.pet_receive.specs.Arrivals.{ReceiverState, kept_set}
 use Rattle.kept_sets.specs.KeptSet.{KeptSet, kept_in_all}
@@ -20,6 +20,7 @@ use Rattle.pet_receive.specs.ShownBytes.{IsComplete, shown_in_all}
 use Rattle.met_packets.specs.Kept.{nothing_of}
 use Rattle.pet_text.specs.Lines.{bound_text}
 use Rattle.command_receive.specs.Numbers.{AreTotals}
+use Rattle.command_receive.specs.declared.reading.Totals.{Totals}
 use Rattle.command_receive.specs.Opened.{Begun, Opened, IsBoundTo, KeepsLink, PrintedPort}
 use Rattle.store_merge.specs.Files.{HasFile, store_file}
 use Rattle.command_receive.specs.Receives.{AreRead, HaveLeft, IsRead, IsReadFirst, layers_file, kept_file, Reads, ReadsUntilFault, LeavesFront}
@@ -82,6 +83,11 @@ port_printed (OnFile name) before opened after link written printed = written �
 port_printed (OnLink address) before opened after link written printed =
     written ∙ printed ∙ ap (λ (p : ℕ). append_known before.written (bound_text p)) (sym link.port)
 
+-- the link is as it was
+pub link_same : (from : Way) (link : LinkSeen) → KeepsLink from link link
+link_same (OnFile name) link = refl
+link_same (OnLink address) link = (refl, refl, omega arith)
+
 -- the link has sent nothing
 pub link_kept : (from : Way) (before opened after : LinkSeen) → KeepsLink from before opened → opened.faults ≤ after.faults → LinkReceives from opened after → KeepsLink from before after
 link_kept (OnFile name) before opened after kept later receives = receives ∙ kept
@@ -95,6 +101,10 @@ still_bound (OnLink address) before opened after bound receives = receives.bound
 pub begun_bound : (from : Way) (before opened : OutsideSeen) → Begun from before opened → IsBoundTo from before.link opened.link
 begun_bound (OnFile name) before opened begun = tt
 begun_bound (OnLink address) before opened begun = begun.bound
+
+pub begun_input : (from : Way) (before opened : OutsideSeen) → Begun from before opened → HasInput from opened.place
+begun_input (OnFile name) before opened begun = begun.has_input
+begun_input (OnLink address) before opened begun = tt
 
 -- the store of what the receiver has kept is that of what was read
 kept_is : (session store : List ℕ) (n so sn : ℕ) (old new : Seen) (all left : Option (List (List ℕ))) (r : ReceiverState ℕ) (h : HasReceived (nothing_of session) n old new all left r so sn) → store_file store (kept_set r) ≡ kept_file store session h.so_far.read
@@ -183,23 +193,22 @@ reads_leaves from session layers store before after r =
     })
 
 -- the numbers that are told after a reading
-totals_of : (session : List ℕ) (n so sn kept shown : ℕ) (complete : Bool) (old new : Seen) (all left : Option (List (List ℕ))) (r : ReceiverState ℕ) (h : HasReceived (nothing_of session) n old new all left r so sn)
-    → kept ≡ kept_in_all (kept_set r) → shown ≡ shown_in_all (kept_set r) → (IsTrue complete ↔ IsComplete (kept_set r))
-    → AreTotals session h.so_far.read (record { read = n; kept = kept; shown = shown; complete = complete })
-totals_of session n so sn kept shown complete old new all left r h k s c = record {
-  many = sym h.so_far.many;
+numbers_are : (session : List ℕ) (n so sn : ℕ) (totals : Totals) (old new : Seen) (all left : Option (List (List ℕ))) (r : ReceiverState ℕ) (h : HasReceived (nothing_of session) n old new all left r so sn)
+    → totals.read ≡ n → totals.kept ≡ kept_in_all (kept_set r) → totals.shown ≡ shown_in_all (kept_set r) → (IsTrue totals.complete ↔ IsComplete (kept_set r)) → AreTotals session h.so_far.read totals
+numbers_are session n so sn totals old new all left r h many k s c = record {
+  many = many ∙ sym h.so_far.many;
   kept = k ∙ ap kept_in_all h.so_far.kept;
   shown = s ∙ ap shown_in_all h.so_far.kept;
-  complete = subst (λ (set : KeptSet). IsTrue complete ↔ IsComplete set) h.so_far.kept c;
+  complete = subst (λ (set : KeptSet). IsTrue totals.complete ↔ IsComplete set) h.so_far.kept c;
 }
 
 -- the whole reading, with its numbers
-pub reads_with_totals : (from : Way) (session layers store : List ℕ) (n kept shown : ℕ) (complete : Bool) (before opened new stored : OutsideSeen) (r : ReceiverState ℕ) → Opened from layers before opened → opened.steps ≡ before.steps
+pub reads_with_totals : (from : Way) (session layers store : List ℕ) (n : ℕ) (totals : Totals) (before opened new stored : OutsideSeen) (r : ReceiverState ℕ) → Opened from layers before opened → opened.steps ≡ before.steps
     → HasReceived (nothing_of session) n opened.place new.place (coming from opened.place opened.link) (coming from new.place new.link) r opened.steps new.steps → stored.link ≡ new.link → stored.steps ≡ new.steps
-    → Wrote (store_file store (kept_set r) ∷ []) None new.place stored.place → kept ≡ kept_in_all (kept_set r) → shown ≡ shown_in_all (kept_set r) → (IsTrue complete ↔ IsComplete (kept_set r))
-    → (reads : Reads from session layers store before stored) × AreTotals session reads.read (record { read = n; kept = kept; shown = shown; complete = complete })
+    → Wrote (store_file store (kept_set r) ∷ []) None new.place stored.place → totals.read ≡ n → totals.kept ≡ kept_in_all (kept_set r) → totals.shown ≡ shown_in_all (kept_set r) → (IsTrue totals.complete ↔ IsComplete (kept_set r))
+    → (reads : Reads from session layers store before stored) × AreTotals session reads.read totals
 unfolding reads_all
-reads_with_totals from session layers store n kept shown complete before opened new stored r o steps h link counted written k s c = (
+reads_with_totals from session layers store n totals before opened new stored r o steps h link counted written many k s c = (
   reads_all from session layers store n before opened new stored r o steps h link counted written,
-  totals_of session n opened.steps new.steps kept shown complete opened.place new.place (coming from opened.place opened.link) (coming from new.place new.link) r h k s c,
+  numbers_are session n opened.steps new.steps totals opened.place new.place (coming from opened.place opened.link) (coming from new.place new.link) r h many k s c,
 )

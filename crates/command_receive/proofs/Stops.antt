@@ -1,6 +1,6 @@
 -- What a command leaves that stops early, by where it stops.
-use Rattle.std.proofs.Common.{◌≡◌, ◌⊎◌, ℕ, ◌≤◌, List, [], ◌∷◌, Option, None, Some, sym, ap, subst, ◌∙◌, arith, inl, inr}
-use Rattle.std.specs.Prelude.{IfSome, option_map, Result, Ok, Err, IfErr, IsErrAnd}
+use Rattle.std.proofs.Common.{◌≡◌, ◌⊎◌, ℕ, ◌≤◌, List, [], ◌∷◌, Option, None, Some, refl, sym, ap, subst, ◌∙◌, arith, inl, inr}
+use Rattle.std.specs.Prelude.{IfSome, option_map, Result, Ok, Err, IfErr, IsErrAnd, OnOk}
 use Rattle.pet_base.specs.Causes.{Blames}
 use Rattle.pet_base.specs.declared.faults.Stop.{Stop}
 use Rattle.pet_base.specs.declared.faults.Stop.TheVariants as place
@@ -14,7 +14,7 @@ use Rattle.command_files.specs.Inputs.{Licensed}
 use Rattle.command_files.specs.Uses.{writing, IsOneOf, Failed}
 use Rattle.command_files.specs.Wrote.{Wrote}
 use Rattle.datagram_route.specs.Way.{Way, OnFile, OnLink}
-use Rattle.datagram_route.specs.Coming.{coming}
+use Rattle.datagram_route.specs.Coming.{coming, KeepsFeed}
 use Rattle.datagram_route.specs.RouteFaults.{IsStop, BoundFailed, ReceivingFailed, stop_of_place}
 use Rattle.datagram_route.specs.declared.fault.RouteStop.{RouteStop}
 use Rattle.datagram_route.specs.declared.fault.RouteStop.TheVariants as stop
@@ -31,6 +31,11 @@ use Rattle.command_receive.proofs.FilesRead.{input_read, port_printed, part_leav
 pub stop_is : {T : Type 0} (P : RouteStop → Type 0) (result : Result T RouteStop) (stop : RouteStop) → IsErrAnd result (λ s. s ≡ stop) → P stop → IfErr result P
 stop_is P (Ok x) stop is p = tt
 stop_is P (Err e) stop is p = subst P (sym is) p
+
+-- what holds whatever a call answers
+pub always_ok : {T E P : Type 0} (result : Result T E) → P → OnOk result P
+always_ok (Ok x) p = p
+always_ok (Err e) p = tt
 
 -- the input and the output are blamed in their turn
 reading_used : (from : Way) (layers store : List ℕ) (before opened after : OutsideSeen) → Opened from layers before opened → (b : Blame) → IsReadingUse from opened.place b → IsUseInTurn from layers store before after b
@@ -118,6 +123,14 @@ pub all_bound_where_stopped : {T : Type 0} (from : Way) (old new : LinkSeen) (re
 all_bound_where_stopped from old new (Ok x) bound = tt
 all_bound_where_stopped from old new (Err stop) bound = bound_where_stopped from old new stop bound
 
+-- before anything was done no datagram has left it
+feed_same : (from : Way) (link : LinkSeen) → KeepsFeed from link link
+feed_same (OnFile name) link = tt
+feed_same (OnLink address) link = refl
+
+pub unbound_where_stopped : {T : Type 0} (from : Way) (link : LinkSeen) (result : Result T RouteStop) → IsErrAnd result (λ s. s ≡ stop.NoMemory) → IfErr result (IsBoundWhereStopped from link link)
+unbound_where_stopped from link result is = stop_is (IsBoundWhereStopped from link link) result stop.NoMemory is (inl (feed_same from link))
+
 -- as the end that it makes
 pub bound_at_stop : (from : Way) (old new : LinkSeen) (stop : RouteStop) → IsBoundWhereStopped from old new stop → IsBoundAtEnd from old new (end_of stop)
 bound_at_stop from old new stop.NoMemory bound = bound
@@ -126,22 +139,11 @@ bound_at_stop from old new stop.Link bound = bound
 bound_at_stop from old new stop.Out bound = bound
 
 -- the same, as the answer of a call
-module _ {T : Type 0} (from : Way) (session layers store : List ℕ) (before after : OutsideSeen) (result : Result T RouteStop) where
-  pub stopped_opening : (stop : RouteStop) → IsErrAnd result (λ s. s ≡ stop) → StopsOpening from layers before after stop → IfErr result (λ s. EndsReceive from session layers store before after (end_of s))
-  stopped_opening stop is stops = stop_is (λ s. EndsReceive from session layers store before after (end_of s)) result stop is (stops_opening stop from session layers store before after stops)
+pub stopped_opening : {T : Type 0} (from : Way) (session layers store : List ℕ) (before after : OutsideSeen) (result : Result T RouteStop) (stop : RouteStop) → IsErrAnd result (λ s. s ≡ stop) → StopsOpening from layers before after stop
+    → IfErr result (λ s. EndsReceive from session layers store before after (end_of s))
+stopped_opening from session layers store before after result stop is stops =
+    stop_is (λ s. EndsReceive from session layers store before after (end_of s)) result stop is (stops_opening stop from session layers store before after stops)
 
-  pub stopped_reading : (stop : RouteStop) (opened : OutsideSeen) → IsErrAnd result (λ s. s ≡ stop) → Opened from layers before opened → before.place.faults ≤ opened.place.faults → before.link.faults ≤ opened.link.faults
-      → LinkReceives from opened.link after.link → after.written ≡ opened.written → StoppedSoFar from (nothing_of session) opened.place after.place opened.link after.link stop
-      → IsStop (HadFault opened.place after.place (IsReadingUse from opened.place)) (ReceivingFailed from opened.link after.link) ⊥ stop → IfErr result (λ s. EndsReceive from session layers store before after (end_of s))
-  stopped_reading stop opened is o place_later link_later receives written stopped cause =
-      stop_is (λ s. EndsReceive from session layers store before after (end_of s)) result stop is
-      (stops_reading stop from session layers store before opened after o place_later link_later receives written stopped cause)
-
-  pub stopped_storing : (stop : Stop) (n : ℕ) (opened new : OutsideSeen) (r : ReceiverState ℕ) → IsErrAnd result (λ s. s ≡ stop_of_place stop) → Opened from layers before opened → opened.steps ≡ before.steps → before.place.faults ≤ opened.place.faults
-      → opened.place.faults ≤ new.place.faults → LinkReceives from opened.link new.link
-      → HasReceived (nothing_of session) n opened.place new.place (coming from opened.place opened.link) (coming from new.place new.link) r opened.steps new.steps → after.link ≡ new.link → after.steps ≡ new.steps → after.written ≡ opened.written
-      → (after.place.files ≡ new.place.files) ⊎ Wrote [] (Some (store_file store (kept_set r))) new.place after.place → Licensed (Failed (writing store ∷ []) new.place after.place) stop
-      → IfErr result (λ s. EndsReceive from session layers store before after (end_of s))
-  stopped_storing stop n opened new r is o steps later still receives h link counted written front cause =
-      stop_is (λ s. EndsReceive from session layers store before after (end_of s)) result (stop_of_place stop) is
-      (stops_storing stop from session layers store n before opened new after r o steps later still receives h link counted written front cause)
+-- for want of memory, before anything was done
+pub stopped_first : {T : Type 0} (from : Way) (session layers store : List ℕ) (before : OutsideSeen) (result : Result T RouteStop) → IsErrAnd result (λ s. s ≡ stop.NoMemory) → IfErr result (λ s. EndsReceive from session layers store before before (end_of s))
+stopped_first from session layers store before result is = stopped_opening from session layers store before before result stop.NoMemory is (record { files = refl; feed = feed_same from before.link }, refl)

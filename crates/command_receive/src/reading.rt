@@ -1,12 +1,14 @@
 //! Reading the datagrams of a file or of a link, and writing the layers that they show and the store of what is kept.
-ghost use Rattle.std.specs.Prelude.{◌≡◌, ℕ, ◌+◌, ◌≤◌, List, [], ◌∷◌, length, true, vec_len, OnOk, OnErr, IfOk, IfErr};
+ghost use Rattle.std.specs.Prelude.{◌≡◌, ◌↔◌, ℕ, ◌+◌, ◌≤◌, List, [], ◌∷◌, length, true, vec_len, IsTrue, OnOk, OnErr, IfOk, IfErr};
 ghost use Rattle.pet_base.specs.Lent.{seen, AreSame};
+ghost use Rattle.pet_base.specs.OutsideSeen.{OutsideSeen};
 ghost use Rattle.pet_base.specs.declared.limits.TheConstants.{MAX_ENTRY};
 ghost use Rattle.pet_base.specs.declared.place.Side.TheVariants.{Written};
 ghost use Rattle.pet_base.specs.Causes.{Blames};
 ghost use Rattle.pet_base.specs.Seen.{Seen, OnlyWrites, HadFault};
 ghost use Rattle.pet_receive.specs.Arrivals.{Order, kept_set};
-ghost use Rattle.kept_sets.specs.KeptSet.{IsKeptSet};
+ghost use Rattle.pet_receive.specs.ShownBytes.{IsComplete, shown_in_all};
+ghost use Rattle.kept_sets.specs.KeptSet.{IsKeptSet, kept_in_all};
 ghost use Rattle.kept_sets.specs.Verdicts.{after};
 ghost use Rattle.command_files.specs.Inputs.{Licensed};
 ghost use Rattle.command_files.specs.Outputs.{Puts};
@@ -17,7 +19,7 @@ ghost use Rattle.met_packets.specs.Gf16.{HasKeptIn, IsTextAt};
 ghost use Rattle.met_packets.specs.LayersText.{order_after};
 ghost use Rattle.met_packets.specs.Steps.{steps_of};
 ghost use Rattle.command_receive.specs.Numbers.{AreTotals, end_of};
-ghost use Rattle.command_receive.specs.Opened.{IsBoundTo, IsBoundWhereStopped, KeepsLink, PrintedPort};
+ghost use Rattle.command_receive.specs.Opened.{IsBoundTo, IsBoundWhereStopped, KeepsLink, OnlyOpens, Opened, PrintedPort};
 ghost use Rattle.command_receive.specs.Receives.{Reads, EndsReceive};
 ghost use Rattle.command_receive.specs.SoFar.{HasReceived, StoppedSoFar, PartOfOne, LinkReceives, IsReadingUse};
 
@@ -72,22 +74,64 @@ pub(crate) fn read_all<P: Place, K: Link, S: Sink, L: Ledger>(
     let mut buffer = room(alloc)?;
     let field = Gf16Tables::new(alloc)?;
     open(alloc, from, layers, outside)?;
-    let mut receiver = Receiver::new(alloc, &field, session, MAX_SESSION);
+    read_opened(alloc, from, session, store, &field, &mut buffer, outside)
+}
+
+/// Reads all datagrams of FROM once it is begun and LAYERS is made, and writes the store of what is kept to STORE.
+fn read_opened<P: Place, K: Link, S: Sink, L: Ledger>(
+    alloc: Global,
+    from: Route<'_>,
+    session: [u8; 8],
+    store: &str,
+    field: &Gf16Tables,
+    buffer: &mut [u8],
+    outside: &mut Outside<P, K, S, L>,
+) -> Result<Totals, RouteStop>
+    requires input { HasInput (way_of from) (seen outside.old).place }
+    requires output { (seen outside.old).place.has_output ≡ true }
+    requires room { MAX_ENTRY ≤ length buffer.old }
+    ensures done { IfOk result (λ totals. (layers : List ℕ) (before : OutsideSeen)
+        → Opened (way_of from.entry) layers before (seen outside.old)
+        → OnlyOpens (way_of from.entry) before (seen outside.old)
+        → (r : Reads (way_of from.entry) session layers store.now before (seen outside.new))
+        × AreTotals session r.read totals
+        × PrintedPort (way_of from.entry) before (seen outside.new)) }
+    ensures stop { IfErr result (λ stop. (layers : List ℕ) (before : OutsideSeen)
+        → Opened (way_of from.entry) layers before (seen outside.old)
+        → OnlyOpens (way_of from.entry) before (seen outside.old)
+        → EndsReceive (way_of from.entry) session layers store.now before
+        (seen outside.new) (end_of stop)) }
+    ensures link { LinkReceives (way_of from.entry) (seen outside.old).link (seen outside.new).link }
+    ensures link_later { (seen outside.old).link.faults ≤ (seen outside.new).link.faults }
+    ensures out { (seen outside.new).out_faults ≡ (seen outside.old).out_faults }
+    ensures same { AreSame outside.old outside.new }
+{
+    let mut receiver = Receiver::new(alloc, field, session, MAX_SESSION);
     let read = receive_all(
         from,
         outside.place,
         outside.link,
         &mut receiver,
-        &mut buffer,
+        buffer,
         outside.steps,
     )?;
     write_store_file(alloc, &receiver, store, outside.place)?;
-    Ok(Totals {
+    Ok(totals_of(&receiver, read))
+}
+
+/// What so many datagrams come to, by what is kept of them.
+fn totals_of(receiver: &Receiver<'_, Gf16Tables>, read: u32) -> Totals
+    ensures read { result.read ≡ read }
+    ensures kept { result.kept ≡ kept_in_all (kept_set receiver.now) }
+    ensures shown { result.shown ≡ shown_in_all (kept_set receiver.now) }
+    ensures complete { IsTrue result.complete ↔ IsComplete (kept_set receiver.now) }
+{
+    Totals {
         read,
         kept: receiver.kept(),
         shown: receiver.shown(),
         complete: receiver.complete(),
-    })
+    }
 }
 
 /// Room for the longest datagram.

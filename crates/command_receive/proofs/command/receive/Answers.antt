@@ -1,9 +1,10 @@
 use Rattle.std.proofs.Common.{refl, sym, subst}
-use Rattle.command_receive.specs.Receives.{EndsReceive}
+use Rattle.command_receive.specs.Receives.{Receives}
 use Rattle.pet_base.specs.Lent.{seen}
 use Rattle.pet_base.specs.OutsideSeen.{outside_seen}
 use Rattle.datagram_route.specs.Way.{way_of}
 use Rattle.command_receive.proofs.Ends.{receives_all}
+use Rattle.command_receive.proofs.Stops.{bound_at_stop}
 use Rattle.command_receive.specs.laws.NamedLaws.{names_what_it_stores}
 use Rattle.command_receive.specs.laws.SessionReceived.{completes_receive}
 use Rattle.command_receive.proofs.command.receive.Goals as goal
@@ -23,7 +24,22 @@ pub returns-in-Ok-clause-named : goal.returns-in-Ok-clause-named
 returns-in-Ok-clause-named g c =
     names_what_it_stores (way_of c.args.from) c.args.session c.args.layers.now c.args.store.now _ _ c.print_numbers.result (returns-in-Ok-clause-receives g c).ends
 
+pub returns-in-Err-clause-receives : goal.returns-in-Err-clause-receives
+returns-in-Err-clause-receives g c =
+    let from = way_of c.args.from in
+    let before = seen c.args.outside.now in
+    let after = seen c.read_all.new.outside in
+    subst (Receives from c.args.session c.args.layers.now c.args.store.now before after) (sym c.stopped.ensures)
+    (record {
+      link = c.read_all.ensures.link;
+      bound = bound_at_stop from before.link after.link c.in-Err.stop c.in-Err.ensures.bound;
+      later = c.read_all.ensures.later;
+      ends = c.in-Err.ensures.stop;
+    })
+
+pub returns-in-Err-clause-completes : goal.returns-in-Err-clause-completes
+returns-in-Err-clause-completes g c = completes_receive (way_of c.args.from) c.args.session c.args.layers.now c.args.store.now _ _ c.stopped.result (returns-in-Err-clause-receives g c)
+
 pub returns-in-Err-clause-named : goal.returns-in-Err-clause-named
 returns-in-Err-clause-named g c =
-    names_what_it_stores (way_of c.args.from) c.args.session c.args.layers.now c.args.store.now (seen c.args.outside.now) (seen c.read_all.new.outside) c.stopped.result
-    (subst (EndsReceive (way_of c.args.from) c.args.session c.args.layers.now c.args.store.now (seen c.args.outside.now) (seen c.read_all.new.outside)) (sym c.stopped.ensures) c.in-Err.ensures.stop)
+    names_what_it_stores (way_of c.args.from) c.args.session c.args.layers.now c.args.store.now _ _ c.stopped.result (returns-in-Err-clause-receives g c).ends

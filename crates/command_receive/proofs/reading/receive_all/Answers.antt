@@ -1,11 +1,11 @@
 use Rattle.std.proofs.Common.{◌+◌, ◌∙◌, arith, refl, subst}
 use Rattle.datagram_route.specs.Way.{way_of}
 use Rattle.datagram_route.specs.Coming.{coming, TakesDatagram}
-use Rattle.datagram_route.specs.RouteFaults.{stop_of_place}
+use Rattle.datagram_route.specs.RouteFaults.{stop_of_place, stop_of_route}
 use Rattle.pet_base.specs.laws.SeenLaws.{KeepsNames-same, KeepsNames-then, OnlyReads-KeepsNames, OnlyWrites-KeepsNames}
 use Rattle.pet_receive.specs.Arrivals.{kept_set}
 use Rattle.command_receive.specs.SoFar.{StoppedSoFar}
-use Rattle.command_receive.proofs.DatagramsSoFar.{so_far_start, so_far_more, stopped_at_one, input_kept, receives_nothing, receives_more, put_since}
+use Rattle.command_receive.proofs.DatagramsSoFar.{so_far_start, so_far_more, received_all, received_many, stopped_so_far, stopped_at_one, input_kept, receives_nothing, receives_more, put_since}
 use Rattle.command_receive.proofs.Stops.{stop_is}
 use Rattle.command_receive.proofs.reading.receive_all.Goals as goal
 
@@ -19,6 +19,45 @@ loop-turn-init g c = record {
   names = KeepsNames-same (g.P.Place.seen c.args.place.now);
   receives = receives_nothing (way_of c.args.from) (g.K.Link.seen c.args.link.now);
 }
+
+pub returns-in_err-next_datagram-clause-stopped : goal.returns-in_err-next_datagram-clause-stopped
+returns-in_err-next_datagram-clause-stopped g c =
+    let from = way_of c.args.from in
+    let first = g.P.Place.seen c.args.place.now in
+    let before = g.P.Place.seen c.loop-turn.place in
+    let now = g.P.Place.seen c.next_datagram.new.place in
+    let set = kept_set c.args.receiver.now in
+    let link_first = g.K.Link.seen c.args.link.now in
+    let link_before = g.K.Link.seen c.loop-turn.link in
+    let link_now = g.K.Link.seen c.next_datagram.new.link in
+    let failed = c.in_err-next_datagram.field-0.0 in
+    stop_is (StoppedSoFar from set first now link_first link_now) c.from_residual.result (stop_of_route failed) c.from_residual.ensures.1
+    (stopped_so_far failed from set c.loop-turn.turn first before now link_first link_before link_now c.loop-turn.receiver c.args.steps.now c.loop-turn.steps c.loop-turn.invariant.so_far c.in_err-next_datagram.ensures.feed
+    c.next_datagram.ensures.others.place.files c.in_err-next_datagram.ensures.cause)
+
+pub returns-in_err-next_datagram-clause-link : goal.returns-in_err-next_datagram-clause-link
+returns-in_err-next_datagram-clause-link g c =
+    receives_more (way_of c.args.from) (g.K.Link.seen c.args.link.now) (g.K.Link.seen c.loop-turn.link) (g.K.Link.seen c.next_datagram.new.link) (g.P.Place.seen c.loop-turn.place) (g.P.Place.seen c.next_datagram.new.place)
+    c.loop-turn.invariant.receives c.next_datagram.ensures.others
+
+pub returns-in-End-clause-done : goal.returns-in-End-clause-done
+returns-in-End-clause-done g c =
+    let from = way_of c.args.from in
+    let first = g.P.Place.seen c.args.place.now in
+    let before = g.P.Place.seen c.loop-turn.place in
+    let now = g.P.Place.seen c.next_datagram.new.place in
+    let link_first = g.K.Link.seen c.args.link.now in
+    let link_before = g.K.Link.seen c.loop-turn.link in
+    let link_now = g.K.Link.seen c.next_datagram.new.link in
+    let into = c.next_datagram.new.into in
+    let step = subst (λ e. TakesDatagram (coming from before link_before) e into (coming from now link_now)) c.in-End.is c.in_ok-next_datagram.ensures.datagram in
+    received_all (kept_set c.args.receiver.now) c.loop-turn.turn into first before now (coming from first link_first) (coming from before link_before) (coming from now link_now) c.loop-turn.receiver c.args.steps.now c.loop-turn.steps
+    c.loop-turn.invariant.so_far (omega arith) step c.next_datagram.ensures.others.place
+
+pub returns-in-End-clause-link : goal.returns-in-End-clause-link
+returns-in-End-clause-link g c =
+    receives_more (way_of c.args.from) (g.K.Link.seen c.args.link.now) (g.K.Link.seen c.loop-turn.link) (g.K.Link.seen c.next_datagram.new.link) (g.P.Place.seen c.loop-turn.place) (g.P.Place.seen c.next_datagram.new.place)
+    c.loop-turn.invariant.receives c.next_datagram.ensures.others
 
 pub returns-in_err-receive_one-in-Datagram-clause-stopped : goal.returns-in_err-receive_one-in-Datagram-clause-stopped
 returns-in_err-receive_one-in-Datagram-clause-stopped g c =
@@ -37,6 +76,11 @@ returns-in_err-receive_one-in-Datagram-clause-stopped g c =
     stop_is (StoppedSoFar from set first now link_first link_now) c.from_residual-in_err-receive_one-in-Datagram.result (stop_of_place stop) c.from_residual-in_err-receive_one-in-Datagram.ensures.1
     (stopped_at_one stop from set c.loop-turn.turn (c.loop-turn.turn + 1) c.in-Datagram.len into first before between now link_first link_before link_now c.loop-turn.receiver c.args.steps.now c.loop-turn.steps
     c.loop-turn.invariant.so_far refl c.loop-turn.invariant.names step c.next_datagram.ensures.others.place c.in_err-receive_one-in-Datagram.ensures.part)
+
+pub returns-in_err-receive_one-in-Datagram-clause-link : goal.returns-in_err-receive_one-in-Datagram-clause-link
+returns-in_err-receive_one-in-Datagram-clause-link g c =
+    receives_more (way_of c.args.from) (g.K.Link.seen c.args.link.now) (g.K.Link.seen c.loop-turn.link) (g.K.Link.seen c.next_datagram.new.link) (g.P.Place.seen c.loop-turn.place) (g.P.Place.seen c.next_datagram.new.place)
+    c.loop-turn.invariant.receives c.next_datagram.ensures.others
 
 pub loop-turn-preserved : goal.loop-turn-preserved
 loop-turn-preserved g c =
@@ -65,3 +109,11 @@ loop-turn-preserved g c =
       names = KeepsNames-then first between now (KeepsNames-then first before between held.names (OnlyReads-KeepsNames before between takes.place)) (OnlyWrites-KeepsNames between now writes);
       receives = receives_more from link_first link_before link_now before between held.receives takes;
     }
+
+pub returns-clause-done : goal.returns-clause-done
+returns-clause-done g c =
+    let from = way_of c.args.from in
+    let first = g.P.Place.seen c.args.place.now in
+    let now = g.P.Place.seen c.loop-turn.place in
+    received_many (kept_set c.args.receiver.now) c.loop-turn.turn first now (coming from first (g.K.Link.seen c.args.link.now)) (coming from now (g.K.Link.seen c.loop-turn.link)) c.loop-turn.receiver c.args.steps.now c.loop-turn.steps
+    c.loop-turn.invariant.so_far (omega arith)
