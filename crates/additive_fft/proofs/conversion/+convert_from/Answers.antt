@@ -28,3 +28,15 @@ returns-then-level-gt0-clause-cost g t c =
 
 pub returns-else-level-gt0-clause-cost : goal.returns-else-level-gt0-clause-cost
 returns-else-level-gt0-clause-cost g t c = convert_none_cost c.args.level (2 ^ c.args.shift * c.args.width) c.args.known c.args.steps.now (omega arith)
+
+pub returns-then-level-gt0-clause-zeros : goal.returns-then-level-gt0-clause-zeros
+returns-then-level-gt0-clause-zeros g t c = c.convert_from.ensures.zeros
+
+pub returns-then-level-gt0-clause-elements : goal.returns-then-level-gt0-clause-elements
+returns-then-level-gt0-clause-elements g t c = c.convert_from.ensures.elements
+
+pub returns-else-level-gt0-clause-zeros : goal.returns-else-level-gt0-clause-zeros
+returns-else-level-gt0-clause-zeros g t c = c.requires.zeros
+
+pub returns-else-level-gt0-clause-elements : goal.returns-else-level-gt0-clause-elements
+returns-else-level-gt0-clause-elements g t c = c.requires.elements

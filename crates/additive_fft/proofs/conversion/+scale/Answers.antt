@@ -1,4 +1,5 @@
 use Rattle.std.proofs.Common.{◌-◌, ◌^◌, ◌+◌, ◌∙◌, ap, refl, arith}
+use Rattle.std.proofs.lemmas.Bool.{false≢true}
 use Rattle.std.proofs.lemmas.List.Elements.{All-append}
 use Rattle.additive_fft.proofs.Columns.{scales_columns, scales_none_columns, block_low, block_high, block_middle, block_rest, power_halves}
 use Rattle.additive_fft.proofs.Zeros.{from_front, from_back, from_end, from_append, scales_low}
@@ -34,7 +35,7 @@ scale-requires-else-known-half-2 g t c κs within =
     let zeros = from_back g.F.Field.coding.ops.nought _ a.known a.rows.now s.result.1.now s.ensures.back c.requires.zeros in
     let are = back_are g.F.Field.is_element _ a.rows.now s.result.1.now s.ensures.back c.requires.elements in
     let fits = block_rest a.shift a.level a.width a.known a.rows.now s.result.1.now (omega arith) c.requires.size long c.requires.fits in
-    (omega arith, (within.0, (within.1.0, (within.1.1, (omega arith, (long, (zeros, (are, (fits, (λ t. absurd (cc), (c.requires.factor, (c.product-b.ensures.element, c.requires.small))))))))))))
+    (omega arith, (within.0, (within.1.0, (within.1.1, (omega arith, (long, (zeros, (are, (fits, (λ t. absurd (false≢true t), (c.requires.factor, (c.product-b.ensures.element, c.requires.small))))))))))))
 
 pub returns-then-level-eq0-clause-products : goal.returns-then-level-eq0-clause-products
 returns-then-level-eq0-clause-products g t c =
@@ -108,3 +109,9 @@ pub returns-else-known-half-clause-elements : goal.returns-else-known-half-claus
 returns-else-known-half-clause-elements g t c =
     All-append g.F.Field.is_element c.scale-else-known-half.new.rows c.scale-else-known-half-2.new.rows c.scale-else-known-half.ensures.elements
     c.scale-else-known-half-2.ensures.elements
+
+pub returns-then-level-eq0-clause-zeros : goal.returns-then-level-eq0-clause-zeros
+returns-then-level-eq0-clause-zeros g t c = c.multiply.ensures.zeros
+
+pub returns-then-level-eq0-clause-elements : goal.returns-then-level-eq0-clause-elements
+returns-then-level-eq0-clause-elements g t c = c.multiply.ensures.elements

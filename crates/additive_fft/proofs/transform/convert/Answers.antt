@@ -22,3 +22,9 @@ returns-clause-bounded g c =
 
 pub convert_from-requires-clause-small : goal.convert_from-requires-clause-small
 convert_from-requires-clause-small g c = few_levels g.F.Field.is_element g.F.Field.coding.ops g.met.F.Field.lawful.field g.F.Field.COUNT g.F.Field.coding.point_of g.met.F.Field.lawful.points g.F.Subspaces.LEVELS g.F.Subspaces.factor g.F.Subspaces.inverse g.met.F.Subspaces.subspaces
+
+pub returns-clause-zeros : goal.returns-clause-zeros
+returns-clause-zeros g c = c.convert_from.ensures.zeros
+
+pub returns-clause-elements : goal.returns-clause-elements
+returns-clause-elements g c = c.convert_from.ensures.elements

@@ -1,4 +1,4 @@
-use Rattle.std.proofs.Common.{◌≡◌, ◌<◌, length, get_or, inl, inr, ap, ap₂, sym, ◌∙◌, arith}
+use Rattle.std.proofs.Common.{◌≡◌, ◌<◌, length, get_or, inl, inr, refl, ap, ap₂, sym, ◌∙◌, arith}
 use Rattle.std.proofs.lemmas.Bool.{cases_lt}
 use Rattle.std.proofs.lemmas.List.{length-set, get_or-set_other, get_or_default}
 use Rattle.pet_rows.specs.laws.PlaceLaws.{filled}
@@ -43,3 +43,21 @@ pub returns-clause-elements : goal.returns-clause-elements
 returns-clause-elements g c =
     sums_are g.F.Field.is_element g.F.Field.coding.ops g.met.F.Field.lawful.field c.args.into.now c.args.other.now c.loop-i.into c.requires.first c.requires.second
     c.loop-i.invariant.long c.requires.same (returns-clause-sums g c)
+
+pub loop-i-init : goal.loop-i-init
+loop-i-init g c = record { long = refl; done = λ k l. absurd (omega arith); rest = λ k l. refl }
+
+pub add-requires : goal.add-requires
+add-requires g c =
+    let F = g.F.Field in
+    let z = F.coding.ops.nought in
+    let into = c.loop-i.into in
+    let n = c.loop-i.i in
+    let e = c.index-into-i.result in
+    let d = c.index-other-i.result in
+    let l : n < length c.args.other.now = omega arith in
+    let m : n < length c.args.into.now = omega (arith, c.requires.same) in
+    record {
+      first = rw (c.index-into-i.is ∙ get_or_default into n e z (omega (arith, c.loop-i.invariant.long)) ∙ c.loop-i.invariant.rest n (omega arith)) (c.requires.first n z m);
+      second = rw c.index-other-i.is (c.requires.second n d l);
+    }

@@ -1,4 +1,5 @@
 use Rattle.std.proofs.Common.{get_or, length, ◌<◌, ◌∙◌, sym, arith}
+use Rattle.std.proofs.lemmas.List.{get_or_past}
 use Rattle.additive_fft.proofs.Made.{multiples_are, sums_are}
 use Rattle.additive_fft.proofs.Zeros.{nothing_added}
 use Rattle.additive_fft.proofs.words.butterfly.Goals as goal
@@ -38,3 +39,24 @@ returns-else-none-clause-others g c =
 
 pub returns-else-none-clause-low : goal.returns-else-none-clause-low
 returns-else-none-clause-low g c = c.butterfly_row.ensures.low
+
+pub add_words-requires : goal.add_words-requires
+add_words-requires g c =
+    record {
+      same = sym c.requires.same;
+      zeros = λ i l. get_or_past c.args.low.now i g.F.Field.coding.ops.nought l;
+      first = c.requires.second;
+      second = c.requires.first;
+    }
+
+pub returns-then-none-clause-elements : goal.returns-then-none-clause-elements
+returns-then-none-clause-elements g c = c.requires.first
+
+pub returns-then-none-clause-others : goal.returns-then-none-clause-others
+returns-then-none-clause-others g c = c.add_words.ensures.elements
+
+pub returns-else-none-clause-high : goal.returns-else-none-clause-high
+returns-else-none-clause-high g c = c.butterfly_row.ensures.high
+
+pub returns-else-none-clause-cost : goal.returns-else-none-clause-cost
+returns-else-none-clause-cost g c = λ _. c.butterfly_row.ensures.cost

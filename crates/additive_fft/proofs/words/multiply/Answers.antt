@@ -53,3 +53,9 @@ returns-else-not-once-clause-products g c i l =
     let law = g.met.F.Field.lawful.field in
     let z = F.coding.ops.nought in
     once F.is_element F.coding.ops law c.args.by (get_or c.args.words.now i z) (c.requires.unit c.if-not-once.false) (c.requires.words i z l)
+
+pub returns-else-not-once-clause-zeros : goal.returns-else-not-once-clause-zeros
+returns-else-not-once-clause-zeros g c = c.requires.zeros
+
+pub returns-else-not-once-clause-elements : goal.returns-else-not-once-clause-elements
+returns-else-not-once-clause-elements g c = c.requires.words

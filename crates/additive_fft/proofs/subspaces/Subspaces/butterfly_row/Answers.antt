@@ -1,4 +1,5 @@
-use Rattle.std.proofs.Common.{◌<◌, length, get_or, ap, ◌∙◌, arith}
+use Rattle.std.proofs.Common.{◌<◌, length, get_or, ap, sym, ◌∙◌, arith}
+use Rattle.std.proofs.lemmas.List.{get_or_past}
 use Rattle.pet_rows.proofs.Parts.{scaled_entry}
 use Rattle.additive_fft.proofs.subspaces.Subspaces.butterfly_row.Goals as goal
 
@@ -14,3 +15,16 @@ returns-clause-high g c i l =
     let m : i < length low = omega (arith, c.add_scaled.auto.into, c.requires.same) in
     c.add_words.ensures.sums i m
     ∙ g.met.Self.Field.lawful.field.plus_comm (get_or c.args.high.now i z) (get_or low i z) (c.requires.second i z l) (c.add_scaled.ensures.elements c.requires.first i z m)
+
+pub add_words-requires : goal.add_words-requires
+add_words-requires g c =
+    let z = g.Self.Field.coding.ops.nought in
+    record {
+      same = sym (c.add_scaled.auto.into ∙ c.requires.same);
+      zeros = λ i l. get_or_past c.add_scaled.new.into i z l;
+      first = c.requires.second;
+      second = c.add_scaled.ensures.elements c.requires.first;
+    }
+
+pub returns-clause-cost : goal.returns-clause-cost
+returns-clause-cost g c = c.add_scaled.ensures.cost
