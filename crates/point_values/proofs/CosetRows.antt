@@ -1,9 +1,11 @@
 -- Rows of values that are made coset after coset.
 use borrow.Rule.Slice.PartMut.{put_mid}
-use Rattle.std.proofs.Common.{◌≡◌, ℕ, inl, inr, ◌+◌, ◌-◌, ◌*◌, ◌<◌, ◌≤◌, List, length, get_or, take, drop, ap, ◌∙◌, arith}
+use Rattle.std.proofs.Common.{◌≡◌, ℕ, inl, inr, ◌+◌, ◌-◌, ◌*◌, ◌<◌, ◌≤◌, List, length, get_or, take, drop, ap, sym, ◌∙◌, arith}
 use Rattle.std.proofs.lemmas.Bool.{cases_lt}
 use Rattle.std.proofs.lemmas.List.{get_or-take, get_or-drop, length-take-le, length-drop}
 use Rattle.pet_rows.proofs.Parts.{part_before, part_inside}
+use Rattle.std.specs.Prelude.{max, min}
+use Rattle.pet_rows.specs.laws.PlaceLaws.{place_below}
 use Rattle.point_values.proofs.RowAfterRow.{row_within}
 
 -- `count` rows are copied from row `from` on over those from row `to` on
@@ -53,3 +55,28 @@ pub cost_more : (from coset each : ℕ) → from ≤ coset → (coset + 1 - from
 cost_more from coset each l =
     let e : coset + 1 - from ≡ coset - from + 1 = omega arith in
     ap (λ n. n * each) e ∙ omega arith
+
+-- the numbers `low` to `high - 1` are those of `first` to `first + count - 1` that lie in the coset of `size` numbers from `start` on
+module _ (first count begin width_of_coset low high start size : ℕ) (low_is : low ≡ max first begin) (high_is : high ≡ min (first + count) (begin + width_of_coset))
+    (begin_is : begin ≡ start) (size_is : width_of_coset ≡ size) where
+  pub up_to_high : high - begin ≤ size
+  up_to_high = omega arith
+
+  pub within_coset : start < first + count → first < start + size → low - begin + (high - low) ≤ size
+  within_coset some near = omega arith
+
+  pub within_rows : start < first + count → first < start + size → low - first + (high - low) ≤ count
+  within_rows some near = omega arith
+
+  pub coset_values : (V : ℕ → ℕ → ℕ) (w : ℕ) (rows into : List ℕ)
+      → ((p c : ℕ) → p < high - low → c < w → get_or into ((low - first + p) * w + c) 0 ≡ get_or rows ((low - begin + p) * w + c) 0)
+      → ((p c : ℕ) → p < high - begin → c < w → get_or rows (p * w + c) 0 ≡ V c (start + p))
+      → (p c : ℕ) → p < count → start ≤ first + p → first + p < start + size → c < w → get_or into (p * w + c) 0 ≡ V c (first + p)
+  coset_values V w rows into copied made p c l a b m =
+      let q = first + p - low in
+      let here : low - first + q ≡ p = omega arith in
+      let there : start + (low - begin + q) ≡ first + p = omega arith in
+      ap (λ n. get_or into (n * w + c) 0) (sym here) ∙ copied q c (omega arith) m ∙ made (low - begin + q) c (omega arith) m ∙ ap (V c) there
+
+  pub before_coset : (w p c : ℕ) → first + p < start → c < w → p * w + c < (low - first) * w
+  before_coset w p c l m = place_below p (low - first) w c (omega arith) m

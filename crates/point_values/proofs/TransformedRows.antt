@@ -13,6 +13,7 @@ use Rattle.pet_rows.specs.declared.blocks.Block.{Block}
 use Rattle.pet_rows.specs.Blocks.{columns_of, lengths_of}
 use Rattle.pet_rows.specs.Columns.{column}
 use Rattle.pet_rows.specs.laws.BlockLaws.{column_lengths}
+use Rattle.pet_rows.specs.laws.PlaceLaws.{more_rows, rows_le}
 use Rattle.point_values.specs.Matrix.{HasRows}
 use Rattle.point_values.specs.Wide.{AreSideBySide}
 use Rattle.point_values.specs.laws.WideLaws.{value_is_stripe}
@@ -46,6 +47,18 @@ cost_fits level size known stripes wide further words count is wide_is few =
   where
     halved : (a b c : ℕ) → 2 * a + 2 * b ≤ 2 * c → a + b ≤ c
     halved a b c l = omega arith
+
+-- what counts no more than a bound counts no more than what the bound is within
+pub within_bound : (before after a b each all : ℕ) → after ≤ before + a + b + each → a + b + each ≤ all → after ≤ before + all
+within_bound before after a b each all made few = omega arith
+
+-- the coset of a number is none behind that of a later number
+pub cosets_in_order : (from last size first end : ℕ) → from * size ≤ first → end < last * size + size → first ≤ end → from ≤ last
+cosets_in_order from last size first end begins ends up =
+    elim (cases_lt last from) [
+      | inl m ↦ absurd (omega (arith, rows_le (last + 1) from size (omega arith), more_rows last size))
+      | inr m ↦ m
+    ]
 
 lengths_short : (size : ℕ) (bs : List Block) → All (λ b. b.length ≤ size) bs → All (λ n. n ≤ size) (lengths_of bs)
 lengths_short size [] h = All-nil (λ n. n ≤ size)

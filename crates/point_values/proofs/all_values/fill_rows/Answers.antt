@@ -1,5 +1,5 @@
 use borrow.Rule.Slice.PartMut.{put_mid}
-use Rattle.std.proofs.Common.{◌≡◌, ◌+◌, ◌-◌, ◌*◌, ◌≤◌, length, map, drop, ap, sym, ◌∙◌, arith}
+use Rattle.std.proofs.Common.{◌≡◌, ◌+◌, ◌-◌, ◌*◌, ◌≤◌, length, map, drop, ap, sym, ◌∙◌, arith, rules}
 use Rattle.std.proofs.lemmas.List.{length-take-le, length-drop}
 use Rattle.pet_poly.specs.Value.{value}
 use Rattle.pet_rows.specs.Blocks.{columns_of}
@@ -34,3 +34,38 @@ loop-p-preserved g c =
           c.loop-p.invariant.values;
       cost = omega (arith, c.block_values.ensures.cost, c.loop-p.invariant.cost, more_rows p (length c.args.laid.now));
     }
+
+pub loop-p-init : goal.loop-p-init
+loop-p-init g c = record { place = omega arith; long = c.requires.room; values = λ q l. absurd (omega arith); cost = omega arith }
+
+pub returns-clause-rows : goal.returns-clause-rows
+returns-clause-rows g c = record { long = c.loop-p.invariant.long; each = λ q l. c.loop-p.invariant.values q (omega (arith, l)) }
+
+pub returns-clause-cost : goal.returns-clause-cost
+returns-clause-cost g c =
+    let is : c.loop-p.p ≡ c.args.count = omega arith in
+    rw is at c.loop-p.invariant.cost
+
+pub point-requires : goal.point-requires
+point-requires g c = omega (arith, c.requires.points)
+
+pub block_values-requires-clause-room : goal.block_values-requires-clause-room
+block_values-requires-clause-room g c =
+    let k = c.loop-p.at + c.args.stripes - c.loop-p.at in
+    let room : c.loop-p.at + k ≤ length c.loop-p.into = omega (arith, c.loop-p.invariant.place, row_within c.loop-p.p c.args.count c.args.stripes (omega arith), c.loop-p.invariant.long) in
+    length-take-le k (drop c.loop-p.at c.loop-p.into) (omega (arith, length-drop c.loop-p.at c.loop-p.into, room)) ∙ omega (arith, c.requires.stripes)
+
+pub overflow_add-end : goal.overflow_add-end
+overflow_add-end g c =
+    let room : c.loop-p.at + c.args.stripes ≤ length c.loop-p.into = omega (arith, c.loop-p.invariant.place, row_within c.loop-p.p c.args.count c.args.stripes (omega arith), c.loop-p.invariant.long) in
+    search rules
+
+pub slice_bounds-block_values-end : goal.slice_bounds-block_values-end
+slice_bounds-block_values-end g c =
+    let room : c.loop-p.at + c.args.stripes ≤ length c.loop-p.into = omega (arith, c.loop-p.invariant.place, row_within c.loop-p.p c.args.count c.args.stripes (omega arith), c.loop-p.invariant.long) in
+    search rules
+
+pub offset_bounds-into-at : goal.offset_bounds-into-at
+offset_bounds-into-at g c =
+    let room : c.loop-p.at + c.args.stripes ≤ length c.loop-p.into = omega (arith, c.loop-p.invariant.place, row_within c.loop-p.p c.args.count c.args.stripes (omega arith), c.loop-p.invariant.long) in
+    search rules

@@ -1,10 +1,10 @@
-use Rattle.std.proofs.Common.{◌≡◌, ℕ, ◌+◌, ◌*◌, ◌^◌, List, ap, ◌∙◌, arith}
+use Rattle.std.proofs.Common.{◌≡◌, ℕ, ◌+◌, ◌*◌, ◌^◌, List, length, refl, ap, sym, ◌∙◌, arith}
 use Rattle.additive_fft.specs.Basis.{value_in_basis}
 use Rattle.additive_fft.specs.Constants.{inverse}
 use Rattle.additive_fft.specs.Steps.{butterflies}
 use Rattle.pet_field.specs.Gf16.{gf16}
 use Rattle.pet_rows.specs.Columns.{column}
-use Rattle.pet_rows.specs.laws.PlaceLaws.{more_rows}
+use Rattle.pet_rows.specs.laws.PlaceLaws.{more_rows, rows_le}
 use Rattle.point_values.proofs.CosetRows.{cosets_more, cost_more}
 use Rattle.point_values.proofs.cosets.fill_cosets.Goals as goal
 
@@ -31,4 +31,49 @@ loop-coset-preserved g c =
             c.loop-coset.invariant.cost,
             cost_more c.args.from k (butterflies n * w + 2 ^ (n + 1)) (omega arith),
           );
+    }
+
+pub loop-coset-init : goal.loop-coset-init
+loop-coset-init g c = record { long = c.requires.room; spare = refl; values = λ p i l m h. absurd (omega (arith, c.requires.begins, m)); cost = omega arith }
+
+pub copy_from_slice-requires : goal.copy_from_slice-requires
+copy_from_slice-requires g c = c.loop-coset.invariant.spare ∙ c.requires.spare (omega arith) ∙ sym c.requires.size
+
+pub returns-clause-values : goal.returns-clause-values
+returns-clause-values g c =
+    let w = c.args.stripes in
+    let n = c.args.level in
+    let last = c.args.last in
+    let is : c.loop-coset.coset ≡ last = omega (arith, c.requires.order) in
+    λ p i l m.
+    cosets_more (λ j x. value_in_basis gf16 inverse n (column 0 w (2 ^ n) j c.args.rows.now) x) w (2 ^ n) last c.args.first c.args.count c.loop-coset.into c.fill_coset-2.new.into
+    (rw is at c.loop-coset.invariant.values) c.fill_coset-2.ensures.values c.fill_coset-2.ensures.before p i l (omega (arith, c.requires.ends, l)) m
+
+pub returns-clause-cost : goal.returns-clause-cost
+returns-clause-cost g c =
+    let each = butterflies c.args.level * c.args.stripes + 2 ^ (c.args.level + 1) in
+    let is : c.loop-coset.coset ≡ c.args.last = omega (arith, c.requires.order) in
+    omega (arith, c.fill_coset-2.ensures.cost, rw is at c.loop-coset.invariant.cost)
+
+pub fill_coset-requires : goal.fill_coset-requires
+fill_coset-requires g c =
+    let size = 2 ^ c.args.level in
+    record {
+      level = c.requires.level;
+      size = ap length c.copy_from_slice.ensures.after ∙ c.requires.size;
+      some = omega (arith, rows_le c.loop-coset.coset c.args.last size (omega arith), c.requires.some);
+      near = omega (arith, rows_le c.args.from c.loop-coset.coset size (omega arith), c.requires.near);
+      few = c.requires.few;
+      room = c.loop-coset.invariant.long;
+    }
+
+pub fill_coset-requires-2 : goal.fill_coset-requires-2
+fill_coset-requires-2 g c =
+    record {
+      level = c.requires.level;
+      size = c.requires.size;
+      some = c.requires.some;
+      near = omega (arith, rows_le c.args.from c.args.last (2 ^ c.args.level) c.requires.order, c.requires.near);
+      few = c.requires.few;
+      room = c.loop-coset.invariant.long;
     }

@@ -1,4 +1,4 @@
-use Rattle.std.proofs.Common.{◌+◌, ◌<◌, ◌≤◌, length, ◌∙◌, arith, rules}
+use Rattle.std.proofs.Common.{◌+◌, ◌<◌, ◌≤◌, length, refl, ◌∙◌, arith, rules}
 use Rattle.point_values.proofs.RowAfterRow.{row_within}
 use Rattle.point_values.proofs.RowLanes.{new_long, placed_more, others_more}
 use Rattle.point_values.proofs.wide.place_rows.Goals as goal
@@ -35,3 +35,50 @@ loop-preserved g c =
           others_more n w c.args.stripes c.args.lane c.args.size q c.loop.from c.loop.at rows into piece l c.requires.fewer c.requires.lane c.requires.rows c.loop.invariant.long c.loop.invariant.from_is c.loop.invariant.at_is (search rules) d
           c.args.into.now (c.loop.invariant.others d);
     }
+
+pub loop-init : goal.loop-init
+loop-init g c = record { from_is = omega arith; at_is = omega arith; long = c.requires.into; placed = λ d p n l m. absurd (omega arith); others = λ d p n l h. refl }
+
+pub returns-clause-placed : goal.returns-clause-placed
+returns-clause-placed g c = λ d p n l m. c.loop.invariant.placed d p n (omega arith) m
+
+pub returns-clause-others : goal.returns-clause-others
+returns-clause-others g c = λ d p n l h. c.loop.invariant.others d p n l (λ m. h (omega arith))
+
+pub offset_bounds-rows-from : goal.offset_bounds-rows-from
+offset_bounds-rows-from g c =
+    let room : c.loop.from + c.args.width ≤ length c.args.rows.now =
+    omega (arith, row_within c.loop.counter c.args.count c.args.width (omega arith), c.loop.invariant.from_is, c.requires.rows) in
+    search rules
+
+pub overflow_add-from : goal.overflow_add-from
+overflow_add-from g c =
+    let room : c.loop.from + c.args.width ≤ length c.args.rows.now =
+    omega (arith, row_within c.loop.counter c.args.count c.args.width (omega arith), c.loop.invariant.from_is, c.requires.rows) in
+    search rules
+
+pub overflow_add-from-in-loop : goal.overflow_add-from-in-loop
+overflow_add-from-in-loop g c =
+    let room : c.loop.from + c.args.width ≤ length c.args.rows.now =
+    omega (arith, row_within c.loop.counter c.args.count c.args.width (omega arith), c.loop.invariant.from_is, c.requires.rows) in
+    search rules
+
+pub slice_bounds-copy_from_slice-end : goal.slice_bounds-copy_from_slice-end
+slice_bounds-copy_from_slice-end g c =
+    let room : c.loop.from + c.args.width ≤ length c.args.rows.now =
+    omega (arith, row_within c.loop.counter c.args.count c.args.width (omega arith), c.loop.invariant.from_is, c.requires.rows) in
+    search rules
+
+pub overflow_add-to : goal.overflow_add-to
+overflow_add-to g c =
+    let l : c.loop.counter < c.args.size = omega (arith, c.requires.fewer) in
+    let room : c.loop.at + c.args.stripes ≤ length c.loop.into =
+    omega (arith, row_within c.loop.counter c.args.size c.args.stripes l, c.loop.invariant.at_is, c.loop.invariant.long) in
+    search rules
+
+pub overflow_add-at : goal.overflow_add-at
+overflow_add-at g c =
+    let l : c.loop.counter < c.args.size = omega (arith, c.requires.fewer) in
+    let room : c.loop.at + c.args.stripes ≤ length c.loop.into =
+    omega (arith, row_within c.loop.counter c.args.size c.args.stripes l, c.loop.invariant.at_is, c.loop.invariant.long) in
+    search rules
