@@ -5,7 +5,7 @@ use Rattle.std.proofs.lemmas.Bool.{cases_lt, lt-ltb, le-ltb, cond-true, cond-fal
 use Rattle.std.proofs.lemmas.Grind.{flat_map-append}
 use Rattle.std.proofs.lemmas.List.Elements.{All-set}
 use Rattle.std.proofs.lemmas.List.Folds.{length-flat_map-take}
-use Rattle.std.proofs.lemmas.List.{length-append, map-append, take_more, take_more_set, drop-set-lt, drop-drop, append-nil, get_or-drop, get_or_default, get_or-append_right, drop-take, length-take-le, length-drop}
+use Rattle.std.proofs.lemmas.List.{length-append, map-append, take_more, take_more_set, drop-set-lt, drop-drop, append-nil, get_or-drop, get_or_default, get_or-append_right, drop-take, length-take-le, length-drop, take_all}
 use Rattle.pet_field.specs.Field.{Operations}
 use Rattle.pet_poly.specs.Value.{value}
 use Rattle.pet_poly.specs.Rows.{words}
@@ -252,3 +252,14 @@ turned P before met room old new h size waits same =
       waits = waits ∙ ap (nat_lt met) (sym size);
       fits = rw (ap₂ ◌*◌ size (ap length same)) h.fits;
     }
+
+-- ---- a pass over all blocks
+
+-- what was made of the first i blocks was made of all
+pub all_stripes : {E : Type 0} (made : List (List E) → List (List E)) (now old : List (HeldBlock E)) (i : ℕ) → length now ≡ length old → length old ≤ i
+    → stripes_in (take i now) ≡ made (stripes_in (take i old)) → stripes_in now ≡ made (stripes_in old)
+all_stripes made now old i long all done = sym (ap stripes_in (take_all i now (omega arith))) ∙ done ∙ ap (λ b. made (stripes_in b)) (take_all i old all)
+
+pub all_cost : {E : Type 0} (met each before after : ℕ) (old : List (HeldBlock E)) (i : ℕ) → length old ≤ i
+    → after ≤ before + longer_than met (map length (stripes_in (take i old))) * each → after ≤ before + longer_than met (map length (stripes_in old)) * each
+all_cost met each before after old i all cost = subst (λ b. after ≤ before + longer_than met (map length (stripes_in b)) * each) (take_all i old all) cost

@@ -1,8 +1,8 @@
-use Rattle.std.proofs.Common.{◌≡◌, ◌∙◌, ◌<◌, ◌++◌, length, map, get_or, take, ap, ap₂, sym, arith}
+use Rattle.std.proofs.Common.{◌≡◌, ◌∙◌, ◌<◌, ◌++◌, length, map, get_or, take, refl, ap, ap₂, sym, arith}
 use Rattle.std.proofs.lemmas.List.{length-set, length-map, map-append}
 use Rattle.pet_interp.specs.Blocks.{HeldBlock, stripes_in, no_block}
 use Rattle.pet_interp.specs.Lifted.{grown}
-use Rattle.pet_interp.proofs.Passes.{blocks_kept, block_ahead, cost_block, stripes_more, stripes_more_set, rest_more}
+use Rattle.pet_interp.proofs.Passes.{blocks_kept, block_ahead, cost_block, stripes_more, stripes_more_set, rest_more, all_stripes, all_cost}
 use Rattle.pet_interp.proofs.lift.add_part.Goals as goal
 
 pub add_multiples-requires-clause-waits : goal.add_multiples-requires-clause-waits
@@ -34,3 +34,17 @@ loop-i-preserved g c =
       rest = rest_more now old i new inv.rest;
       cost = cost_block met (length c.args.factors.now) now old i b c.args.steps.now c.loop-i.steps c.add_multiples.new.steps few0 same inv.cost did.cost;
     }
+
+pub loop-i-init : goal.loop-i-init
+loop-i-init g c = record { long = refl; blocks = λ room h. h; done = refl; rest = refl; cost = omega arith }
+
+pub returns-clause-blocks : goal.returns-clause-blocks
+returns-clause-blocks g c = c.loop-i.invariant.blocks
+
+pub returns-clause-stripes : goal.returns-clause-stripes
+returns-clause-stripes g c =
+    all_stripes (map (grown g.F.Field.coding.ops c.args.met c.args.from (map g.F.Rows.element_of c.args.factors.now))) c.loop-i.blocks c.args.blocks.now c.loop-i.i c.loop-i.invariant.long
+    c.loop-i-test.false c.loop-i.invariant.done
+
+pub returns-clause-cost : goal.returns-clause-cost
+returns-clause-cost g c = all_cost c.args.met (length c.args.factors.now) c.args.steps.now c.loop-i.steps c.args.blocks.now c.loop-i.i c.loop-i-test.false c.loop-i.invariant.cost

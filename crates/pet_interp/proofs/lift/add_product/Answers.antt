@@ -1,6 +1,7 @@
 use Rattle.std.proofs.Common.{◌≡◌, ◌∙◌, ◌+◌, ◌-◌, ◌≤◌, ◌++◌, length, map, take, drop, ap, sym, arith, refl}
 use Rattle.std.proofs.Math.Seq.{take-add}
-use Rattle.std.proofs.lemmas.List.{length-append, length-drop, length-take-le, take_at}
+use Rattle.std.proofs.lemmas.List.{length-append, length-drop, length-take-le, take_all, take_at}
+use Rattle.std.proofs.lemmas.List.Elements.{All-take, All-drop}
 use Rattle.pet_interp.specs.Progressive.{longer_than}
 use Rattle.pet_interp.specs.Blocks.{stripes_in}
 use Rattle.pet_interp.specs.Lifted.{grown, grown_to}
@@ -55,3 +56,22 @@ loop-from-preserved g c =
           cost_part c.args.steps.now c.loop-from.steps c.add_part.new.steps (longer_than met (map length ss)) (longer_than met (map length (stripes_in c.loop-from.blocks))) from n
           (length (take n (prepared ++ drop n c.loop-from.factors))) inv.cost c.add_part.ensures.cost (ap (longer_than met) inv.lengths) (ap length used ∙ long);
     }
+
+pub returns-clause-blocks : goal.returns-clause-blocks
+returns-clause-blocks g c = c.loop-from.invariant.blocks
+
+pub prepare-requires-clause-elements : goal.prepare-requires-clause-elements
+prepare-requires-clause-elements g c =
+    let P = g.F.Field.is_element in
+    All-take P _ _ (All-drop P c.loop-from.from c.args.product.now c.requires.products)
+
+pub returns-clause-stripes : goal.returns-clause-stripes
+returns-clause-stripes g c =
+    let product = c.args.product.now in
+    let all : take c.loop-from.from product ≡ product = take_all c.loop-from.from product (omega arith) in
+    c.loop-from.invariant.done ∙ ap (λ t. map (grown_to g.F.Field.coding.ops (length product) t) (stripes_in c.args.blocks.now)) all
+
+pub returns-clause-cost : goal.returns-clause-cost
+returns-clause-cost g c =
+    let all : c.loop-from.from ≡ length c.args.product.now = omega arith in
+    rw all at c.loop-from.invariant.cost

@@ -1,11 +1,11 @@
-use Rattle.std.proofs.Common.{◌≡◌, ◌∙◌, ◌+◌, ◌-◌, ◌*◌, ◌<◌, ◌++◌, length, get_or, take, drop, ap, ap₂, sym, arith, rules}
+use Rattle.std.proofs.Common.{◌≡◌, ◌∙◌, ◌+◌, ◌-◌, ◌*◌, ◌<◌, ◌++◌, List, length, get_or, take, drop, refl, ap, ap₂, sym, arith, rules}
 use Rattle.std.proofs.lemmas.List.{length-set, length-append}
 use Rattle.pet_poly.specs.Rows.{words}
 use Rattle.pet_interp.specs.Blocks.{HeldBlock, stripes_in, no_block}
 use Rattle.pet_interp.specs.Lifted.{begun_all}
 use Rattle.pet_interp.proofs.Columns.{parts}
 use Rattle.pet_interp.proofs.BlockStripes.{length-begun_all}
-use Rattle.pet_interp.proofs.Passes.{blocks_kept, block_ahead, cost_block, stripes_more, stripes_more_set, rest_more, values_ahead, words_take, begun_more}
+use Rattle.pet_interp.proofs.Passes.{blocks_kept, block_ahead, cost_block, stripes_more, stripes_more_set, rest_more, values_ahead, words_take, begun_more, all_stripes, all_cost}
 use Rattle.pet_interp.proofs.lift.begin.Goals as goal
 
 pub overflow_mul-end : goal.overflow_mul-end
@@ -81,3 +81,18 @@ loop-i-preserved g c =
       rest = rest_more now old i new inv.rest;
       cost = cost_block met (met + 1) now old i b c.args.steps.now c.loop-i.steps c.begin.new.steps few0 same inv.cost did.cost;
     }
+
+pub loop-i-init : goal.loop-i-init
+loop-i-init g c = record { at = omega arith; long = refl; blocks = λ room h. h; done = refl; rest = refl; cost = omega arith }
+
+pub returns-clause-blocks : goal.returns-clause-blocks
+returns-clause-blocks g c = c.loop-i.invariant.blocks
+
+pub returns-clause-stripes : goal.returns-clause-stripes
+returns-clause-stripes g c =
+    let F = g.F.Field in
+    let made = λ (ss : List (List _)). begun_all F.coding.ops c.args.met (g.F.Rows.element_of c.args.x.now) (g.F.Rows.element_of c.args.inverse.now) ss (words F.coding.spelt F.coding.width (length ss) c.args.values.now) in
+    all_stripes made c.loop-i.blocks c.args.blocks.now c.loop-i.i c.loop-i.invariant.long c.loop-i-test.false c.loop-i.invariant.done
+
+pub returns-clause-cost : goal.returns-clause-cost
+returns-clause-cost g c = all_cost c.args.met (c.args.met + 1) c.args.steps.now c.loop-i.steps c.args.blocks.now c.loop-i.i c.loop-i-test.false c.loop-i.invariant.cost

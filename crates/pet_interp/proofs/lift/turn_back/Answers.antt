@@ -1,8 +1,8 @@
-use Rattle.std.proofs.Common.{◌≡◌, ◌∙◌, ◌+◌, ◌-◌, ◌<◌, ◌++◌, All, [], ◌∷◌, length, get_or, set, take, ap, ap₂, sym, arith, subst}
-use Rattle.std.proofs.lemmas.List.{length-set, take_more_set}
+use Rattle.std.proofs.Common.{◌≡◌, ◌∙◌, ◌+◌, ◌-◌, ◌<◌, ◌++◌, All, [], ◌∷◌, length, get_or, set, take, refl, ap, ap₂, sym, arith, subst}
+use Rattle.std.proofs.lemmas.List.{length-set, take_all, take_more_set}
 use Rattle.std.proofs.lemmas.List.Elements.{All-push, All-same}
 use Rattle.pet_interp.specs.Blocks.{HeldBlock, IsBlock, no_block}
-use Rattle.pet_interp.proofs.Passes.{turned, block_ahead, stripes_more, stripes_more_set, rest_more}
+use Rattle.pet_interp.proofs.Passes.{turned, block_ahead, stripes_more, stripes_more_set, rest_more, all_stripes}
 use Rattle.pet_interp.proofs.lift.turn_back.Goals as goal
 
 pub turn_back-requires-clause-waits : goal.turn_back-requires-clause-waits
@@ -46,3 +46,14 @@ loop-i-preserved g c =
           ∙ sym (stripes_more old i few0);
       rest = rest_more now old i new inv.rest;
     }
+
+pub loop-i-init : goal.loop-i-init
+loop-i-init g c = record { long = refl; room = refl; turned = λ k d l. absurd (omega arith); done = refl; rest = refl }
+
+pub returns-clause-blocks : goal.returns-clause-blocks
+returns-clause-blocks g c =
+    let P = IsBlock g.F.Field.is_element c.args.met (length c.loop-i.spare) in
+    All-same P c.loop-i.blocks (take c.loop-i.i c.loop-i.blocks) (sym (take_all c.loop-i.i c.loop-i.blocks (omega (arith, c.loop-i.invariant.long)))) c.loop-i.invariant.turned
+
+pub returns-clause-stripes : goal.returns-clause-stripes
+returns-clause-stripes g c = all_stripes (λ ss. ss) c.loop-i.blocks c.args.blocks.now c.loop-i.i c.loop-i.invariant.long c.loop-i-test.false c.loop-i.invariant.done

@@ -1,4 +1,4 @@
-use Rattle.std.proofs.Common.{◌≡◌, ◌∙◌, ◌≤◌, length, get_or, ap, sym, arith}
+use Rattle.std.proofs.Common.{◌≡◌, ◌∙◌, ◌≤◌, length, get_or, refl, ap, sym, arith}
 use Rattle.std.proofs.lemmas.List.{get_or_default}
 use Rattle.pet_interp.specs.Blocks.{HeldBlock, no_block}
 use Rattle.pet_interp.proofs.Places.{block_here, place_then, stripe_then, stripe_here}
@@ -45,3 +45,6 @@ returns-clause-stripe g c =
     let i = c.loop-place.block in
     let p = c.loop-place.place in
     stripe_here bs i p no_block c.loop-place.invariant.within (returns-clause-place g c) ∙ c.loop-place.invariant.same
+
+pub loop-place-init : goal.loop-place-init
+loop-place-init g c = record { within = c.requires; same = refl }

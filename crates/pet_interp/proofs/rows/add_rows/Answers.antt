@@ -125,3 +125,6 @@ returns-clause-cost g c =
     let row = row_long w c.args.count c.args.met c.args.rows.now rest c.split_at_mut-low.ensures.back c.requires.whole c.requires.longer in
     let size : n * length (take w rest) ≡ w * n = ap (λ t. n * t) row ∙ mul_comm n w in
     omega (arith, size, c.add_products.ensures.cost)
+
+pub add_products-requires-clause-factors : goal.add_products-requires-clause-factors
+add_products-requires-clause-factors g c = c.requires.factors

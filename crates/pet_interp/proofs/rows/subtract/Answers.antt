@@ -1,4 +1,4 @@
-use Rattle.std.proofs.Common.{◌≡◌, ◌+◌, ◌-◌, ◌<◌, length, get_or, take, drop, ap, ap₂, sym, ◌∙◌, arith}
+use Rattle.std.proofs.Common.{◌≡◌, ◌+◌, ◌-◌, ◌<◌, length, get_or, take, drop, refl, ap, ap₂, sym, ◌∙◌, arith}
 use Rattle.std.proofs.lemmas.List.{length-set, get_or-set_other, get_or_default}
 use Rattle.std.proofs.lemmas.List.Elements.{All-set}
 use Rattle.pet_poly.specs.Rows.{words}
@@ -34,3 +34,18 @@ loop-c-preserved g c =
           (c.sub.ensures ∙ ap₂ o.minus value read);
       rest = λ k l. get_or-set_other row n k c.sub.result z (λ q. absurd (omega arith)) ∙ i.rest k (omega arith);
     }
+
+pub loop-c-init : goal.loop-c-init
+loop-c-init g c = record { at = omega arith; long = refl; elements = c.requires.elements; done = λ k l. absurd (omega arith); rest = λ k l. refl }
+
+pub returns-clause-differences : goal.returns-clause-differences
+returns-clause-differences g c = λ k l. c.loop-c.invariant.done k (omega arith)
+
+pub returns-clause-elements : goal.returns-clause-elements
+returns-clause-elements g c = c.loop-c.invariant.elements
+
+pub sub-requires : goal.sub-requires
+sub-requires g c = record {
+  first = c.read.ensures.element;
+  second = rw c.index-row-c.is (c.loop-c.invariant.elements c.loop-c.c c.index-row-c.result (omega (arith, c.loop-c.invariant.long)));
+}

@@ -15,3 +15,6 @@ returns-clause-each g c =
     c.in_ok-push_copies.ensures ∙ ap (λ t. t ++ replicate (c.from-size.result * c.args.width) c.zero.result) c.new-places.ensures.items in
     stripes_each F.is_element F.coding.ops.nought _ c.args.width c.from-size.result c.push_copies.new.into.items (ap length made ∙ length-replicate (c.from-size.result * c.args.width) c.zero.result)
     (All-same F.is_element c.push_copies.new.into.items _ made (All-replicate F.is_element (c.from-size.result * c.args.width) c.zero.result (rw c.zero.ensures zero)))
+
+pub returns-clause-size : goal.returns-clause-size
+returns-clause-size g c = c.from-size.ensures

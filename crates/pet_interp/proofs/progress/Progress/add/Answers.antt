@@ -110,3 +110,6 @@ returns-clause-stands g c points st ne =
     (words F.coding.spelt F.coding.width n c.args.values.now) (length-words F.coding.spelt F.coding.width n c.args.values.now ∙ sym is)
     (words_are P F.coding.width F.coding.spelt F.coding.spelling g.met.F.Field.lawful.spellings n c.args.values.now c.requires.width bytes) after (length product) c.self.invariant.longest refl
     one.lifts (λ l. linear_front o c.args.x product final_product met l (moved l)) one.stays
+
+pub returns-clause-met : goal.returns-clause-met
+returns-clause-met g c = ap (λ (v : Held g.row.F-Elem.Denot). v.met + 1) c.self.view_is
