@@ -1,10 +1,11 @@
 -- The invariant where the scanner reads on, and the stream cut there.
 use Rattle.std.proofs.Common.{◌+◌, ◌++◌, sym, take, subst, arith}
+use Rattle.std.proofs.lemmas.List.{append-nil}
 use Rattle.std.proofs.lemmas.Result.{err_from_is_err_and}
 use Rattle.mpeg_scan.specs.Refusals.{Refuses}
 use Rattle.mpeg_scan.specs.Scanning.{HasRead, HasStopped, IsFrontOf, added}
 use Rattle.mpeg_scan.proofs.Feeding.{slice_here, slice_further, slice_length, front_at}
-use Rattle.mpeg_scan.proofs.Appended.{grown_both, added_both}
+use Rattle.mpeg_scan.proofs.Appended.{grown_both, added_both, added_none}
 use Rattle.mpeg_scan.proofs.scanner.Scanner.feed.Goals as goal
 
 pub returns-in_err-read-clause-refusal : goal.returns-in_err-read-clause-refusal
@@ -36,6 +37,15 @@ returns-in_err-read-clause-grows c =
 pub returns-clause-front : goal.returns-clause-front
 returns-clause-front c s g r =
     front_at c.loop-read.self s c.args.portion.now c.loop-read.read (g ++ added c.args.pieces.now.items c.loop-read.pieces.items) (c.loop-read.invariant.front s g r)
+
+pub loop-read-init : goal.loop-read-init
+loop-read-init c = record {
+  within = omega arith;
+  grows = sym (added_none c.args.pieces.now.items c.args.pieces.now.items);
+  front = λ s g r.
+      subst (λ S. HasRead c.args.self.now S (g ++ added c.args.pieces.now.items c.args.pieces.now.items)) (sym (append-nil s))
+      (subst (HasRead c.args.self.now s) (sym (added_none c.args.pieces.now.items g)) r);
+}
 
 pub loop-read-preserved : goal.loop-read-preserved
 loop-read-preserved c = record {

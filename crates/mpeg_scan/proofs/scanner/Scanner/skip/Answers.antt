@@ -1,5 +1,5 @@
 -- The run is read as byte by byte.
-use Rattle.std.proofs.Common.{refl, arith}
+use Rattle.std.proofs.Common.{refl, arith, rules}
 use Rattle.mpeg_scan.proofs.Skipping.{skips, skips_too_far}
 use Rattle.mpeg_scan.proofs.scanner.Scanner.skip.Goals as goal
 
@@ -21,3 +21,7 @@ returns-clause-ok c s p r =
     skips c.args.self.now _ c.args.run.now c.requires.quiet long (omega arith)
     (record { at = refl; back1 = refl; back2 = refl; back3 = refl; back4 = refl; back5 = refl; opened = refl; from = refl; code = refl; kind = refl; refused = refl })
     s p r
+
+-- its edit is refused here, without a search for an answer to offer
+pub returns-then-end-saturating_sub-clause-refused : goal.returns-then-end-saturating_sub-clause-refused
+returns-then-end-saturating_sub-clause-refused c = search rules
