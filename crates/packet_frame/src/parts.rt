@@ -2,6 +2,8 @@
 ghost use Rattle.std.specs.Prelude.{◌≡◌, ◌+◌, ◌*◌, ◌≤◌, length, drop};
 ghost use Rattle.std.specs.Int.{w16, w32};
 ghost use Rattle.packet_frame.specs.Format.{IsFormat, bare_length};
+ghost use Rattle.packet_frame.specs.declared.format.Format.{Format};
+ghost use Rattle.packet_frame.specs.Reading.{HasHead};
 ghost use Rattle.packet_frame.specs.Refusals.{number, layer_in, layers_at, count_of, fields_in, ends_in_tag};
 
 use crate::format::Format;
@@ -42,8 +44,25 @@ pub struct Parts<'a> {
     pub payload: &'a [u8],
 }
 
+/// The fields before the layers.
+pub(crate) fn head_in(bytes: &[u8]) -> Head
+    requires { HEAD_LENGTH ≤ length bytes.now }
+    ensures { (format : Format) → HasHead result (fields_in format bytes.now) }
+{
+    let session = [
+        bytes[4], bytes[5], bytes[6], bytes[7], bytes[8], bytes[9], bytes[10], bytes[11],
+    ];
+    Head {
+        session,
+        groups: u32_at(bytes, 12),
+        group: u32_at(bytes, 16),
+        packets: u16_at(bytes, 20),
+        number: u16_at(bytes, 22),
+    }
+}
+
 /// The number in the four bytes from `at` on.
-pub(crate) fn u32_at(bytes: &[u8], at: usize) -> u32
+fn u32_at(bytes: &[u8], at: usize) -> u32
     requires { at + 4 ≤ length bytes.now }
     ensures { result ≡ number w32 at bytes.now }
 {
@@ -51,7 +70,7 @@ pub(crate) fn u32_at(bytes: &[u8], at: usize) -> u32
 }
 
 /// The number in the two bytes from `at` on.
-pub(crate) fn u16_at(bytes: &[u8], at: usize) -> u16
+fn u16_at(bytes: &[u8], at: usize) -> u16
     requires { at + 2 ≤ length bytes.now }
     ensures { result ≡ number w16 at bytes.now }
 {

@@ -1,14 +1,14 @@
 //! The one reader of every format.
-ghost use Rattle.std.specs.Prelude.{◌≡◌, ◌≤◌, ◌<◌, ◌++◌, length, None, Some, MatchResult, IfOk, IfErr};
+ghost use Rattle.std.specs.Prelude.{◌≡◌, ◌≤◌, ◌<◌, ◌++◌, length, None, Some, MatchResult, OnOk, IfOk, IfErr};
 ghost use Rattle.stripe_plan.specs.Layers.{plan_ends};
 ghost use Rattle.stripe_plan.specs.Sizes.{IsTableIn};
 ghost use Rattle.packet_frame.specs.Format.{IsFormat, bare_length};
-ghost use Rattle.packet_frame.specs.Reading.{HasHead, Tells, refusal_for, fields_by};
+ghost use Rattle.packet_frame.specs.Reading.{HasHead, Tells, front_rows, range_rows, room_rows, refusal_for, fields_by};
 ghost use Rattle.packet_frame.specs.Refusals.{fields_in, count_of, first_fault_in, first_of, head_rows, layer_rows, end_rows};
 
 use crate::fault::{Field1, FrameFault};
 use crate::format::Format;
-use crate::parts::{HEAD, Head, LAYER, Parts, has_tag, layers_in, payload_in, u16_at, u32_at};
+use crate::parts::{HEAD, Head, LAYER, Parts, has_tag, head_in, layers_in, payload_in};
 use arrayvec::ArrayVec;
 use pet_base::{MAX_GROUPS, MAX_LAYERS};
 use stripe_plan::{LayerSize, TableFault, measured};
@@ -47,31 +47,57 @@ fn read_head(format: &Format, bytes: &[u8]) -> Result<Head, FrameFault>
     ensures room { IfOk result (λ head.
         bare_length format.now (count_of bytes.now) ≤ length bytes.now) }
 {
+    check_front(format, bytes)?;
+    let head = head_in(bytes);
+    check_ranges(format.bounds.packets, &head)?;
+    check_room(format, bytes)?;
+    Ok(head)
+}
+
+/// Checks that there is room for a frame of one layer, and the mark.
+fn check_front(format: &Format, bytes: &[u8]) -> Result<(), FrameFault>
+    requires format { IsFormat format.now }
+    ensures tells { Tells result (front_rows format.now bytes.now) }
+    ensures room { OnOk result (bare_length format.now 1 ≤ length bytes.now) }
+{
     if bytes.len() < HEAD + format.tag + LAYER {
         return Err(FrameFault::Short);
     }
     if &bytes[..format.mark.len()] != format.mark.as_slice() {
         return Err(FrameFault::Magic);
     }
-    let session = [
-        bytes[4], bytes[5], bytes[6], bytes[7], bytes[8], bytes[9], bytes[10], bytes[11],
-    ];
-    let groups = u32_at(bytes, 12);
-    if groups == 0 || groups > MAX_GROUPS {
+    Ok(())
+}
+
+/// Checks the ranges of the fields before the layers, where a frame has at most so many packets.
+fn check_ranges(most: u16, head: &Head) -> Result<(), FrameFault>
+    ensures tells { Tells result (range_rows most head.now) }
+    ensures packets { OnOk result ((0 < head.now.packets) × (head.now.packets ≤ most)) }
+{
+    if head.groups == 0 || head.groups > MAX_GROUPS {
         return Err(FrameFault::Range(Field1::Groups));
     }
-    let group = u32_at(bytes, 16);
-    if group >= groups {
+    if head.group >= head.groups {
         return Err(FrameFault::Range(Field1::Group));
     }
-    let packets = u16_at(bytes, 20);
-    if packets == 0 || packets > format.bounds.packets {
+    if head.packets == 0 || head.packets > most {
         return Err(FrameFault::Range(Field1::Packets));
     }
-    let number = u16_at(bytes, 22);
-    if number >= packets {
+    if head.number >= head.packets {
         return Err(FrameFault::Range(Field1::Number));
     }
+    Ok(())
+}
+
+/// Checks how many layers the bytes name, and that there is room for them and the tag.
+fn check_room(format: &Format, bytes: &[u8]) -> Result<(), FrameFault>
+    requires format { IsFormat format.now }
+    requires one { bare_length format.now 1 ≤ length bytes.now }
+    ensures tells { Tells result (room_rows format.now bytes.now) }
+    ensures layers { OnOk result ((0 < count_of bytes.now)
+        × (count_of bytes.now ≤ format.now.bounds.layers)) }
+    ensures room { OnOk result (bare_length format.now (count_of bytes.now) ≤ length bytes.now) }
+{
     let count = bytes[24];
     if count == 0 || usize::from(count) > format.bounds.layers {
         return Err(FrameFault::Range(Field1::Layers));
@@ -79,13 +105,7 @@ fn read_head(format: &Format, bytes: &[u8]) -> Result<Head, FrameFault>
     if bytes.len() < HEAD + format.tag + LAYER * usize::from(count) {
         return Err(FrameFault::Length);
     }
-    Ok(Head {
-        session,
-        groups,
-        group,
-        packets,
-        number,
-    })
+    Ok(())
 }
 
 /// Layers, and the stripes of their plan.
