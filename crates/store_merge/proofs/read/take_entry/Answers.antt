@@ -5,7 +5,6 @@ use Rattle.store_text.specs.declared.fault.StoreKind.TheVariants.{Frame}
 use Rattle.store_merge.specs.Reading.{frame_of, fault_of, fault_by, is_next}
 use Rattle.store_merge.proofs.Entry.{fault_is, damaged_is, whole_is, taken, group_named, number_named}
 use Rattle.store_merge.proofs.read.take_entry.Goals as goal
-use Rattle.store_merge.proofs.read.take_entry.Goals.{After-refusal}
 
 pub returns-in-Damaged-clause-refused : goal.returns-in-Damaged-clause-refused
 returns-in-Damaged-clause-refused g c none =
