@@ -1,6 +1,6 @@
 -- Why the command ends so, by the step that failed.
 use Rattle.std.proofs.Common.{◌≡◌, ◌≢◌, ◌⊎◌, ℕ, ◌≤◌, List, [], ◌∷◌, Option, None, Some, refl, sym, ap, subst, ◌∙◌, arith, inl, inr, Result, Ok, Err}
-use Rattle.std.specs.Prelude.{IfErr, IsErrAnd}
+use Rattle.std.specs.Prelude.{IfErr, IsErrAnd, MatchResult}
 use Rattle.pet_base.specs.Seen.{Seen, Files, Blame, HadFault}
 use Rattle.pet_base.specs.declared.faults.Stop.{Stop}
 use Rattle.pet_base.specs.declared.faults.Stop.TheVariants as stop
@@ -12,19 +12,50 @@ use Rattle.kept_sets.specs.KeptSet.{KeptSet, kept_in_all}
 use Rattle.kept_sets.specs.Union.{union, absorb_fault}
 use Rattle.kept_sets.specs.declared.union.Absorb.{Absorb}
 use Rattle.kept_sets.specs.declared.union.Absorb.TheVariants as absorb
-use Rattle.store_merge.specs.Files.{HasStore, store_file}
-use Rattle.command_merge.specs.Ends.{absorb_end, stop_end}
+use Rattle.store_merge.specs.Files.{HasBadStore, HasStore, IsStop, store_file}
+use Rattle.store_text.specs.declared.fault.BadStore.TheVariants.{At}
+use Rattle.store_merge.specs.declared.files.StoreStop.{StoreStop}
+use Rattle.store_merge.specs.declared.files.StoreStop.TheVariants as unread
+use Rattle.command_merge.specs.Ends.{absorb_end, stop_end, store_end}
 use Rattle.command_merge.specs.Merges.{HasStores, CanJoin, IsCause, WritesUnion, union_of}
 use Rattle.command_merge.specs.declared.command.MergeEnd.{MergeEnd}
+use Rattle.command_merge.specs.declared.files.Which.{Which}
+use Rattle.command_merge.specs.declared.files.Which.TheVariants as which
+
+ok_not_err : {A : Type 0} (x : A) (end : MergeEnd) (r : Result A MergeEnd) → r ≡ Ok x → r ≡ Err end → ⊥
+ok_not_err x end r p q = cc
+
+same_err : {A : Type 0} (e end : MergeEnd) (r : Result A MergeEnd) → r ≡ Err e → r ≡ Err end → e ≡ end
+same_err e end r p q = cc
 
 -- what the command ends with is what a step's error stands for
 pub end_is : {T : Type 0} (P : MergeEnd → Type 0) (result : Result T MergeEnd) (end : MergeEnd) → IsErrAnd result (λ e. e ≡ end) → P end → IfErr result P
 end_is P (Ok x) end is p = tt
 end_is P (Err e) end is p = subst P (sym is) p
 
+-- what a store that was not read stands for, behind `map_err` and `?`
+pub unread_is : {A T : Type 0} (P : MergeEnd → Type 0) (Q : StoreStop → Type 0) (R : StoreStop → MergeEnd → Type 0) (which : Which) (r : Result A StoreStop) (mapped : Result A MergeEnd) (end : MergeEnd) (result : Result T MergeEnd)
+    → ((s : StoreStop) (e : MergeEnd) → R s e → e ≡ store_end which s) → MatchResult r (λ x. mapped ≡ Ok x) (λ s. IsErrAnd mapped (R s)) → mapped ≡ Err end → IsErrAnd result (λ e. e ≡ end) → ((s : StoreStop) → Q s → P (store_end which s)) → IfErr r Q → IfErr result P
+unread_is P Q R which (Ok x) mapped end result same cases was is causes q = absurd (ok_not_err x end mapped cases was)
+unread_is P Q R which (Err s) (Ok x) end result same cases was is causes q = absurd cases
+unread_is P Q R which (Err s) (Err e) end result same cases was is causes q = end_is P result end is (subst P (sym (same s e cases) ∙ same_err e end (Err e) refl was) (causes s q))
+
 -- a fault since a later time is one since an earlier
 later_fault : (P : Blame → Type 0) (old mid new : Seen) → old.faults ≤ mid.faults → HadFault mid new P → HadFault old new P
 later_fault P old mid new later had = record { rose = omega (arith, later, had.rose); blame = had.blame }
+
+-- the first store was not read
+pub first_unread : (first second out : List ℕ) (old new : Seen) → new.files ≡ old.files → (s : StoreStop) → IsStop old new first s → IsCause first second out old new (store_end which.First s)
+first_unread first second out old new same unread.NoMemory is = inl same
+first_unread first second out old new same unread.Failed is = (inl is, inl same)
+first_unread first second out old new same (unread.At at kind) is = (is, same)
+
+-- the second was not, of the files that the first reading left as they were
+pub second_unread : (first second out : List ℕ) (old mid new : Seen) (a : KeptSet) → HasStore old.files first a → mid.files ≡ old.files → old.faults ≤ mid.faults → new.files ≡ mid.files → (s : StoreStop) → IsStop mid new second s
+    → IsCause first second out old new (store_end which.Second s)
+second_unread first second out old mid new a has before later same unread.NoMemory is = inl (same ∙ before)
+second_unread first second out old mid new a has before later same unread.Failed is = (inr (inl ((a, has), later_fault _ old mid new later is)), inl (same ∙ before))
+second_unread first second out old mid new a has before later same (unread.At at kind) is = ((a, has), subst (λ (files : Option Files). HasBadStore files second (At at kind)) before is, same ∙ before)
 
 -- both were read, the second of the files that the first reading left as they were
 abbrev pub stores_of : (first second : List ℕ) (old : Seen) (left : Option Files) (a b : KeptSet) → HasStore old.files first a → left ≡ old.files → HasStore left second b → HasStores first second old

@@ -1,10 +1,29 @@
-use Rattle.std.proofs.Common.{Err, refl, ap, ◌∙◌, arith}
+use Rattle.std.proofs.Common.{Err, refl, ap, ◌∙◌, arith, rules}
 use Rattle.pet_base.specs.laws.Through.{at_ok}
 use Rattle.pet_receive.specs.Arrivals.{kept_set}
-use Rattle.store_merge.specs.Files.{HasStore}
-use Rattle.command_merge.proofs.Causes.{end_is, stores_of, joins_of, not_joined, not_written, written}
+use Rattle.store_merge.specs.Files.{HasStore, IsStop}
+use Rattle.command_merge.proofs.Causes.{end_is, unread_is, first_unread, second_unread, stores_of, joins_of, not_joined, not_written, written}
 use Rattle.command_merge.specs.Merges.{CanJoin, IsCause}
+use Rattle.command_merge.specs.declared.files.Which.TheVariants.{First, Second}
 use Rattle.command_merge.proofs.files.merge_files.Goals as goal
+
+pub returns-in_err-union-clause-cause : goal.returns-in_err-union-clause-cause
+returns-in_err-union-clause-cause g c =
+    let old = g.P.Place.seen c.args.place.now in
+    let new = g.P.Place.seen c.read_store_file-read.new.place in
+    unread_is (IsCause c.args.first.now c.args.second.now c.args.out.now old new) (IsStop old new c.args.first.now) _ First c.read_store_file-read.result c.map_err.result c.in_err-union.field-0.0 c.from_residual-in_err-union.result (λ s e is. search rules)
+    c.map_err.ensures.cases c.in_err-union.was c.from_residual-in_err-union.ensures.1 (first_unread c.args.first.now c.args.second.now c.args.out.now old new c.read_store_file-read.ensures.others.files) c.read_store_file-read.ensures.stop
+
+pub returns-in_err-other-clause-cause : goal.returns-in_err-other-clause-cause
+returns-in_err-other-clause-cause g c =
+    let old = g.P.Place.seen c.args.place.now in
+    let mid = g.P.Place.seen c.read_store_file-read.new.place in
+    let new = g.P.Place.seen c.read_store_file-read-2.new.place in
+    let first = at_ok (λ r. HasStore old.files c.args.first.now (kept_set r)) _ _ _ _ _ c.map_err.ensures.cases c.in_ok-union.was refl c.read_store_file-read.ensures.read in
+    unread_is (IsCause c.args.first.now c.args.second.now c.args.out.now old new) (IsStop mid new c.args.second.now) _ Second c.read_store_file-read-2.result c.map_err-2.result c.in_err-other.field-0.0 c.from_residual-in_err-other.result
+    (λ s e is. search rules) c.map_err-2.ensures.cases c.in_err-other.was c.from_residual-in_err-other.ensures.1
+    (second_unread c.args.first.now c.args.second.now c.args.out.now old mid new _ first c.read_store_file-read.ensures.others.files c.read_store_file-read.ensures.later c.read_store_file-read-2.ensures.others.files)
+    c.read_store_file-read-2.ensures.stop
 
 pub returns-in_err-absorb-clause-cause : goal.returns-in_err-absorb-clause-cause
 returns-in_err-absorb-clause-cause g c =
