@@ -1,7 +1,8 @@
 //! A group of the second pass of `send`: it is compared with the first pass's, and its packets are sent.
-ghost use Rattle.std.specs.Prelude.{◌≡◌, ◌≢◌, ◌↔◌, ◌+◌, ◌<◌, ◌≤◌, length, true, Some, slice_get, OnOk, OnErr, IfOk, IfErr, IfSome, IsTrue, MatchOption};
+ghost use Rattle.std.specs.Prelude.{◌≡◌, ◌≢◌, ◌↔◌, ◌+◌, ◌<◌, ◌≤◌, ℕ, length, true, Some, slice_get, OnOk, OnErr, IfOk, IfErr, IfSome, IsTrue, MatchOption};
 ghost use Rattle.group_cutter.specs.laws.FilledLaws.{IsFilled};
 ghost use Rattle.group_cutter.specs.laws.FittingLaws.{IsWhole};
+ghost use Rattle.layer_split.specs.Layers as layers;
 ghost use Rattle.stream_session.specs.Marks.{mark_at};
 ghost use Rattle.stream_session.specs.Tables.{table_of};
 ghost use Rattle.datagram_route.specs.RouteFaults.{IsStop};
@@ -14,10 +15,10 @@ ghost use Rattle.command_send.specs.Sending.{encoding_of};
 use crate::first::FirstPass;
 use datagram_route::RouteStop;
 use group_cutter::Group;
+use group_encoder::Encoder;
 use layer_split::{GroupCut, message};
 use packet_frame::Header;
 use pet_base::{Link, NoMemory, Place, Steps};
-use group_encoder::Encoder;
 use pet_tables::Gf16Tables;
 use session_packets::put_group;
 use std::alloc::Global;
@@ -143,8 +144,7 @@ fn encoder_of<'f>(
     requires whole { IsWhole (length found.now.source.priority.layers) group.now }
     ensures { IfOk result (λ encoder. encoder ≡ encoding_of found.now.source number group.now) }
 {
-    let mut bytes = Vec::new(alloc);
-    message(&group.bytes, &group.cut, &mut bytes)?;
+    let bytes = message_of(alloc, group)?;
     let header = Header {
         session: found.source.number,
         groups: found.source.tables.len() as u32,
@@ -152,4 +152,15 @@ fn encoder_of<'f>(
         table: found.source.tables[number as usize].clone()?,
     };
     Encoder::new(alloc, &found.field, header, &bytes)
+}
+
+/// The message of a group.
+fn message_of(alloc: Global, group: &Group) -> Result<Vec<u8>, NoMemory>
+    requires whole { (count : ℕ) × IsWhole count group.now }
+    ensures { IfOk result (λ bytes. bytes.items
+        ≡ layers.message group.now.bytes group.now.cut.runs (length group.now.cut.lengths)) }
+{
+    let mut bytes = Vec::new(alloc);
+    message(&group.bytes, &group.cut, &mut bytes)?;
+    Ok(bytes)
 }
