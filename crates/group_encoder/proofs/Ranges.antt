@@ -1,9 +1,8 @@
 -- The packets of a range of numbers, one after another.
-use Rattle.std.proofs.Common.{◌≡◌, ℕ, ◌+◌, ◌-◌, ◌*◌, ◌^◌, ◌<◌, ◌≤◌, inl, inr, List, [], ◌∷◌, ◌++◌, length, map, take, drop, flat_map, refl, sym, ap, ap₂, subst, ◌∙◌, arith, append_assoc}
+use Rattle.std.proofs.Common.{◌≡◌, ℕ, ◌+◌, ◌-◌, ◌*◌, ◌<◌, ◌≤◌, inl, inr, List, [], ◌∷◌, ◌++◌, length, map, take, drop, flat_map, refl, sym, ap, ap₂, subst, ◌∙◌, arith, append_assoc}
 use Rattle.std.specs.Prelude.{Result, Ok, Err, IfOk}
 use Rattle.std.specs.List.{range_with_len}
 use Rattle.std.proofs.lemmas.Bool.{cases_lt}
-use Rattle.std.proofs.lemmas.Nat.{mul-le}
 use Rattle.std.proofs.lemmas.List.{append-nil}
 use Rattle.std.proofs.lemmas.List.FromFn.{map-range_with_len_more}
 use Rattle.std.proofs.lemmas.Grind.{flat_map-append}
@@ -51,10 +50,6 @@ ranges_more c e first n m is frame h k low high =
       | inl l ↦ h k low l
       | inr l ↦ (let at : m ≡ k = omega arith in subst (λ i. IsFrame (frame_of c e i)) at frame)
     ]
-
--- a number of two bytes times one of four
-pub small_product : (a b : ℕ) → a < 65536 → b < 2 ^ 32 → a * b < 2 ^ 64
-small_product a b l m = omega (arith, mul-le a b 65536 (2 ^ 32) (omega arith) (omega arith))
 
 -- what holds of a result's value implies something else of it
 pub on_ok : {A B : Type 0} (P Q : A → Type 0) (r : Result A B) → ((a : A) → P a → Q a) → IfOk r P → IfOk r Q
