@@ -1,8 +1,10 @@
 -- The words of a row of bytes, a part of which is written anew.
+use borrow.Rule.Slice.PartMut.{put_mid}
 use Rattle.std.specs.Prelude.{flat_map}
-use Rattle.std.proofs.Common.{◌≡◌, ℕ, zero, suc, ◌+◌, ◌-◌, ◌*◌, ◌≤◌, List, [], ◌∷◌, ◌++◌, length, take, drop, All, refl, sym, ap, ap₂, ◌∙◌, arith, append_assoc}
+use Rattle.std.proofs.Common.{◌≡◌, ℕ, zero, suc, ◌+◌, ◌-◌, ◌*◌, ◌<◌, ◌≤◌, List, [], ◌∷◌, ◌++◌, length, get_or, take, drop, All, refl, sym, ap, ap₂, ◌∙◌, arith, append_assoc}
 use Rattle.std.specs.List.{AllByRecursion as Each}
-use Rattle.std.proofs.lemmas.List.{length-append, length-drop, length-take-le, take-append-le, drop-append-le, take-append-drop, drop-drop, drop_at}
+use Rattle.std.proofs.lemmas.List.{length-append, length-drop, length-take-le, take-append-le, drop-append-le, take-append-drop, drop-drop, drop_at, take_at, take_more, append-nil}
+use Rattle.std.proofs.lemmas.Grind.{flat_map-append}
 use Rattle.std.proofs.lemmas.List.Elements.{recursion_from_All}
 use Rattle.pet_field.specs.Field.{AreSpellings}
 use Rattle.pet_poly.specs.Rows.{words}
@@ -72,3 +74,22 @@ words_written P w spelt spelling laws n at k top cs old new h inside k_is top_is
           ∙ ap (λ t. words spelt w m (drop top t)) is ∙ ap (words spelt w m) (drop_at (take k old ++ F) R top both)
           ∙ ap (λ t. words spelt w m (drop t old)) top_too ∙ sym (drop_words spelt w n (at + size) m old e);
     }
+
+-- one word more is written behind the first i of a stripe's
+pub one_word_more : {E : Type 0} (f : E → List ℕ) (xs : List E) (i : ℕ) (x : E) (w at place k : ℕ) (old now word : List ℕ) → i < length xs → x ≡ get_or xs i x → word ≡ f x
+    → at * w ≤ length old → length (flat_map f (take i xs)) ≡ i * w → place ≡ (at + i) * w → k ≡ w → now ≡ take (at * w) old ++ flat_map f (take i xs) ++ drop ((at + i) * w) old
+    → put_mid place k now word ≡ take (at * w) old ++ flat_map f (take (i + 1) xs) ++ drop ((at + (i + 1)) * w) old
+one_word_more f xs i x w at place k old now word l read is room size here wide so_far =
+    let front : List ℕ = take (at * w) old ++ flat_map f (take i xs) in
+    let rest : List ℕ = drop ((at + i) * w) old in
+    let long : length front ≡ place = length-append (take (at * w) old) (flat_map f (take i xs)) ∙ omega (arith, length-take-le (at * w) old room) in
+    let end : (at + i) * w + k ≡ (at + (i + 1)) * w = omega arith in
+    let before : take place now ≡ front = ap (take place) so_far ∙ take_at front rest place long in
+    let behind : drop k (drop place now) ≡ drop ((at + (i + 1)) * w) old =
+    ap (λ t. drop k (drop place t)) so_far ∙ ap (drop k) (drop_at front rest place long) ∙ drop-drop k ((at + i) * w) old ∙ ap (λ n. drop n old) end in
+    let more : flat_map f (take i xs) ++ word ≡ flat_map f (take (i + 1) xs) =
+    ap (λ t. flat_map f (take i xs) ++ t) (is ∙ ap f read ∙ sym (append-nil (f (get_or xs i x)))) ∙ sym (flat_map-append f (take i xs) (get_or xs i x ∷ []))
+    ∙ ap (flat_map f) (sym (take_more xs i x l)) in
+    ap₂ (λ a b. a ++ (word ++ b)) before behind
+    ∙ sym (append_assoc front word (drop ((at + (i + 1)) * w) old))
+    ∙ ap (λ t. t ++ drop ((at + (i + 1)) * w) old) (append_assoc (take (at * w) old) (flat_map f (take i xs)) word ∙ ap (λ t. take (at * w) old ++ t) more)

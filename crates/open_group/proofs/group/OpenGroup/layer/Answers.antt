@@ -1,4 +1,4 @@
-use Rattle.std.proofs.Common.{◌≡◌, ◌≤◌, ◌<◌, ◌+◌, ◌*◌, ℕ, List, length, sum_by, sym, ap, ◌∙◌, arith, subst}
+use Rattle.std.proofs.Common.{◌≡◌, ◌≤◌, ◌<◌, ◌+◌, ◌*◌, ℕ, List, length, sum_by, sym, ap, ◌∙◌, arith, rules, subst}
 use Rattle.std.specs.Prelude.{IsSome, Contains}
 use Rattle.stripe_plan.proofs.PlanLemmas.{plan_ends_plan}
 use Rattle.stripe_plan.proofs.TableLemmas.{words_half}
@@ -69,3 +69,6 @@ returns-clause-agreed g c message is agrees =
     let inside : c.args.layer < length (layers_of G.packets) = omega (arith, c.if-from-layers.false, c.from.ensures, ap length c.layers.ensures.value, ap length layers) in
     agreed_bytes F.is_element F.COUNT F.coding g.met.F.Field.lawful c.requires.width G.packets message is plan numbers kept agrees c.args.layer c.layer_bytes.result.now inside
     (returns-clause-bytes g c numbers h)
+
+pub returns-then-from-layers-clause-shown : goal.returns-then-from-layers-clause-shown
+returns-then-from-layers-clause-shown g c = search rules
