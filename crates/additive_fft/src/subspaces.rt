@@ -5,10 +5,10 @@ ghost use Rattle.additive_fft.specs.Subspaces.{HasSubspaces};
 ghost use Rattle.additive_fft.specs.laws.Gf16Subspaces.{gf16_subspaces};
 
 use crate::words::add_words;
+use gf16_rows::{Products, add_multiple_row, butterfly_row, multiply_row};
 use pet_base::Steps;
 use pet_field::{Field, Gf16Plain};
 use pet_poly::add_scaled;
-use pet_rows::{Products, add_multiple_row, butterfly_row, multiply_row};
 use pet_tables::Gf16Tables;
 use std::sync::ledger::Ledger;
 

@@ -1,9 +1,10 @@
 //! The line through two points, over the field of 65,536 elements, at once and point by point.
 ghost use Rattle.std.specs.Prelude.{◌≡◌, ◌≢◌, ◌<◌};
 
+use interpolation::interpolate;
 use pet_base::{NoMemory, Steps};
 use pet_field::Gf16Plain;
-use pet_interp::{Progress, interpolate};
+use pet_interp::Progress;
 use std::alloc::Global;
 use std::marker::Brand;
 use std::sync::ledger::{Blank, Ledger};

@@ -1,9 +1,9 @@
 //! Tests of the field, of polynomials, of rows and of interpolation: values from outside.
 //!
-//! They run the public calls of `pet_field`, `pet_tables`, `pet_poly`, `pet_rows`, `additive_fft`, `point_values` and
-//! `pet_interp`, as a caller sees them, a module a crate. They stand apart because the gate proves a crate that has tests twice, once alone and
-//! once whole with its tests: here the second time is the tests' own. `fixtures` is what several of them share. No program
-//! uses this crate.
+//! They run the public calls of `pet_field`, `pet_poly`, `pet_rows`, `pet_tables`, `additive_fft`, `point_values`, `interpolation` and
+//! `pet_interp`, as a caller sees them. They stand apart because the gate proves a crate that has tests twice, once alone and once
+//! whole with its tests: here the second time is the tests' own. `fixtures` is what several of them share. No program uses this
+//! crate.
 #![tactic(auto)]
 
 mod fixtures;

@@ -8,7 +8,7 @@ use Rattle.command_files.specs.Wrote.{Wrote}
 use Rattle.kept_sets.specs.KeptSet.{KeptSet, kept_in_all}
 use Rattle.kept_sets.specs.Union.{union, absorb_fault}
 use Rattle.kept_sets.specs.declared.union.Absorb.TheVariants as absorb
-use Rattle.store_merge.specs.Files.{HasStore, HasBadStore, store_file}
+use Rattle.store_text.specs.Files.{HasStore, HasBadStore, store_file}
 use Rattle.store_text.specs.declared.fault.BadStore.TheVariants.{At}
 use Rattle.pet_text.specs.Lines.{merged_text}
 use Rattle.command_merge.specs.declared.command.MergeEnd.{MergeEnd}

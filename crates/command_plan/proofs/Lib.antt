@@ -3,5 +3,4 @@ pub mod PutTexts
 pub mod PlanEnds
 pub mod Starts
 pub mod GroupCertificates
-pub mod AnswersThrough
 pub mod CheckCauses

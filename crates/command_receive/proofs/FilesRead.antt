@@ -22,7 +22,7 @@ use Rattle.pet_text.specs.Lines.{bound_text}
 use Rattle.command_receive.specs.Numbers.{AreTotals}
 use Rattle.command_receive.specs.declared.reading.Totals.{Totals}
 use Rattle.command_receive.specs.Opened.{Begun, Opened, IsBoundTo, KeepsLink, PrintedPort}
-use Rattle.store_merge.specs.Files.{HasFile, store_file}
+use Rattle.store_text.specs.Files.{HasFile, store_file}
 use Rattle.command_receive.specs.Receives.{AreRead, HaveLeft, IsRead, IsReadFirst, layers_file, kept_file, Reads, ReadsUntilFault, LeavesFront}
 use Rattle.command_receive.specs.SoFar.{HasReceived, CameFirst, PartSoFar, WholeSoFar, LinkReceives}
 

@@ -20,7 +20,7 @@ use Rattle.datagram_route.specs.declared.fault.RouteStop.{RouteStop}
 use Rattle.datagram_route.specs.declared.fault.RouteStop.TheVariants as stop
 use Rattle.pet_receive.specs.Arrivals.{ReceiverState, kept_set}
 use Rattle.met_packets.specs.Kept.{nothing_of}
-use Rattle.store_merge.specs.Files.{store_file}
+use Rattle.store_text.specs.Files.{store_file}
 use Rattle.command_receive.specs.Numbers.{end_of}
 use Rattle.command_receive.specs.Opened.{Begun, Opened, IsBoundTo, IsBoundWhereStopped, StopsOpening}
 use Rattle.command_receive.specs.Receives.{IsBoundAtEnd, IsRead, IsUseInTurn, EndsReceive}

@@ -5,7 +5,7 @@ use Rattle.command_files.specs.Wrote.{Wrote}
 use Rattle.kept_sets.specs.KeptSet.{KeptSet, IsKeptSet}
 use Rattle.pet_receive.specs.ShownBytes.{IsShown}
 use Rattle.met_packets.specs.LayersText.{record_text}
-use Rattle.store_merge.specs.Files.{store_file}
+use Rattle.store_text.specs.Files.{store_file}
 use Rattle.command_receive.specs.Receives.{layers_file}
 use Rattle.command_receive.specs.declared.command.ReceiveEnd.{ReceiveEnd}
 use Rattle.command_receive.specs.declared.command.ReceiveEnd.TheVariants.{Done, NoMemory, PlaceFault, LinkFault, OutFault, Incomplete, TurnsSpent}

@@ -15,7 +15,7 @@ use Rattle.datagram_route.specs.RouteFaults.{BoundFailed}
 use Rattle.datagram_route.specs.Sending.{AreFirst}
 use Rattle.kept_sets.specs.KeptSet.{kept_in_all}
 use Rattle.pet_receive.specs.ShownBytes.{IsComplete, shown_in_all}
-use Rattle.store_merge.specs.Files.{HasFile, store_file}
+use Rattle.store_text.specs.Files.{HasFile, store_file}
 use Rattle.met_packets.specs.Kept.{nothing_of, kept_of}
 use Rattle.met_packets.specs.Gf16.{IsLayersText}
 use Rattle.met_packets.specs.Steps.{steps_of_all}

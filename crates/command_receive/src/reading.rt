@@ -34,7 +34,7 @@ use pet_receive::Receiver;
 use pet_tables::Gf16Tables;
 use std::alloc::{AllocError, Global};
 use std::sync::ledger::Ledger;
-use store_merge::write_store_file;
+use store_write::write_store_file;
 
 /// What a reading comes to.
 #[derive(Clone, Copy)]

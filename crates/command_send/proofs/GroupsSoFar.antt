@@ -22,7 +22,7 @@ use Rattle.stream_session.specs.Marks.{mark_of, no_mark, mark_at, group_marks}
 use Rattle.stream_session.specs.Tables.{table_of}
 use Rattle.command_send.specs.declared.sent_group.Change.{Change}
 use Rattle.command_send.specs.declared.second.SentGroups.{SentGroups}
-use Rattle.session_packets.specs.Packets.{group_datagrams}
+use Rattle.pet_encode.specs.Datagrams.{group_datagrams}
 use Rattle.command_send.specs.Sending.{encoding_of, encodings_from, sent_datagrams, words_cost, AgreeBelow, HaveTables, HasSentSome, IsPart, AreFound}
 use Rattle.command_send.specs.Second.{HasGone, HasReached, Knows, cost_at, cost_left, SendsGroup, SendsGroupPart}
 use Rattle.datagram_route.specs.Sending.{Routes, Sends, SendsPart}

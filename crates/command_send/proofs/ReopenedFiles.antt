@@ -16,10 +16,11 @@ use Rattle.command_files.specs.laws.PrintedLaws.{Rose-since}
 use Rattle.command_files.specs.laws.WroteLaws.{Wrote-nothing}
 use Rattle.datagram_route.specs.RouteFaults.{AimedFailed}
 use Rattle.datagram_route.specs.declared.fault.RouteStop.TheVariants as stop
-use Rattle.datagram_route.specs.Sending.{Routes, entries_of, Sent, SentFirst, SendsPart, IsOpen, IsOpened, OnlyOpens, SendingFailed}
+use Rattle.datagram_route.specs.Sending.{Routes, Sent, SentFirst, SendsPart, IsOpen, IsOpened, OnlyOpens, SendingFailed}
+use Rattle.pet_base.specs.Entries.{entries_of}
 use Rattle.datagram_route.specs.Way.{Way, OnFile, OnLink}
 use Rattle.datagram_route.specs.laws.SendingLaws.{part_whole}
-use Rattle.session_packets.specs.Packets.{datagrams_text}
+use Rattle.pet_encode.specs.Datagrams.{datagrams_text}
 use Rattle.session_packets.specs.laws.DatagramLaws.{entries_are_text}
 use Rattle.stream_session.specs.Accepted.{session_of}
 use Rattle.stream_session.specs.Marks.{mark_at, group_marks}

@@ -32,7 +32,7 @@ use Rattle.stream_session.proofs.Sourced.{short_stream}
 use Rattle.command_send.specs.declared.fault.SendFault.{SendFault}
 use Rattle.command_send.specs.declared.fault.SendFault.TheVariants.{Stopped}
 use Rattle.command_send.specs.declared.sent_group.Change.{Change}
-use Rattle.session_packets.specs.Packets.{session_datagrams, AreEncoders, group_datagrams}
+use Rattle.pet_encode.specs.Datagrams.{session_datagrams, AreEncoders, group_datagrams}
 use Rattle.datagram_route.specs.declared.fault.RouteStop.{RouteStop}
 use Rattle.datagram_route.specs.Sending.{Routes, AreFirst, Sends, SendsPart}
 use Rattle.datagram_route.specs.Way.{Way}

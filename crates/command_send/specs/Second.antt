@@ -15,7 +15,7 @@ use Rattle.command_send.specs.declared.sent_group.Change.{Change}
 use Rattle.command_send.specs.declared.second.SentGroups.{SentGroups}
 use Rattle.datagram_route.specs.Sending.{Routes, Sends, SendsPart}
 use Rattle.datagram_route.specs.Way.{Way}
-use Rattle.session_packets.specs.Packets.{group_datagrams}
+use Rattle.pet_encode.specs.Datagrams.{group_datagrams}
 use Rattle.command_send.specs.Sending.{encoding_of, words_cost, HasSentSome, IsChange, IsNext, IsAllSent}
 
 -- the cutter stands somewhere in a stream

@@ -23,7 +23,7 @@ use Rattle.priority_file.specs.Refusals.{priorities_of}
 use Rattle.command_send.specs.declared.sent_group.Change.{Change}
 use Rattle.command_send.specs.declared.fault.SendFault.{SendFault}
 use Rattle.command_send.specs.declared.fault.SendFault.TheVariants.{Stopped, Source as Refused, Changed}
-use Rattle.session_packets.specs.Packets.{group_datagrams}
+use Rattle.pet_encode.specs.Datagrams.{group_datagrams}
 use Rattle.command_files.specs.Outputs.{IsPrefix}
 use Rattle.datagram_route.specs.RouteFaults.{IsStop}
 use Rattle.datagram_route.specs.Sending.{Routes, Sends, SendsPart, SendingFailed}

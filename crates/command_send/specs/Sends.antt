@@ -20,7 +20,7 @@ use Rattle.command_files.specs.Wrote.{File, Wrote}
 use Rattle.datagram_route.specs.RouteFaults.{AimedFailed}
 use Rattle.datagram_route.specs.Sending.{Routes, Sent, SentFirst}
 use Rattle.datagram_route.specs.Way.{Way, OnFile, OnLink}
-use Rattle.session_packets.specs.Packets.{datagrams_text, session_datagrams}
+use Rattle.pet_encode.specs.Datagrams.{datagrams_text, session_datagrams}
 use Rattle.command_send.specs.declared.command.SendEnd.{SendEnd}
 use Rattle.command_send.specs.declared.command.SendEnd.TheVariants.{Done, NoMemory, PlaceFault, LinkFault, OutFault, BadPriority, BadStream, BadPlan, Changed}
 use Rattle.command_send.specs.declared.sent_group.Change.{Change}

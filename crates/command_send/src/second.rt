@@ -10,7 +10,7 @@ ghost use Rattle.group_cutter.specs.laws.FittingLaws.{IsWhole};
 ghost use Rattle.datagram_route.specs.RouteFaults.{IsStop};
 ghost use Rattle.datagram_route.specs.Sending.{Routes, routes, Sends, IsOpen, OnlyGrows, OutputFailed, SendingFailed};
 ghost use Rattle.datagram_route.specs.Way.{way_of};
-ghost use Rattle.session_packets.specs.Packets.{session_datagrams};
+ghost use Rattle.pet_encode.specs.Datagrams.{session_datagrams};
 ghost use Rattle.command_send.specs.Second.{Knows, HasGone, HasReached, Ends, IsFirstLost, NoneLost, OnlyPasses, cost_left};
 ghost use Rattle.command_send.specs.Sending.{words_cost, AreFound, HasSentSome, IsPart, IsTaken, HasSentAll, SentPart, HasSentToChange, IsFirstPass, IsSendStop, IsToldStop, PassFailed};
 

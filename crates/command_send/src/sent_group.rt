@@ -8,7 +8,7 @@ ghost use Rattle.stream_session.specs.Tables.{table_of};
 ghost use Rattle.datagram_route.specs.RouteFaults.{IsStop};
 ghost use Rattle.datagram_route.specs.Sending.{routes, Sends, SendsPart, IsOpen, OnlyGrows, OutputFailed, SendingFailed};
 ghost use Rattle.datagram_route.specs.Way.{way_of};
-ghost use Rattle.session_packets.specs.Packets.{group_datagrams};
+ghost use Rattle.pet_encode.specs.Datagrams.{group_datagrams};
 ghost use Rattle.command_send.specs.Second.{SendsGroup, SendsGroupPart, Differs, cost_at};
 ghost use Rattle.command_send.specs.Sending.{encoding_of};
 

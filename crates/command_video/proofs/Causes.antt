@@ -11,7 +11,7 @@ use Rattle.command_files.specs.Wrote.{Wrote}
 use Rattle.command_files.specs.laws.WroteLaws.{Wrote-file, Wrote-nothing, Wrote-then}
 use Rattle.kept_sets.specs.KeptSet.{KeptSet, IsKeptSet}
 use Rattle.pet_receive.specs.ShownBytes.{groups_told}
-use Rattle.store_merge.specs.Files.{HasStore}
+use Rattle.store_text.specs.Files.{HasStore}
 use Rattle.command_video.specs.Ends.{IsPutEnd, PutsFront}
 use Rattle.command_video.specs.StoreVideo.{AreVideos}
 use Rattle.command_video.specs.Videos.{IsCause, WritesVideo, LeavesFront, FailedInTurn, video_file}

@@ -5,7 +5,7 @@ use Rattle.command_files.specs.Uses.{reading, Failed}
 use Rattle.command_files.specs.Outputs.{Puts, PutsPart}
 use Rattle.kept_sets.specs.KeptSet.{KeptSet}
 use Rattle.pet_receive.specs.ShownBytes.{groups_told}
-use Rattle.store_merge.specs.Files.{HasBadStore}
+use Rattle.store_text.specs.Files.{HasBadStore}
 use Rattle.store_text.specs.declared.fault.BadStore.TheVariants.{At}
 use Rattle.command_video.specs.StoreVideo.{AreVideos, IsGroupVideo, HasBadTable}
 use Rattle.command_video.specs.declared.command.VideoEnd.{VideoEnd}

@@ -7,7 +7,7 @@ use Rattle.command_files.specs.Uses.{reading, writing, Failed}
 use Rattle.command_files.specs.Wrote.{File, Wrote}
 use Rattle.kept_sets.specs.KeptSet.{KeptSet}
 use Rattle.pet_receive.specs.ShownBytes.{groups_told}
-use Rattle.store_merge.specs.Files.{HasStore, HasBadStore}
+use Rattle.store_text.specs.Files.{HasStore, HasBadStore}
 use Rattle.store_text.specs.declared.fault.BadStore.TheVariants.{At}
 use Rattle.pet_text.specs.Lines.{video_text}
 use Rattle.command_video.specs.StoreVideo.{AreVideos, IsGroupVideo, HasBadTable}

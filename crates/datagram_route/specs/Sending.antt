@@ -1,7 +1,5 @@
 -- What was sent on a way: entries at the end of a datagram file, or datagrams of a link. This project's own.
-use Rattle.std.specs.Prelude.{ℕ, ◌≡◌, ◌≤◌, true, List, [], ◌++◌, length, option_map}
-use Rattle.std.specs.Int.{w16, to_be_bytes}
-use Rattle.std.specs.List.{flat_map}
+use Rattle.std.specs.Prelude.{ℕ, ◌≡◌, ◌≤◌, true, List, [], ◌++◌, option_map}
 use Rattle.pet_base.specs.Causes.{Blames}
 use Rattle.pet_base.specs.Seen.{Seen, Names, KeepsInput, OnlyWrites, with_file, HadFault}
 use Rattle.pet_base.specs.LinkSeen.{LinkSeen, OnlyAims, OnlySends, HadFault as LinkHadFault}
@@ -9,6 +7,7 @@ use Rattle.pet_base.specs.declared.place.Place.{Ghosts as PlaceOf}
 use Rattle.pet_base.specs.declared.link.Link.{Ghosts as LinkOf}
 use Rattle.pet_base.specs.declared.place.Side.TheVariants.{Written}
 use Rattle.pet_base.specs.declared.link.LinkSide.TheVariants.{Aimed}
+use Rattle.pet_base.specs.Entries.{entries_of}
 use Rattle.command_files.specs.Outputs.{Puts, PutsPart}
 use Rattle.datagram_route.specs.Way.{Way, OnFile, OnLink}
 
@@ -20,14 +19,6 @@ pub record Routes : Type 0 where
 -- the first two arguments are `P.Place K.Link` in a clause
 abbrev pub routes : {P K : Type 0} → PlaceOf P → LinkOf K → P → K → Routes
 routes p k place link = record { place = p.seen place; link = k.seen link }
-
--- an entry: the length of a datagram in two bytes, then the datagram
-abbrev pub entry_text : List ℕ → List ℕ
-entry_text bytes = to_be_bytes w16 (length bytes) ++ bytes
-
--- the entries of these datagrams, on end
-abbrev pub entries_of : List (List ℕ) → List ℕ
-entries_of datagrams = flat_map entry_text datagrams
 
 -- these datagrams were sent by the link
 abbrev pub Sent : List (List ℕ) → LinkSeen → LinkSeen → Type 0

@@ -1,7 +1,8 @@
 //! Sending datagrams to a route.
 ghost use Rattle.std.specs.Prelude.{◌≡◌, ◌∷◌, [], drop, OnOk, OnErr, IfErr};
 ghost use Rattle.datagram_route.specs.RouteFaults.{IsFailure, AimedFailed};
-ghost use Rattle.datagram_route.specs.Sending.{routes, entry_text, Sends, SendsPart, IsOpen, OnlyGrows, OutputFailed, SendingFailed, IsOpened, OnlyOpens, IsUnopened, CreatingFailed};
+ghost use Rattle.datagram_route.specs.Sending.{routes, Sends, SendsPart, IsOpen, OnlyGrows, OutputFailed, SendingFailed, IsOpened, OnlyOpens, IsUnopened, CreatingFailed};
+ghost use Rattle.pet_base.specs.Entries.{entry_text};
 ghost use Rattle.datagram_route.specs.Way.{way_of};
 
 use crate::fault::RouteFailed;

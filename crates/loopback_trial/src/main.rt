@@ -13,7 +13,7 @@ mod trial;
 
 use crate::refused::{refuses_a_port_in_use, refuses_an_address_of_no_machine};
 use crate::trial::{Outcome, receive_and_send};
-use pet_start::{start_words, words};
+use pet_tool::{start_words, words};
 use std::io;
 use std::process::ExitCode;
 

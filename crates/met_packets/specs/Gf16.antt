@@ -4,7 +4,7 @@ use Rattle.std.specs.Prelude.{ℕ, ◌<◌, List}
 use Rattle.pet_field.specs.Gf16.{gf16_coding}
 use Rattle.packet_frame.specs.Frame.{Fields}
 use Rattle.pet_encode.specs.Session.{Session}
-pub use Rattle.session_packets.specs.Packets.{IsItsPacket}
+pub use Rattle.pet_encode.specs.Datagrams.{IsItsPacket}
 use Rattle.kept_sets.specs.KeptSet.{KeptSet}
 use Rattle.pet_receive.specs.Arrivals.{Order, ReceiverState, HasKept}
 use Rattle.met_packets.specs.LayersText as L

@@ -1,7 +1,7 @@
 -- How many steps the datagrams may take: those that are kept the bound of a progressive state, the others none. This
 -- project's own.
 use Rattle.std.specs.Prelude.{ℕ, ◌+◌, List, [], ◌∷◌, if◌then◌else◌}
-use Rattle.pet_interp.specs.Progressive.{step_bound}
+use Rattle.interpolation.specs.Progressive.{step_bound}
 use Rattle.packet_frame.specs.Refusals.{fields_of}
 use Rattle.kept_sets.specs.KeptSet.{KeptSet, count_kept}
 use Rattle.kept_sets.specs.Verdicts.{verdict_of, is_kept, after}

@@ -10,8 +10,8 @@ use Rattle.pet_poly.specs.Value.{value}
 use Rattle.pet_poly.specs.laws.HornerLaws.{value_is}
 use Rattle.pet_poly.specs.Rows.{words}
 use Rattle.pet_poly.specs.laws.RowLaws.{length-words, words_are, words_of_spellings, spellings_of_words}
-use Rattle.pet_interp.specs.Points.{IsOnlyThrough, GoesThrough}
-use Rattle.pet_interp.specs.Progressive.{column}
+use Rattle.interpolation.specs.Points.{IsOnlyThrough, GoesThrough}
+use Rattle.interpolation.specs.Progressive.{column}
 use Rattle.stripe_plan.specs.declared.layer.LayerSize.{LayerSize}
 use Rattle.stripe_plan.specs.Layers.{needs_of, words_of, words_before, plan_ends, plan_stripes, stripes_from}
 use Rattle.stripe_plan.specs.Counts.{Meets}

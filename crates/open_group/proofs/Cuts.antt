@@ -3,7 +3,7 @@ use Rattle.std.proofs.Common.{◌≡◌, ◌≢◌, ℕ, zero, suc, ◌+◌, ◌
 use Rattle.std.proofs.lemmas.Bool.{cases_lt}
 use Rattle.std.proofs.Math.ListN as M
 use Rattle.std.proofs.lemmas.List.{length-map, get_or-map, drop-drop, drop-take, take-take, drop_more, drop_all}
-use Rattle.pet_interp.specs.Progressive.{Held, stripe_of, lengths_of}
+use Rattle.interpolation.specs.Progressive.{Held, stripe_of, lengths_of}
 use Rattle.stripe_plan.specs.declared.layer.LayerSize.{LayerSize}
 use Rattle.stripe_plan.specs.Layers.{needs_of, plan_ends, plan_stripes, stripes_from}
 use Rattle.stripe_plan.specs.Plan.{fits, longest_fit, ends_within, plan_from}

@@ -7,8 +7,8 @@ use Rattle.std.proofs.lemmas.List.{length-map, length_push, map_push, get_or-set
 use Rattle.std.proofs.lemmas.List.Elements.{All-nil, All-head, All-tail, All-map, Contains-get_or, Contains-push, Contains-push_cases, Contains-append_left}
 use Rattle.pet_field.specs.Field.{Coding, ArePoints}
 use Rattle.pet_poly.specs.Value.{AreDistinct}
-use Rattle.pet_interp.specs.Points.{IsOnlyThrough}
-use Rattle.pet_interp.specs.Progressive.{Held, StandsFor, stripe_of, lengths_of, column}
+use Rattle.interpolation.specs.Points.{IsOnlyThrough}
+use Rattle.interpolation.specs.Progressive.{Held, StandsFor, stripe_of, lengths_of, column}
 use Rattle.pet_poly.specs.Rows.{words}
 use Rattle.stripe_plan.specs.Layers.{plan_stripes, needs_of}
 use Rattle.packet_set.specs.Packets.{Packets, TellsSlot, slot_at, with_packet, put_in}

@@ -4,7 +4,7 @@ use Rattle.std.proofs.Common.{◌≡◌, ◌≢◌, ℕ, ◌+◌, ◌*◌, ◌<�
 use Rattle.std.proofs.lemmas.Bool.{cases_eq}
 use Rattle.std.proofs.Math.Nat.{mul-le-mul_right}
 use Rattle.pet_field.specs.Field.{Coding, AreSpellings}
-use Rattle.pet_interp.specs.Progressive.{Held, stripe_of, lengths_of}
+use Rattle.interpolation.specs.Progressive.{Held, stripe_of, lengths_of}
 use Rattle.pet_poly.specs.Rows.{words}
 use Rattle.stripe_plan.specs.declared.layer.LayerSize.{LayerSize}
 use Rattle.stripe_plan.specs.Layers.{needs_of, plan_stripes}

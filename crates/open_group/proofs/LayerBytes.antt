@@ -2,8 +2,8 @@
 use Rattle.std.specs.Prelude.{unwrap_or}
 use Rattle.std.proofs.Common.{◌≡◌, ℕ, ◌+◌, ◌<◌, ◌≤◌, List, [], length, get_or, take, sym, arith, subst}
 use Rattle.pet_field.specs.Field.{Coding}
-use Rattle.pet_interp.specs.Points.{IsOnlyThrough}
-use Rattle.pet_interp.specs.Progressive.{stripe_of, column}
+use Rattle.interpolation.specs.Points.{IsOnlyThrough}
+use Rattle.interpolation.specs.Progressive.{stripe_of, column}
 use Rattle.stripe_plan.specs.Counts.{IsLongestMeeting}
 use Rattle.stripe_plan.specs.Layers.{plan_stripes, words_before}
 use Rattle.packet_set.specs.Packets.{slot_at}

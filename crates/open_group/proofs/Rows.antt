@@ -9,6 +9,7 @@ use Rattle.std.proofs.lemmas.List.Elements.{recursion_from_All}
 use Rattle.pet_field.specs.Field.{AreSpellings}
 use Rattle.pet_poly.specs.Rows.{words}
 use Rattle.pet_poly.specs.laws.RowLaws.{words_of_spellings}
+use Rattle.pet_rows.specs.laws.PlaceLaws.{more_rows, rows_le}
 
 pub take_words : {E : Type 0} (spelt : List ℕ → E) (w n a : ℕ) (bytes : List ℕ) → a ≤ n → take a (words spelt w n bytes) ≡ words spelt w a bytes
 take_words spelt w n zero bytes l = refl
@@ -74,6 +75,12 @@ words_written P w spelt spelling laws n at k top cs old new h inside k_is top_is
           ∙ ap (λ t. words spelt w m (drop top t)) is ∙ ap (words spelt w m) (drop_at (take k old ++ F) R top both)
           ∙ ap (λ t. words spelt w m (drop t old)) top_too ∙ sym (drop_words spelt w n (at + size) m old e);
     }
+
+-- a message with room for a stripe from word `at` on has room for its word i; a word has `width` bytes, as `next` has
+pub word_room : (at i many w width next long : ℕ) → i < many → (at + many) * w ≤ long → width ≡ w → next ≡ w → (at + i) * width + next ≤ long
+word_room at i many w width next long l room wide same =
+    let place : (at + i) * width ≡ (at + i) * w = ap (λ n. (at + i) * n) wide in
+    omega (arith, place, same, room, more_rows (at + i) w, rows_le (at + i + 1) (at + many) w (omega arith))
 
 -- one word more is written behind the first i of a stripe's
 pub one_word_more : {E : Type 0} (f : E → List ℕ) (xs : List E) (i : ℕ) (x : E) (w at place k : ℕ) (old now word : List ℕ) → i < length xs → x ≡ get_or xs i x → word ≡ f x

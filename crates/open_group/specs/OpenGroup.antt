@@ -3,7 +3,7 @@ use Rattle.std.specs.Prelude.{◌≡◌, ◌↔◌, ℕ, ◌<◌, ◌≤◌, Lis
 use Rattle.pet_field.specs.Field.{Coding}
 use Rattle.pet_poly.specs.Value.{AreDistinct}
 use Rattle.pet_poly.specs.Rows.{words}
-use Rattle.pet_interp.specs.Progressive.{Held, StandsFor, stripe_of, lengths_of}
+use Rattle.interpolation.specs.Progressive.{Held, StandsFor, stripe_of, lengths_of}
 use Rattle.stripe_plan.specs.Layers.{plan_stripes}
 pub use Rattle.stripe_plan.specs.Layers.{stripe_lengths}
 pub use Rattle.packet_set.specs.Packets.{Packets, slot_at, count_in, layers_of, no_packets}

@@ -1,8 +1,8 @@
 -- The bytes of a shown layer, by the packets that were kept of its group. This project's own, on interpolation by polynomials.
 use Rattle.std.specs.Prelude.{◌≡◌, ℕ, ◌+◌, ◌<◌, ◌≤◌, List, [], length, take, slice_index_or, Some}
 use Rattle.pet_field.specs.Field.{Coding}
-use Rattle.pet_interp.specs.Progressive.{column}
-use Rattle.pet_interp.specs.Points.{IsOnlyThrough}
+use Rattle.interpolation.specs.Progressive.{column}
+use Rattle.interpolation.specs.Points.{IsOnlyThrough}
 use Rattle.stripe_plan.specs.Layers.{plan_stripes, words_before, count_of}
 use Rattle.stripe_plan.specs.Counts.{Meets}
 use Rattle.packet_set.specs.Packets.{Packets, slot_at}

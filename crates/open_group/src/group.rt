@@ -6,7 +6,7 @@ ghost use Rattle.pet_encode.specs.Session.{IsMessage, bytes_of_layer};
 ghost use Rattle.stripe_plan.specs.Sizes.{IsTable};
 ghost use Rattle.packet_frame.specs.Frame.{payload_length_of};
 ghost use Rattle.packet_set.specs.Packets.{slot_at, with_packet};
-ghost use Rattle.pet_interp.specs.Progressive.{step_bound};
+ghost use Rattle.interpolation.specs.Progressive.{step_bound};
 ghost use Rattle.open_group.specs.OpenGroup.{no_packets, count_in, HoldsAfter, layers_of, stripe_lengths};
 ghost use Rattle.open_group.specs.ShownBytes.{IsShownIn, IsShownBytes, Agrees};
 

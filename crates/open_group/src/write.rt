@@ -3,7 +3,7 @@ ghost use Rattle.std.specs.Prelude.{◌≡◌, ◌≢◌, ℕ, ◌+◌, ◌*◌,
 ghost use Rattle.std.specs.List.{flat_map};
 ghost use Rattle.stripe_plan.specs.Layers.{needs_of};
 ghost use Rattle.stripe_plan.specs.Sizes.{IsTable};
-ghost use Rattle.pet_interp.specs.Progressive.{StandsFor, stripe_of, lengths_of};
+ghost use Rattle.interpolation.specs.Progressive.{StandsFor, stripe_of, lengths_of};
 ghost use Rattle.pet_encode.specs.Payload.{stripes_in};
 ghost use Rattle.open_group.specs.OpenGroup.{stripe_lengths};
 

@@ -1,7 +1,7 @@
 //! The program `pet`: runs the command of its words on this machine, and ends with the code of its status.
 #![tactic(auto)]
 
-use pet_start::start_words;
+use pet_tool::start_words;
 use std::process::ExitCode;
 
 fn main(rt: HostRuntime) -> ExitCode {

@@ -1,3 +1,4 @@
 pub mod PayloadLaws
 pub mod RangeLaws
 pub mod SessionLaws
+pub mod SentLaws

@@ -13,9 +13,9 @@ use Rattle.pet_rows.specs.laws.StripeLaws.{length-cut, cut_at}
 use native.Mathlib.Nat.{mul_comm}
 use Rattle.std.proofs.Math.Nat.{div-lt_iff_lt-mul}
 use Rattle.std.proofs.lemmas.Nat.{div-add-mod'}
-use Rattle.pet_interp.specs.Progressive.{longer_than}
+use Rattle.interpolation.specs.Progressive.{longer_than}
 use Rattle.pet_interp.specs.Blocks.{HeldBlock, stripes_of}
-use Rattle.pet_interp.specs.Lifted.{begun, begun_all, grown}
+use Rattle.interpolation.specs.Lifted.{begun, begun_all, grown}
 use Rattle.pet_rows.specs.laws.PlaceLaws.{more_rows, rows_le, place_below}
 
 -- ---- lists of stripes

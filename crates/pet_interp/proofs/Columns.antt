@@ -12,7 +12,7 @@ use Rattle.pet_rows.specs.Columns.{column}
 use Rattle.pet_rows.specs.laws.ColumnLaws.{length-column, column_at}
 use Rattle.pet_rows.specs.laws.PlaceLaws.{more_rows, rows_le}
 use Rattle.pet_rows.proofs.Parts.{scaled_entry}
-use Rattle.pet_interp.specs.Lifted.{begun, grown}
+use Rattle.interpolation.specs.Lifted.{begun, grown}
 
 pub parts : (a b w : ℕ) → (a + b) * w ≡ a * w + b * w
 parts a b w = omega arith

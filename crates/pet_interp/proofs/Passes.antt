@@ -12,13 +12,13 @@ use Rattle.pet_poly.specs.Rows.{words}
 use Rattle.pet_poly.specs.laws.RowLaws.{length-words}
 use Rattle.pet_poly.specs.InPlace.{scaled_sum}
 use Rattle.pet_poly.specs.laws.InPlaceLaws as I
-use Rattle.pet_interp.specs.Progressive.{longer_than}
+use Rattle.interpolation.specs.Progressive.{longer_than}
 use Rattle.pet_interp.specs.Blocks.{HeldBlock, IsBlock, stripes_in, no_block}
-use Rattle.pet_interp.specs.Lifted.{factor, lifted, lifted_all, begun, begun_all, grown, grown_to}
+use Rattle.interpolation.specs.Lifted.{factor, lifted, lifted_all, begun, begun_all, grown, grown_to}
 use Rattle.pet_interp.proofs.BlockStripes.{longer_append}
 use Rattle.pet_rows.specs.laws.PlaceLaws.{rows_le}
 use Rattle.pet_interp.proofs.Columns.{parts, scaled_high, scaled_front}
-use Rattle.pet_interp.proofs.Lifted.{cost_more, lifted_yes, lifted_no}
+use Rattle.interpolation.proofs.Lifted.{cost_more, lifted_yes, lifted_no}
 
 kept : {E : Type 0} (P : E → Type 0) (met room : ℕ) (old new : HeldBlock E) → IsBlock P met room old → new.size ≡ old.size → new.waits ≡ old.waits
     → length new.stripes ≡ length old.stripes → All (λ s. (length s ≡ new.size) × All P s) new.stripes → IsBlock P met room new

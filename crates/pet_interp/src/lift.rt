@@ -3,9 +3,9 @@ ghost use Rattle.std.specs.Prelude.{◌≡◌, ◌≢◌, ℕ, ◌+◌, ◌*◌,
 ghost use Rattle.pet_poly.specs.Value.{value_monic};
 ghost use Rattle.pet_poly.specs.InPlace.{linear_product};
 ghost use Rattle.pet_poly.specs.Rows.{words};
-ghost use Rattle.pet_interp.specs.Progressive.{longer_than, step_bound};
+ghost use Rattle.interpolation.specs.Progressive.{longer_than, step_bound};
 ghost use Rattle.pet_interp.specs.Blocks.{IsBlock, stripes_in};
-ghost use Rattle.pet_interp.specs.Lifted.{begun_all, grown, grown_to, IsLifted};
+ghost use Rattle.interpolation.specs.Lifted.{begun_all, grown, grown_to, IsLifted};
 
 use crate::block::StripeBlock;
 use pet_base::Steps;

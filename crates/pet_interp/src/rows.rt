@@ -3,7 +3,7 @@ ghost use Rattle.std.specs.Prelude.{◌≡◌, ℕ, ◌+◌, ◌*◌, ◌<◌, �
 ghost use Rattle.pet_rows.specs.declared.blocks.TheConstants.{MAX_WIDTH};
 ghost use Rattle.pet_poly.specs.Rows.{words};
 ghost use Rattle.pet_rows.specs.Columns.{column};
-ghost use Rattle.pet_interp.specs.Lifted.{begun, grown};
+ghost use Rattle.interpolation.specs.Lifted.{begun, grown};
 
 use pet_base::Steps;
 use pet_field::Field;

@@ -16,7 +16,7 @@ use Rattle.stripe_plan.specs.Sizes.{IsTable}
 use Rattle.packet_frame.specs.Frame.{payload_length_of}
 use Rattle.packet_frame.specs.declared.frame.Header.{Header}
 use Rattle.packet_set.specs.Packets.{Packets, IsPackets, slot_at, count_in}
-use Rattle.pet_interp.specs.Progressive.{step_bound}
+use Rattle.interpolation.specs.Progressive.{step_bound}
 use Rattle.pet_receive.specs.Arrivals.{GroupState, HoldsAfter, layers_of, stripe_lengths}
 use Rattle.pet_receive.specs.UnionSteps.{steps_after}
 use Rattle.kept_sets.specs.Union.{join_slots, is_new, new_numbers}

@@ -9,7 +9,7 @@ use Rattle.std.proofs.lemmas.Option.{same_Some}
 use Rattle.pet_field.specs.Field.{Coding}
 use Rattle.packet_frame.specs.Frame.{Fields}
 use Rattle.packet_set.specs.Packets.{Packets, slot_at, with_packet, count_in, no_packets}
-use Rattle.pet_interp.specs.Progressive.{step_bound}
+use Rattle.interpolation.specs.Progressive.{step_bound}
 use Rattle.kept_sets.specs.KeptSet.{header_of}
 use Rattle.pet_receive.specs.Arrivals.{GroupState, HoldsAfter, stripe_lengths}
 use Rattle.pet_receive.specs.Receiving.{IsReadyFor, HasGrown}

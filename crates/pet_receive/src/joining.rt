@@ -2,7 +2,7 @@
 ghost use Rattle.std.specs.Prelude.{◌≡◌, ℕ, ◌+◌, ◌<◌, ◌≤◌, cond, true, nat_lt, filter, All, List, [], ◌∷◌, ◌++◌, Some, IfOk, OnOk, OnErr};
 ghost use Rattle.pet_base.specs.declared.limits.TheConstants.{MAX_PACKETS};
 ghost use Rattle.packet_set.specs.Packets.{count_in};
-ghost use Rattle.pet_interp.specs.Progressive.{step_bound};
+ghost use Rattle.interpolation.specs.Progressive.{step_bound};
 ghost use Rattle.pet_receive.specs.Arrivals.{GroupState, HoldsAfter, layers_of, stripe_lengths};
 ghost use Rattle.kept_sets.specs.Union.{is_new};
 ghost use Rattle.pet_receive.specs.Joining.{OpensAll, IsReadyAt, IsFillable, HasFilled, CanJoin, JoinsOne, JoinsAll, with_theirs, shown_by};

@@ -7,7 +7,7 @@ ghost use Rattle.pet_base.specs.declared.limits.TheConstants.{MAX_PACKETS};
 ghost use Rattle.packet_frame.specs.Frame.{IsFrame};
 ghost use Rattle.packet_frame.specs.View.{view};
 ghost use Rattle.packet_set.specs.Packets.{with_packet, count_in};
-ghost use Rattle.pet_interp.specs.Progressive.{step_bound};
+ghost use Rattle.interpolation.specs.Progressive.{step_bound};
 ghost use Rattle.stripe_plan.specs.Sizes.{cost_of};
 ghost use Rattle.pet_receive.specs.Arrivals.{GroupState, HoldsAfter, stripe_lengths};
 ghost use Rattle.pet_receive.specs.Receiving.{IsReadyFor, HasGrown};

@@ -6,7 +6,7 @@ ghost use Rattle.packet_frame.specs.Frame.{IsFrame};
 ghost use Rattle.packet_frame.specs.Refusals.{fields_of};
 ghost use Rattle.packet_frame.specs.View.{view};
 ghost use Rattle.packet_set.specs.Packets.{Packets};
-ghost use Rattle.pet_interp.specs.Progressive.{step_bound};
+ghost use Rattle.interpolation.specs.Progressive.{step_bound};
 ghost use Rattle.pet_encode.specs.Session.{IsMessage, bytes_of_layer};
 ghost use Rattle.kept_sets.specs.KeptSet.{IsKeptSet, empty_set, open_group, payload_of, Keeps, count_kept, kept_in_all, keep, told_by, cost_kept};
 ghost use Rattle.kept_sets.specs.Verdicts.{verdict_of, frame_verdict, is_kept, opens, after};

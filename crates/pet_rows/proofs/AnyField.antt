@@ -1,5 +1,5 @@
 -- The plain loop over the rows of a column.
-use Rattle.std.proofs.Common.{◌≡◌, ℕ, suc, ◌+◌, ◌-◌, ◌*◌, ◌<◌, ◌≤◌, List, ◌∷◌, All, length, get_or, drop, sym, ap, ap₂, ◌∙◌, arith, w16, Fits}
+use Rattle.std.proofs.Common.{◌≡◌, ℕ, suc, ◌+◌, ◌-◌, ◌*◌, ◌<◌, ◌≤◌, List, ◌∷◌, All, length, get_or, drop, sym, ap, ap₂, ◌∙◌, arith}
 use Rattle.std.proofs.Math.Seq.{drop-cons}
 use Rattle.std.proofs.lemmas.List.{drop_all, get_or_default}
 use Rattle.std.proofs.lemmas.List.Elements.{recursion_from_All, All-drop}
@@ -44,7 +44,3 @@ all_from P d xs h i e l = rw (get_or_default xs i e d l) (h i l)
 
 pub entry_is : {E : Type 0} (P : E → Type 0) (d : E) (xs : List E) (i : ℕ) → i < length xs → All P xs → P (get_or xs i d)
 entry_is P d xs i l h = h i d l
-
--- each word is an element of the field of 65,536 elements
-pub all_elements : (row : List ℕ) → ((i : ℕ) → Fits w16 (get_or row i 0)) → All (λ a. a < 65536) row
-all_elements row fit = all_from (λ a. a < 65536) 0 row (λ i l. (fit i).fits)

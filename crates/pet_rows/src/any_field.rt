@@ -10,7 +10,7 @@ use std::sync::ledger::Ledger;
 
 /// The values at `x` of all columns of `count` rows, each as long as `into`, one after another. It counts one step for each
 /// element of the rows.
-pub(crate) fn each_column<F: Field, L: Ledger>(
+pub fn each_column<F: Field, L: Ledger>(
     f: &F,
     rows: &[F::Elem],
     count: usize,

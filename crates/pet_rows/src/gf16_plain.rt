@@ -1,51 +1,18 @@
-//! The field of 65,536 elements without tables of its own, on vectors.
+//! The field of 65,536 elements without tables has rows as any field does.
 
-use crate::count::count_steps;
-use crate::kernels::{add_multiples, column_values, scale_row};
-use crate::products::Products;
 use crate::rows::Rows;
-use pet_base::Steps;
 use pet_field::Gf16Plain;
-use std::sync::ledger::Ledger;
 
 impl Rows for Gf16Plain {
-    type Factor = Products;
+    type Factor = u16;
 
-    ghost element_of = { λ p. p.factor };
+    ghost element_of = { λ a. a };
 
-    fn prepare(&self, x: u16) -> Products {
-        Products::new(x)
+    fn prepare(&self, x: u16) -> u16 {
+        x
     }
 
-    fn element(&self, factor: &Products) -> u16 {
-        factor.factor
-    }
-
-    fn values<L: Ledger>(
-        &self,
-        rows: &[u16],
-        count: usize,
-        x: &Products,
-        into: &mut [u16],
-        steps: &mut Steps<L>,
-    ) {
-        count_steps(steps, rows.len());
-        column_values(rows, count, x, into);
-    }
-
-    fn scale<L: Ledger>(&self, by: &Products, row: &mut [u16], steps: &mut Steps<L>) {
-        count_steps(steps, row.len());
-        scale_row(by, row);
-    }
-
-    fn add_products<L: Ledger>(
-        &self,
-        factors: &[Products],
-        row: &[u16],
-        rows: &mut [u16],
-        steps: &mut Steps<L>,
-    ) {
-        count_steps(steps, factors.len() * row.len());
-        add_multiples(factors, row, rows);
+    fn element(&self, factor: &u16) -> u16 {
+        *factor
     }
 }

@@ -8,8 +8,8 @@ use Rattle.pet_base.specs.OutsideSeen.{OutsideSeen}
 use Rattle.pet_base.specs.Seen.{Files, Seen, with_file}
 use Rattle.command_files.specs.Uses.{reading, writing}
 use Rattle.pet_encode.specs.Session.{IsSession}
-use Rattle.session_packets.specs.Packets.{datagrams_text, IsItsDatagram}
-use Rattle.session_packets.specs.laws.SentLaws.{sent_are_packets}
+use Rattle.pet_encode.specs.Datagrams.{datagrams_text, IsItsDatagram}
+use Rattle.pet_encode.specs.laws.SentLaws.{sent_are_packets}
 use Rattle.stream_session.specs.Accepted.{session_of}
 use Rattle.stream_session.specs.laws.SessionOfLaws.{is_session, session_fits}
 use Rattle.command_plan.specs.Checks.{Checks}

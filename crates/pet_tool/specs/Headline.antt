@@ -9,7 +9,7 @@ use Rattle.datagram_route.specs.Way.{Way}
 use Rattle.pet_encode.specs.Session.{Session}
 use Rattle.stream_session.specs.Accepted.{IsAcceptedSession, session_of}
 use Rattle.stream_session.specs.Number.{session_number}
-use Rattle.session_packets.specs.Packets.{datagrams_text}
+use Rattle.pet_encode.specs.Datagrams.{datagrams_text}
 use Rattle.met_packets.specs.FewestStripes.{CarriesFewestStripes}
 use Rattle.met_packets.specs.Met.{layers_text, met_in, all_shown}
 use Rattle.met_packets.specs.MetStore.{session_store}

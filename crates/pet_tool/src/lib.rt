@@ -6,10 +6,13 @@
 //! every list of datagrams whose frames with the session's number are packets of the session, from a file or by a link, LAYERS
 //! has each shown layer's exact bytes once, numbered by the arrival that showed it, STORE is the store of the session's packets
 //! that were met, the status is Done exactly where every layer is shown, and the printed lines are the defined ones.
-//! `specs/Statuses.antt` has the status of each end.
+//! `specs/Statuses.antt` has the status of each end. `start_words` is the program: it runs the words of the process over the files,
+//! the network and the output of this machine.
 #![tactic(auto)]
 
+mod starting;
 mod statuses;
 mod top;
 
+pub use starting::{NoWords, start, start_words, words};
 pub use top::run;

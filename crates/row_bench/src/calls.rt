@@ -1,10 +1,11 @@
 //! Calls on blocks whose shape is tested first: what does not fit is left out, and shows as another answer.
 ghost use Rattle.std.specs.Prelude.{◌≡◌, ℕ, ◌*◌, ◌<◌, ◌≤◌, length, vec_len, All, IfOk};
 
+use gf16_rows::Products;
 use pet_base::Steps;
 use pet_field::Field;
 use pet_poly::{eval, eval_monic};
-use pet_rows::{MAX_WIDTH, Products, Rows};
+use pet_rows::{MAX_WIDTH, Rows};
 use pet_tables::Gf16Tables;
 use std::alloc::{AllocError, Global};
 use std::sync::ledger::Ledger;

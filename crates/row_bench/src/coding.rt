@@ -2,9 +2,10 @@
 ghost use Rattle.std.specs.Prelude.{◌≡◌, ℕ, ◌<◌, All};
 
 use crate::calls::{add, inverse_at, prepared, scale, value, values};
+use gf16_rows::Products;
 use pet_base::Steps;
 use pet_field::Field;
-use pet_rows::{Products, Rows};
+use pet_rows::Rows;
 use pet_tables::Gf16Tables;
 use std::alloc::{AllocError, Global};
 use std::sync::ledger::Ledger;

@@ -8,7 +8,7 @@ use Rattle.packet_frame.specs.declared.frame.Header.{Header}
 use Rattle.packet_frame.specs.laws.Laws.{texts_have_length}
 use Rattle.pet_encode.specs.Encoding.{Encoding, frames_text}
 use Rattle.pet_encode.specs.laws.RangeLaws.{frame_at, frames_length}
-use Rattle.session_packets.specs.Packets.{packet_in}
+use Rattle.pet_encode.specs.Datagrams.{packet_in}
 
 -- each of them is as long as the table says
 module _ (e : Encoding) (first count len : ℕ) (are : (k : ℕ) → first ≤ k → k < first + count → IsFrame (packet_in e k))

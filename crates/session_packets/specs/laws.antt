@@ -1,2 +1,1 @@
 pub mod DatagramLaws
-pub mod SentLaws

@@ -4,7 +4,8 @@ ghost use Rattle.stripe_plan.specs.Layers.{needs_of};
 ghost use Rattle.datagram_route.specs.RouteFaults.{IsStop};
 ghost use Rattle.datagram_route.specs.Sending.{routes, Sends, SendsPart, IsOpen, OnlyGrows, OutputFailed, SendingFailed};
 ghost use Rattle.datagram_route.specs.Way.{way_of};
-ghost use Rattle.session_packets.specs.Packets.{entry_text, group_datagrams, range_datagrams};
+ghost use Rattle.pet_encode.specs.Datagrams.{group_datagrams, range_datagrams};
+ghost use Rattle.pet_base.specs.Entries.{entry_text};
 
 use datagram_route::{Route, RouteStop, put_entry};
 use group_encoder::Encoder;

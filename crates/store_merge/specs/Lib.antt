@@ -1,4 +1,2 @@
 pub mod Merged
-pub mod Files
 pub mod laws
-pub mod Reading

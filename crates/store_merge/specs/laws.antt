@@ -1,3 +1,2 @@
 pub mod MergeLaws
 pub mod MergeAssociates
-pub mod FileLaws

@@ -4,19 +4,19 @@ ghost use Rattle.pet_base.specs.declared.limits.TheConstants.{MAX_PACKETS};
 ghost use Rattle.kept_sets.specs.KeptSet.{KeptSet};
 ghost use Rattle.pet_receive.specs.UnionSteps.{union_steps};
 ghost use Rattle.store_text.specs.Store.{store_text};
-ghost use Rattle.store_merge.specs.Reading.{store_steps};
+ghost use Rattle.store_read.specs.Reading.{store_steps};
 ghost use Rattle.store_text.specs.Refusals.{read_text};
 ghost use Rattle.store_merge.specs.Merged.{merged, of_first, of_second};
 
 use crate::fault::MergeFault;
-use crate::read::read_store;
-use crate::write::write_store;
 use kept_sets::Absorb;
 use pet_base::{NoMemory, Steps};
 use pet_rows::Rows;
 use std::alloc::Global;
 use std::sync::ledger::Ledger;
+use store_read::read_store;
 use store_text::BadStore;
+use store_write::write_store;
 
 impl From<Absorb> for MergeFault {
     ghost use Rattle.store_merge.specs.Merged.{of_both};

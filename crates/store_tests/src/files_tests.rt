@@ -10,8 +10,9 @@ use pet_receive::Receiver;
 use std::alloc::{AllocError, Global};
 use std::marker::Brand;
 use std::sync::ledger::{Blank, Ledger};
-use store_merge::{StoreStop, read_store_file, write_store_file};
+use store_read::{StoreStop, read_store_file};
 use store_text::StoreKind;
+use store_write::write_store_file;
 
 /// A receiver that these packets of the example session have come to.
 fn kept<'f, L: Ledger>(

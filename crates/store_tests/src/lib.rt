@@ -1,4 +1,5 @@
-//! Tests over the public calls of `store_merge` and `reassemble`, as a caller sees them.
+//! Tests over the public calls of `store_write`, `store_read`, `store_merge` and `reassemble`, as a caller sees
+//! them.
 //!
 //! They stand apart because the gate proves a crate with tests twice, once alone and once with them: here the second time is
 //! the tests' own. No program uses this crate.

@@ -7,7 +7,7 @@ use pet_field::Gf16Plain;
 use std::alloc::{AllocError, Global};
 use std::marker::Brand;
 use std::sync::ledger::{Blank, Ledger};
-use store_merge::read_store;
+use store_read::read_store;
 use store_text::{BadStore, StoreKind};
 
 /// An entry of a store of the example session.

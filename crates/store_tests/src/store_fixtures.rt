@@ -9,8 +9,9 @@ use pet_receive::Receiver;
 use std::alloc::{AllocError, Global};
 use std::marker::Brand;
 use std::sync::ledger::{Blank, Ledger};
-use store_merge::{MergeFault, merge_stores, write_store};
+use store_merge::{MergeFault, merge_stores};
 use store_text::MARK;
+use store_write::write_store;
 
 /// What the groups of the example session may cost.
 pub(crate) const LIMIT: u64 = 1_000;

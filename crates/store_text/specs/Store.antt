@@ -4,7 +4,7 @@ use Rattle.std.specs.Prelude.{ℕ, List, ◌++◌, length}
 use Rattle.std.specs.Int.{w32, to_be_bytes}
 use Rattle.packet_frame.specs.Frame.{Fields, tag_of}
 use Rattle.packet_frame.specs.declared.format.TheConstants.{FORMAT}
-use Rattle.session_packets.specs.Packets.{entries_text}
+use Rattle.pet_encode.specs.Datagrams.{entries_text}
 use Rattle.kept_sets.specs.KeptSet.{KeptSet}
 use Rattle.kept_sets.specs.Union.{frames_in}
 use Rattle.store_text.specs.declared.format.TheConstants.{MARK}

@@ -7,3 +7,4 @@ pub mod InOrder
 pub mod ManyFrames
 pub mod WrittenLaws
 pub mod LengthLaws
+pub mod FileLaws

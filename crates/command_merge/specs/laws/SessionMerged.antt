@@ -16,7 +16,7 @@ use Rattle.kept_sets.specs.laws.FramesLaws.{frames_many}
 use Rattle.kept_sets.specs.Union.{union, absorb_fault}
 use Rattle.kept_sets.specs.declared.union.Absorb.{Absorb}
 use Rattle.kept_sets.specs.declared.union.Absorb.TheVariants as absorb
-use Rattle.store_merge.specs.Files.{store_file}
+use Rattle.store_text.specs.Files.{store_file}
 use Rattle.store_text.specs.Store.{store_text}
 use Rattle.store_text.specs.declared.fault.BadStore.TheVariants.{At}
 use Rattle.met_packets.specs.Gf16.{met_frames}

@@ -31,7 +31,7 @@ use Rattle.met_packets.specs.laws.FewestStripesLaws.{all_carry_fewest}
 use Rattle.met_packets.specs.laws.KeptIsMet.{Follows}
 use Rattle.command_receive.specs.declared.command.ReceiveEnd.{ReceiveEnd}
 use Rattle.command_receive.specs.declared.command.ReceiveEnd.TheVariants.{Done, NoMemory, PlaceFault, LinkFault, OutFault, Incomplete, TurnsSpent}
-use Rattle.store_merge.specs.Files.{HasFile}
+use Rattle.store_text.specs.Files.{HasFile}
 use Rattle.store_text.specs.Store.{store_of, store_text}
 use Rattle.command_receive.specs.Receives.{AreRead, IsBoundAtEnd, IsRead, IsUseInTurn, layers_file, kept_file, port_line, uses_of, Reads, EndsReceive, Receives, numbers_text}
 use Rattle.command_receive.specs.ReceivesSession.{HasDatagrams, HasPacketsOf, CanReceive, ReceivesSession, CompletesReceive}

@@ -11,7 +11,7 @@ use Rattle.command_files.specs.Wrote.{with_files}
 use Rattle.pet_encode.specs.Session.{Session, IsSession}
 use Rattle.kept_sets.specs.KeptSet.{KeptSet}
 use Rattle.pet_receive.specs.ShownBytes.{groups_told}
-use Rattle.store_merge.specs.Files.{HasStore}
+use Rattle.store_text.specs.Files.{HasStore}
 use Rattle.store_text.specs.declared.fault.BadStore.TheVariants.{At}
 use Rattle.met_packets.specs.Met.{Pair}
 use Rattle.met_packets.specs.laws.StoreRead.{IsStoreOf, store_is, read_so, not_refused}

@@ -13,7 +13,8 @@ use Rattle.command_files.specs.Outputs.{IsPrefix, Puts, PutsPart}
 use Rattle.command_files.specs.laws.OutputLaws.{puts_then, puts_nothing}
 use Rattle.command_files.specs.laws.PartLaws.{part_after as put_after, part_within as put_within, part_whole as put_whole}
 use Rattle.datagram_route.specs.Way.{Way, OnFile, OnLink}
-use Rattle.datagram_route.specs.Sending.{Routes, entry_text, entries_of, AreFirst, Sends, SendsPart, IsOpen, OnlyGrows, OutputFailed, SendingFailed}
+use Rattle.datagram_route.specs.Sending.{Routes, AreFirst, Sends, SendsPart, IsOpen, OnlyGrows, OutputFailed, SendingFailed}
+use Rattle.pet_base.specs.Entries.{entry_text, entries_of}
 
 entries_append : (a b : List (List ℕ)) → entries_of (a ++ b) ≡ entries_of a ++ entries_of b
 entries_append a b = flat_map-append entry_text a b

@@ -14,7 +14,7 @@ use Rattle.packet_frame.specs.declared.fault.FrameFault.{FrameFault}
 use Rattle.packet_frame.specs.laws.Laws.{reads_frames, texts_are_read}
 use Rattle.pet_encode.specs.Session.{Session, IsSession, IsPacketOf, Fits, packets_of}
 use Rattle.pet_encode.specs.laws.SessionLaws.{packets_are}
-use Rattle.session_packets.specs.laws.SentLaws.{are_frames}
+use Rattle.pet_encode.specs.laws.SentLaws.{are_frames}
 use Rattle.kept_sets.specs.KeptSet.{KeptSet, IsKeptSet, empty_set}
 use Rattle.kept_sets.specs.Verdicts.{after, after_all}
 use Rattle.kept_sets.specs.Union.{frames_in, union, absorb_fault}

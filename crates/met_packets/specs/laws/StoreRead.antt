@@ -1,21 +1,15 @@
 -- The store of some packets of a session, as a file, is read as a kept set that has exactly these, and as no other.
-use Rattle.std.proofs.Common.{◌≡◌, ℕ, ◌≤◌, Bool, List, length, Option, Some, Result, Ok, Err, sym, ap, subst, ◌∙◌}
-use Rattle.std.specs.Prelude.{if◌then◌else◌}
-use Rattle.std.proofs.lemmas.Bool.{le-ltb}
-use Rattle.pet_base.specs.declared.limits.TheConstants.{MAX_SESSION, MAX_STORE}
+use Rattle.std.proofs.Common.{◌≡◌, ℕ, List, length, Option, Some, Result, Ok, Err, sym, ap, subst, ◌∙◌}
+use Rattle.pet_base.specs.declared.limits.TheConstants.{MAX_SESSION}
 use Rattle.pet_base.specs.Seen.{Files}
 use Rattle.pet_field.specs.Gf16.{gf16_coding}
 use Rattle.pet_encode.specs.Session.{Session, IsSession, Fits}
-use Rattle.kept_sets.specs.KeptSet.{KeptSet, cost_kept}
+use Rattle.kept_sets.specs.KeptSet.{KeptSet}
 use Rattle.kept_sets.specs.Union.{frames_in}
-use Rattle.store_merge.specs.Files.{HasStore, HasBadStore, store_in}
-use Rattle.store_text.specs.Refusals.{read_text}
+use Rattle.store_text.specs.Files.{HasStore, HasBadStore, store_in}
 use Rattle.store_text.specs.Store.{store_of, store_text}
-use Rattle.store_text.specs.laws.LengthLaws.{store_fits}
-use Rattle.store_text.specs.laws.WrittenLaws.{written_is_read}
-use Rattle.store_text.specs.declared.fault.StoreKind.TheVariants.{Cut}
+use Rattle.store_text.specs.laws.FileLaws.{written_is_a_store}
 use Rattle.store_text.specs.declared.fault.BadStore.{BadStore}
-use Rattle.store_text.specs.declared.fault.BadStore.TheVariants.{At}
 use Rattle.met_packets.specs.Met.{Pair}
 use Rattle.met_packets.specs.MetStore.{pairs_store}
 use Rattle.met_packets.specs.laws.SetOfPairs.{IsMetSet, its_frames, store_exists}
@@ -41,24 +35,17 @@ pub record IsStoreOf (s : Session) (pairs : List Pair) (set : KeptSet) : Type 0 
 pub text_is : (s : Session) (pairs : List Pair) (set : KeptSet) → IsMetSet gf16_coding s MAX_SESSION pairs set → store_text set ≡ pairs_store s pairs
 text_is s pairs set is = ap (λ (n : List ℕ). store_of n (frames_in set)) is.session ∙ ap (store_of s.number) (its_frames gf16_coding s MAX_SESSION pairs set is)
 
-within : (text : List ℕ) → length text ≤ MAX_STORE → store_in text ≡ read_text MAX_SESSION text
-unfolding store_in
-within text le = ap (λ (b : Bool). if b then Err (At MAX_STORE Cut) else read_text MAX_SESSION text) (le-ltb MAX_STORE (length text) le)
-
 pub store_is : (s : Session) (pairs : List Pair) → IsSession 2 s → Fits s MAX_SESSION → (set : KeptSet) × IsStoreOf s pairs set
 store_is s pairs session fits =
     let there = store_exists s MAX_SESSION pairs session fits in
     let set = there.0 in
     let is = there.1 in
     let text = text_is s pairs set is in
-    let most : set.limit ≡ MAX_SESSION = is.limit_is in
-    let cost = subst (λ (l : ℕ). cost_kept set ≤ l) most is.sound.within in
-    let number : length set.session ≡ 8 = ap (λ (n : List ℕ). length n) is.session ∙ session.number in
-    let read = written_is_read set MAX_SESSION is.sound number cost ∙ ap (λ (l : ℕ). Ok (record set { limit = l })) (sym most) in (
+    let number : length set.session ≡ 8 = ap (λ (n : List ℕ). length n) is.session ∙ session.number in (
       set,
       record {
         is_met = is;
-        read = ap store_in (sym text) ∙ within (store_text set) (store_fits set is.sound number cost) ∙ read;
+        read = ap store_in (sym text) ∙ written_is_a_store set is.sound is.limit_is number;
       },
     )
 

@@ -6,7 +6,7 @@ use Rattle.std.proofs.lemmas.List.Sums.{sum_by-cons, sum_by-append}
 use Rattle.packet_frame.specs.Frame.{Fields, IsFrame}
 use Rattle.packet_frame.specs.declared.frame.Header.{Header}
 use Rattle.packet_set.specs.Packets.{Packets, count_in}
-use Rattle.pet_interp.specs.Progressive.{step_bound}
+use Rattle.interpolation.specs.Progressive.{step_bound}
 use Rattle.kept_sets.specs.KeptSet.{KeptSet, IsKeptSet, open_group, count_kept, group_with, keep}
 use Rattle.pet_receive.specs.Arrivals.{layers_of, stripe_lengths}
 use Rattle.pet_receive.specs.UnionSteps.{steps_after}

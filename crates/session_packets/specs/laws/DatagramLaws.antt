@@ -11,9 +11,10 @@ use Rattle.packet_frame.specs.Frame.{Fields, text}
 use Rattle.pet_encode.specs.Encoding.{Encoding, IsGroupOf}
 use Rattle.pet_encode.specs.Session.{Session, SessionGroup, packet_of, packets_of_group, packets_from}
 use Rattle.datagram_route.specs.Way.{Way}
-use Rattle.datagram_route.specs.Sending.{Routes, entry_text, entries_of, AreFirst, Sends, SendsPart}
+use Rattle.datagram_route.specs.Sending.{Routes, AreFirst, Sends, SendsPart}
+use Rattle.pet_base.specs.Entries.{entry_text, entries_of}
 use Rattle.datagram_route.specs.laws.SendingLaws.{sends_then, part_after, part_within}
-use Rattle.session_packets.specs.Packets.{packet_in, range_datagrams, first_datagrams, group_datagrams, session_packets, session_datagrams, datagrams_text, first_groups_datagrams, AreEncoders, GroupsMakeDatagrams}
+use Rattle.pet_encode.specs.Datagrams.{packet_in, range_datagrams, first_datagrams, group_datagrams, session_packets, session_datagrams, datagrams_text, first_groups_datagrams, AreEncoders, GroupsMakeDatagrams}
 
 -- the datagram of one packet more
 pub datagrams_more : (e : Encoding) (first n : ℕ) → range_datagrams e first (n + 1) ≡ range_datagrams e first n ++ (text (packet_in e (first + n)) ∷ [])

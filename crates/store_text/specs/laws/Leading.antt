@@ -9,8 +9,9 @@ use Rattle.packet_frame.specs.Frame.{Fields, IsFrame, text}
 use Rattle.packet_frame.specs.Refusals.{number, fields_of, first_fault}
 use Rattle.packet_frame.specs.declared.fault.FrameFault.{FrameFault}
 use Rattle.packet_frame.specs.laws.Laws.{texts_are_read, reads_frames, reads_texts}
-use Rattle.session_packets.specs.Packets.{entry_text, entries_text}
-use Rattle.session_packets.specs.laws.SentLaws.{text_short}
+use Rattle.pet_encode.specs.Datagrams.{entries_text}
+use Rattle.pet_base.specs.Entries.{entry_text}
+use Rattle.pet_encode.specs.laws.SentLaws.{text_short}
 use Rattle.kept_sets.specs.KeptSet.{KeptSet, keep}
 use Rattle.store_text.specs.declared.fault.StoreKind.{StoreKind}
 use Rattle.store_text.specs.declared.fault.StoreKind.TheVariants.{Frame, Cut}

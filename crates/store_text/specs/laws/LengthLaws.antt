@@ -16,7 +16,8 @@ use Rattle.packet_frame.specs.laws.Formats.{format_is}
 use Rattle.packet_frame.specs.laws.Laws.{texts_have_length}
 use Rattle.packet_frame.specs.laws.Again.{length-tag}
 use Rattle.packet_set.specs.Packets.{Packets, count_held, count_in}
-use Rattle.session_packets.specs.Packets.{entry_text, entries_text}
+use Rattle.pet_encode.specs.Datagrams.{entries_text}
+use Rattle.pet_base.specs.Entries.{entry_text}
 use Rattle.kept_sets.specs.KeptSet.{KeptSet, IsKeptSet, IsKeptGroup, cost_in, cost_kept}
 use Rattle.kept_sets.specs.Union.{frames_in_group, frames_in}
 use Rattle.kept_sets.specs.laws.FramesInOrder.{frames_from, group_from}

@@ -13,7 +13,7 @@ use Rattle.pet_base.specs.declared.limits.TheConstants.{TAG_LENGTH}
 use Rattle.packet_frame.specs.Frame.{Fields, tag_of}
 use Rattle.packet_frame.specs.Refusals.{number, ends_in_tag}
 use Rattle.packet_frame.specs.declared.format.TheConstants.{FORMAT}
-use Rattle.session_packets.specs.Packets.{entries_text}
+use Rattle.pet_encode.specs.Datagrams.{entries_text}
 use Rattle.kept_sets.specs.KeptSet.{KeptSet, IsKeptSet, empty_set}
 use Rattle.kept_sets.specs.Union.{frames_in}
 use Rattle.store_text.specs.declared.format.TheConstants.{MARK, HEAD_LENGTH}

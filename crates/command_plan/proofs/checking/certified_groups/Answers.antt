@@ -4,7 +4,7 @@ use Rattle.pet_base.specs.declared.limits.TheConstants.{MAX_GROUPS}
 use Rattle.stripe_plan.specs.Sizes.{Sizes}
 use Rattle.command_plan.specs.Checks.{IsCause}
 use Rattle.stream_session.specs.laws.SourceLaws.{session_in, source_few}
-use Rattle.command_plan.proofs.AnswersThrough.{each_err_and}
+use Rattle.pet_base.specs.laws.Through.{each_err_and}
 use Rattle.command_plan.proofs.CheckCauses.{cause_of_source, no_lists, not_certified, certified, lists_lent}
 use Rattle.command_plan.proofs.checking.certified_groups.Goals as goal
 

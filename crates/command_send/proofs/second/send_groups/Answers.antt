@@ -1,6 +1,6 @@
 use Rattle.std.proofs.lemmas.Option.{MatchOption-at_none, MatchOption-at_some}
 use Rattle.stream_session.specs.Accepted.{session_of}
-use Rattle.session_packets.specs.Packets.{session_datagrams}
+use Rattle.pet_encode.specs.Datagrams.{session_datagrams}
 use Rattle.command_send.proofs.SameStream.{told_part, told_sent, told_changed, told_stop}
 use Rattle.datagram_route.specs.Sending.{routes}
 use Rattle.datagram_route.specs.Way.{way_of}

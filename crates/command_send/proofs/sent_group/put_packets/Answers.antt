@@ -2,7 +2,7 @@ use Rattle.std.proofs.Common.{refl, subst}
 use Rattle.pet_base.specs.laws.Through.{on_any_err}
 use Rattle.std.specs.Prelude.{OnErr}
 use Rattle.pet_encode.specs.Encoding.{Encoding}
-use Rattle.session_packets.specs.Packets.{group_datagrams}
+use Rattle.pet_encode.specs.Datagrams.{group_datagrams}
 use Rattle.command_send.specs.Sending.{encoding_of}
 use Rattle.datagram_route.specs.Sending.{SendsPart}
 use Rattle.datagram_route.specs.laws.SendingLaws.{part_nothing}

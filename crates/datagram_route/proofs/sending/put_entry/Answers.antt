@@ -6,7 +6,8 @@ use Rattle.command_files.specs.Outputs.{Puts, PutsPart}
 use Rattle.command_files.specs.laws.PartLaws.{part_of_take}
 use Rattle.datagram_route.specs.declared.route.Route.{Route}
 use Rattle.datagram_route.specs.declared.route.Route.TheVariants.{File}
-use Rattle.datagram_route.specs.Sending.{Routes, entry_text, routes, Sends, SendsPart, Sent}
+use Rattle.datagram_route.specs.Sending.{Routes, routes, Sends, SendsPart, Sent}
+use Rattle.pet_base.specs.Entries.{entry_text}
 use Rattle.datagram_route.specs.Way.{way_of}
 use Rattle.datagram_route.proofs.sending.put_entry.Goals as goal
 

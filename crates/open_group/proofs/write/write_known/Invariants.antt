@@ -2,7 +2,7 @@ use Rattle.std.proofs.Common.{◌≡◌, ◌≢◌, ℕ, ◌<◌, [], All, lengt
 use Rattle.std.specs.Iterator.Adapters.{enumerate_source, enumerate_count}
 use Rattle.stripe_plan.specs.Layers.{plan_stripes}
 use Rattle.stripe_plan.specs.Walk.{stripes_left}
-use Rattle.pet_interp.specs.Progressive.{stripe_of}
+use Rattle.interpolation.specs.Progressive.{stripe_of}
 use Rattle.pet_encode.specs.Payload.{stripes_in}
 use Rattle.open_group.proofs.write.write_known.Given as goal
 

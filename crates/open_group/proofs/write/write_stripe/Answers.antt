@@ -1,66 +1,40 @@
 use Rattle.std.proofs.Common.{◌≡◌, ◌+◌, ◌-◌, ◌*◌, ◌≤◌, ◌++◌, length, take, drop, flat_map, sym, ap, ap₂, subst, ◌∙◌, arith, rules}
 use Rattle.std.proofs.lemmas.List.{append-nil, length-drop, length-take-le, take-append-drop, take_all}
 use Rattle.std.proofs.lemmas.List.Elements.{All-take}
-use Rattle.pet_rows.specs.laws.PlaceLaws.{more_rows, rows_le}
-use Rattle.open_group.proofs.Rows.{length-spellings, one_word_more}
+use Rattle.pet_rows.specs.laws.PlaceLaws.{rows_le}
+use Rattle.open_group.proofs.Rows.{length-spellings, one_word_more, word_room}
 use Rattle.open_group.proofs.write.write_stripe.Goals as goal
 
 pub overflow_mul-place : goal.overflow_mul-place
 overflow_mul-place g c =
-    let F = g.F.Field in
-    let w = F.coding.width in
-    let i = c.loop-i.i in
-    let at = c.args.at in
-    let stripe = c.args.stripe.now in
-    let wide : c.WIDTH.result ≡ w = c.WIDTH.ensures ∙ sym g.met.F.Field.wide in
-    let place : (at + i) * c.WIDTH.result ≡ (at + i) * w = ap (λ n. (at + i) * n) wide in
-    let room : (at + i) * c.WIDTH.result ≤ length c.loop-i.message = omega (arith, place, rows_le (at + i) (at + length stripe) w (omega arith), c.requires.room, c.loop-i.auto.message) in
+    let wide : c.WIDTH.result ≡ g.F.Field.coding.width = c.WIDTH.ensures ∙ sym g.met.F.Field.wide in
+    let word = word_room c.args.at c.loop-i.i (length c.args.stripe.now) g.F.Field.coding.width c.WIDTH.result c.WIDTH.result (length c.loop-i.message) (omega arith) (omega (arith, c.requires.room, c.loop-i.auto.message)) wide wide in
+    let room : (c.args.at + c.loop-i.i) * c.WIDTH.result ≤ length c.loop-i.message = omega (arith, word) in
     search rules
 
 pub overflow_add-place-in-loop-i : goal.overflow_add-place-in-loop-i
 overflow_add-place-in-loop-i g c =
-    let F = g.F.Field in
-    let w = F.coding.width in
-    let i = c.loop-i.i in
-    let at = c.args.at in
-    let stripe = c.args.stripe.now in
-    let wide : c.WIDTH.result ≡ w = c.WIDTH.ensures ∙ sym g.met.F.Field.wide in
-    let next : c.WIDTH-in-loop-i.result ≡ w = c.WIDTH-in-loop-i.ensures ∙ sym g.met.F.Field.wide in
-    let place : (at + i) * c.WIDTH.result ≡ (at + i) * w = ap (λ n. (at + i) * n) wide in
-    let inside : (at + i) * w + w ≤ (at + length stripe) * w = omega (arith, rows_le (at + i + 1) (at + length stripe) w (omega arith), more_rows (at + i) w) in
-    let room : (at + i) * c.WIDTH.result + c.WIDTH-in-loop-i.result ≤ length c.loop-i.message = omega (arith, place, next, inside, c.requires.room, c.loop-i.auto.message) in
+    let wide : c.WIDTH.result ≡ g.F.Field.coding.width = c.WIDTH.ensures ∙ sym g.met.F.Field.wide in
+    let next : c.WIDTH-in-loop-i.result ≡ g.F.Field.coding.width = c.WIDTH-in-loop-i.ensures ∙ sym g.met.F.Field.wide in
+    let room = word_room c.args.at c.loop-i.i (length c.args.stripe.now) g.F.Field.coding.width c.WIDTH.result c.WIDTH-in-loop-i.result (length c.loop-i.message) (omega arith) (omega (arith, c.requires.room, c.loop-i.auto.message)) wide next in
     search rules
 
 pub slice_bounds-write-end : goal.slice_bounds-write-end
 slice_bounds-write-end g c =
-    let F = g.F.Field in
-    let w = F.coding.width in
-    let i = c.loop-i.i in
-    let at = c.args.at in
-    let stripe = c.args.stripe.now in
-    let wide : c.WIDTH.result ≡ w = c.WIDTH.ensures ∙ sym g.met.F.Field.wide in
-    let next : c.WIDTH-in-loop-i.result ≡ w = c.WIDTH-in-loop-i.ensures ∙ sym g.met.F.Field.wide in
-    let place : (at + i) * c.WIDTH.result ≡ (at + i) * w = ap (λ n. (at + i) * n) wide in
-    let inside : (at + i) * w + w ≤ (at + length stripe) * w = omega (arith, rows_le (at + i + 1) (at + length stripe) w (omega arith), more_rows (at + i) w) in
-    let room : (at + i) * c.WIDTH.result + c.WIDTH-in-loop-i.result ≤ length c.loop-i.message = omega (arith, place, next, inside, c.requires.room, c.loop-i.auto.message) in
+    let wide : c.WIDTH.result ≡ g.F.Field.coding.width = c.WIDTH.ensures ∙ sym g.met.F.Field.wide in
+    let next : c.WIDTH-in-loop-i.result ≡ g.F.Field.coding.width = c.WIDTH-in-loop-i.ensures ∙ sym g.met.F.Field.wide in
+    let room = word_room c.args.at c.loop-i.i (length c.args.stripe.now) g.F.Field.coding.width c.WIDTH.result c.WIDTH-in-loop-i.result (length c.loop-i.message) (omega arith) (omega (arith, c.requires.room, c.loop-i.auto.message)) wide next in
     search rules
 
 pub write-requires : goal.write-requires
 write-requires g c =
-    let F = g.F.Field in
-    let w = F.coding.width in
-    let i = c.loop-i.i in
-    let at = c.args.at in
-    let stripe = c.args.stripe.now in
-    let wide : c.WIDTH.result ≡ w = c.WIDTH.ensures ∙ sym g.met.F.Field.wide in
-    let next : c.WIDTH-in-loop-i.result ≡ w = c.WIDTH-in-loop-i.ensures ∙ sym g.met.F.Field.wide in
-    let place : (at + i) * c.WIDTH.result ≡ (at + i) * w = ap (λ n. (at + i) * n) wide in
-    let inside : (at + i) * w + w ≤ (at + length stripe) * w = omega (arith, rows_le (at + i + 1) (at + length stripe) w (omega arith), more_rows (at + i) w) in
-    let room : (at + i) * c.WIDTH.result + c.WIDTH-in-loop-i.result ≤ length c.loop-i.message = omega (arith, place, next, inside, c.requires.room, c.loop-i.auto.message) in
-    let start = (at + i) * c.WIDTH.result in
+    let wide : c.WIDTH.result ≡ g.F.Field.coding.width = c.WIDTH.ensures ∙ sym g.met.F.Field.wide in
+    let next : c.WIDTH-in-loop-i.result ≡ g.F.Field.coding.width = c.WIDTH-in-loop-i.ensures ∙ sym g.met.F.Field.wide in
+    let room = word_room c.args.at c.loop-i.i (length c.args.stripe.now) g.F.Field.coding.width c.WIDTH.result c.WIDTH-in-loop-i.result (length c.loop-i.message) (omega arith) (omega (arith, c.requires.room, c.loop-i.auto.message)) wide next in
+    let start = (c.args.at + c.loop-i.i) * c.WIDTH.result in
     let size = start + c.WIDTH-in-loop-i.result - start in
     record {
-      element = subst F.is_element (sym c.index-stripe-i.is) (c.requires.elements i c.index-stripe-i.result c.loop-i-test.true);
+      element = subst g.F.Field.is_element (sym c.index-stripe-i.is) (c.requires.elements c.loop-i.i c.index-stripe-i.result c.loop-i-test.true);
       room = length-take-le size (drop start c.loop-i.message) (omega (arith, length-drop start c.loop-i.message)) ∙ omega (arith, next);
     }
 

@@ -1,6 +1,5 @@
 use Rattle.std.proofs.Common.{◌≡◌, ◌+◌, ◌-◌, ◌*◌, ◌<◌, length, get_or, ap, ◌∙◌, arith, rules}
-use Rattle.pet_rows.specs.laws.PlaceLaws.{rows_le}
-use Rattle.pet_rows.proofs.ColumnLoop.{row_place, row_room}
+use Rattle.pet_rows.specs.laws.PlaceLaws.{row_place, row_room, rows_le}
 use Rattle.pet_rows.proofs.AnyField.{horner_is, start, next, done}
 use Rattle.pet_rows.proofs.any_field.column_value.Goals as goal
 

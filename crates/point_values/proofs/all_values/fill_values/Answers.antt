@@ -1,5 +1,5 @@
 use Rattle.std.proofs.Common.{◌∙◌, arith}
-use Rattle.pet_rows.proofs.AnyField.{all_elements}
+use Rattle.gf16_rows.specs.laws.WordLaws.{all_elements}
 use Rattle.point_values.proofs.all_values.fill_values.Goals as goal
 
 pub fill_rows-requires : goal.fill_rows-requires

@@ -2,7 +2,7 @@ use Rattle.std.proofs.Common.{◌≤◌, ◌+◌, ◌-◌, ◌*◌, length}
 use Rattle.stripe_plan.specs.Layers.{needs_of}
 use Rattle.datagram_route.specs.Sending.{routes, Sends, OnlyGrows}
 use Rattle.datagram_route.specs.Way.{way_of}
-use Rattle.session_packets.specs.Packets.{first_datagrams}
+use Rattle.pet_encode.specs.Datagrams.{first_datagrams}
 use Rattle.session_packets.proofs.group.put_group.Given as goal
 
 abbrev pub invariant-loop-first : goal.invariant-loop-first

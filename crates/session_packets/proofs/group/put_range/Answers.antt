@@ -3,7 +3,7 @@ use Rattle.pet_base.specs.laws.Through.{on_any_err}
 use Rattle.datagram_route.specs.Sending.{routes}
 use Rattle.datagram_route.specs.Way.{way_of}
 use Rattle.datagram_route.specs.laws.SendingLaws.{part_nothing, sends_nothing, grows_same, grows_then}
-use Rattle.session_packets.specs.Packets.{range_datagrams}
+use Rattle.pet_encode.specs.Datagrams.{range_datagrams}
 use Rattle.session_packets.specs.laws.DatagramLaws.{sends_packet, part_packet}
 use Rattle.session_packets.proofs.Pieces.{piece_within, piece_is}
 use Rattle.session_packets.proofs.group.put_range.Goals as goal

@@ -1,7 +1,7 @@
 use Rattle.std.proofs.Common.{◌≡◌, ◌*◌}
 use Rattle.datagram_route.specs.Sending.{routes, Sends, OnlyGrows}
 use Rattle.datagram_route.specs.Way.{way_of}
-use Rattle.session_packets.specs.Packets.{range_datagrams}
+use Rattle.pet_encode.specs.Datagrams.{range_datagrams}
 use Rattle.session_packets.proofs.group.put_range.Given as goal
 
 abbrev pub invariant-loop : goal.invariant-loop

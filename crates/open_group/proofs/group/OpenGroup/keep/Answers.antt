@@ -1,7 +1,7 @@
 use Rattle.std.proofs.Common.{◌≡◌, ◌≢◌, ℕ, ◌+◌, ◌*◌, ◌<◌, ◌≤◌, List, [], ◌∷◌, ◌++◌, All, length, get_or, sym, ap, ap₂, ◌∙◌, None, is_some, arith, subst}
 use Rattle.std.proofs.lemmas.List.{with_items_is}
 use Rattle.std.proofs.lemmas.List.Sums.{count_by-le-length}
-use Rattle.pet_interp.specs.Progressive.{Held, StandsFor, stripe_of, lengths_of, step_bound}
+use Rattle.interpolation.specs.Progressive.{Held, StandsFor, stripe_of, lengths_of, step_bound}
 use Rattle.pet_poly.specs.Rows.{words}
 use Rattle.stripe_plan.specs.declared.layer.LayerSize.{LayerSize}
 use Rattle.packet_frame.specs.declared.frame.Header.{Header}

@@ -3,7 +3,7 @@ use Rattle.std.proofs.Common.{◌≡◌, ℕ, ◌+◌, ◌≤◌, [], ◌∷◌,
 use Rattle.packet_frame.specs.Frame.{Fields}
 use Rattle.packet_frame.specs.Refusals.{fields_of}
 use Rattle.packet_frame.specs.View.{view}
-use Rattle.pet_interp.specs.Progressive.{step_bound}
+use Rattle.interpolation.specs.Progressive.{step_bound}
 use Rattle.kept_sets.specs.declared.verdict.Verdict.{Verdict}
 use Rattle.kept_sets.specs.KeptSet.{IsKeptSet, count_kept}
 use Rattle.kept_sets.specs.Verdicts.{verdict_of, frame_verdict, is_kept, opens}

@@ -1,7 +1,7 @@
 use Rattle.std.specs.Prelude.{option_map, is_none, OnErr}
 use Rattle.std.proofs.Common.{◌≡◌, ℕ, ◌+◌, ◌≤◌, List, None, Some, Result, Ok, Err, true, sym, ap, ◌∙◌, arith, subst}
 use Rattle.packet_frame.specs.View.{view}
-use Rattle.pet_interp.specs.Progressive.{step_bound}
+use Rattle.interpolation.specs.Progressive.{step_bound}
 use Rattle.kept_sets.specs.KeptSet.{open_group, count_kept, keep}
 use Rattle.kept_sets.specs.Verdicts.{opens}
 use Rattle.pet_receive.specs.Arrivals.{GroupState, ReceiverState, HasKept, kept_set, stripe_lengths}

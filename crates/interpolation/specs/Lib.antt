@@ -1,0 +1,5 @@
+pub mod Points
+pub mod Progressive
+pub mod Newton
+pub mod Lifted
+pub mod laws

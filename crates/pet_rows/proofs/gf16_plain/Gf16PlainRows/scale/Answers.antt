@@ -1,8 +1,0 @@
-use Rattle.pet_rows.proofs.AnyField.{all_elements}
-use Rattle.pet_rows.proofs.gf16_plain.Gf16PlainRows.scale.Goals as goal
-
-pub returns-clause-products : goal.returns-clause-products
-returns-clause-products g c = c.scale_row.ensures
-
-pub returns-clause-elements : goal.returns-clause-elements
-returns-clause-elements g c = all_elements c.scale_row.new.row c.type_inv.row

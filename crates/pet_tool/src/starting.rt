@@ -1,0 +1,110 @@
+//! How the program starts: its words, and the command that they give, over the files, the network and the output of this
+//! machine.
+//!
+//! `pet` is this alone, and `loopback_trial` runs it as two processes, of which one receives what the other sends. What the
+//! words are for is told by `run`, and what the real ends tell by `pet_ends`.
+ghost use Rattle.std.specs.Prelude.{◌≡◌, ◌<◌, ◌↔◌, None};
+ghost use Rattle.pet_text.specs.Words.{texts_of, command_of};
+
+use crate::top::run;
+use arrayvec::ArrayVec;
+use pet_base::{Sink, Steps};
+use pet_ends::{FilePlace, StandardOut, UdpLink};
+use pet_text::{Status, fault_line};
+use std::alloc::Global;
+use std::env;
+use std::env::Env;
+use std::io::{ErrorKind, Write};
+use std::marker::Brand;
+use std::net::Net;
+use std::rt::Files;
+use std::sync::ledger::{Blank, Ledger};
+
+/// Why there are no words.
+#[derive(Clone, Copy, Debug, PartialEq, Eq)]
+pub enum NoWords {
+    /// A word is no UTF-8 text.
+    NotText,
+    /// No memory was found.
+    NoMemory,
+}
+
+/// The words after the program's name.
+pub fn words<R: Env + Alloc<A = Global>>(machine: &R) -> Result<Vec<String>, NoWords> {
+    let mut words = Vec::new(machine.alloc());
+    let all = match env::args(machine) {
+        Ok(all) => all,
+        Err(e) => return Err(no_words(e.kind())),
+    };
+    for word in all.skip(1) {
+        if words.push(word).is_err() {
+            return Err(NoWords::NoMemory);
+        }
+    }
+    Ok(words)
+}
+
+/// Why the words could not be read.
+fn no_words(kind: ErrorKind) -> NoWords {
+    match kind {
+        ErrorKind::OutOfMemory => NoWords::NoMemory,
+        _ => NoWords::NotText,
+    }
+}
+
+/// Runs the command that the program's words give, over this machine and this output. Words that are no text have the form of
+/// no command.
+pub fn start_words<R: Env + Alloc<A = Global> + Files + Net, W: Write + Drop>(
+    machine: &R,
+    out: W,
+) -> Status {
+    match words(machine) {
+        Ok(words) => start(machine.alloc(), &words, machine, out),
+        Err(NoWords::NotText) => start(machine.alloc(), &[], machine, out),
+        Err(NoWords::NoMemory) => tell_no_memory(out),
+    }
+}
+
+/// Prints the line that tells of want of memory.
+fn tell_no_memory<W: Write + Drop>(out: W) -> Status
+    ensures { result ≡ Status.NoMemory }
+{
+    let mut line: ArrayVec<u8, 64> = ArrayVec::new();
+    fault_line(&Status::NoMemory, &mut line);
+    let mut out = StandardOut::new(out);
+    // a status stays what it is where its line cannot be printed
+    let _ = out.put(line.as_slice());
+    Status::NoMemory
+}
+
+/// Runs the command that the words give, over this machine and this output.
+pub fn start<R: Files + Net, W: Write + Drop>(
+    alloc: Global,
+    words: &[String],
+    machine: &R,
+    out: W,
+) -> Status
+    ensures usage { (result ≡ Status.Usage) ↔ (command_of (texts_of words.now) ≡ None) }
+{
+    run_counted::<_, _, Brand>(alloc, words, machine, out, Blank::new(1))
+}
+
+/// Runs the command, and counts its steps by this blank.
+fn run_counted<R: Files + Net, W: Write + Drop, L: Ledger>(
+    alloc: Global,
+    words: &[String],
+    machine: &R,
+    out: W,
+    blank: Blank,
+) -> Status
+    requires name { blank.name ≡ L.name }
+    requires parts { blank.parts ≡ L.parts }
+    requires some { 0 < blank.parts }
+    ensures usage { (result ≡ Status.Usage) ↔ (command_of (texts_of words.now) ≡ None) }
+{
+    let mut place = FilePlace::new(machine);
+    let mut link = UdpLink::new(machine);
+    let mut out = StandardOut::new(out);
+    let mut steps = Steps::<L>::new(blank);
+    run(alloc, words, &mut place, &mut link, &mut out, &mut steps)
+}
