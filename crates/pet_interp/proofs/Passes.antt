@@ -1,6 +1,7 @@
 -- One pass over the blocks of a progressive state.
 use Rattle.std.proofs.Common.{◌≡◌, ℕ, zero, suc, ◌+◌, ◌-◌, ◌*◌, ◌<◌, ◌≤◌, inl, inr, List, [], ◌∷◌, ◌++◌, All, length, get_or, set, take, drop, map, refl, sym, ap, ap₂, ◌∙◌, arith, subst}
 use Rattle.std.specs.Prelude.{nat_lt}
+use Rattle.std.proofs.Math.Seq.{take-add}
 use Rattle.std.proofs.lemmas.Bool.{cases_lt, lt-ltb, le-ltb, cond-true, cond-false}
 use Rattle.std.proofs.lemmas.Grind.{flat_map-append}
 use Rattle.std.proofs.lemmas.List.Elements.{All-set}
@@ -130,6 +131,16 @@ pub grown_more : {E : Type 0} (o : Operations E) (met from : ℕ) (first part : 
 grown_more o met from first part [] e l = refl
 grown_more o met from first part (s ∷ ss) e l = ap₂ ◌∷◌ (grown_twice o met from first part s e l) (grown_more o met from first part ss e l)
 
+-- the multiples by the factors of one part more
+pub grown_part : {E F : Type 0} (o : Operations E) (met from n : ℕ) (element : F → E) (product : List E) (given : List F) (ss now new : List (List E))
+    → map element given ≡ take n (drop from product) → from ≤ length product → from ≤ met
+    → new ≡ map (grown o met from (map element given)) now → now ≡ map (grown_to o met (take from product)) ss
+    → new ≡ map (grown_to o met (take (from + n) product)) ss
+grown_part o met from n element product given ss now new part l m made done =
+    made ∙ ap (λ p. map (grown o met from p) now) part ∙ ap (map (grown o met from (take n (drop from product)))) done
+    ∙ grown_more o met from (take from product) (take n (drop from product)) ss (length-take-le from product l) m
+    ∙ ap (λ t. map (grown_to o met t) ss) (sym (take-add from n product))
+
 pub grown_nothing : {E : Type 0} (o : Operations E) (met : ℕ) (ss : List (List E)) → map (grown_to o met []) ss ≡ ss
 grown_nothing o met [] = refl
 grown_nothing o met (s ∷ ss) =
@@ -230,6 +241,22 @@ begun_more o met x i spelt w bytes ss ts =
     ap (λ n. begun_all o met x i (ss ++ ts) (words spelt w n bytes)) (length-append ss ts)
     ∙ ap (begun_all o met x i (ss ++ ts)) (words_append spelt w (length ss) (length ts) bytes)
     ∙ begun_append o met x i ss ts (words spelt w (length ss) bytes) (words spelt w (length ts) (drop (length ss * w) bytes)) (length-words spelt w (length ss) bytes)
+
+-- the first pass over one block more
+pub begun_block : {E : Type 0} (o : Operations E) (met : ℕ) (x inverse : E) (spelt : List ℕ → E) (w : ℕ) (bytes part : List ℕ) (now old : List (HeldBlock E)) (i : ℕ) (b new : HeldBlock E)
+    → i < length old → length now ≡ length old → drop i now ≡ drop i old
+    → stripes_in (take i now) ≡ begun_all o met x inverse (stripes_in (take i old)) (words spelt w (length (stripes_in (take i old))) bytes)
+    → new.stripes ≡ begun_all o met x inverse (get_or now i b).stripes (words spelt w (length (get_or now i b).stripes) part)
+    → words spelt w (length (get_or old i no_block).stripes) part ≡ words spelt w (length (get_or old i no_block).stripes) (drop (length (stripes_in (take i old)) * w) bytes)
+    → stripes_in (take (i + 1) (set now i new)) ≡ begun_all o met x inverse (stripes_in (take (i + 1) old)) (words spelt w (length (stripes_in (take (i + 1) old))) bytes)
+begun_block o met x inverse spelt w bytes part now old i b new l long rest before did read =
+    let here = get_or old i no_block in
+    let same : get_or now i b ≡ here = block_ahead now old i b no_block (omega (arith, long)) rest in
+    stripes_more_set now i new (omega (arith, long))
+    ∙ ap₂ ◌++◌ before
+    (did ∙ ap (λ v. begun_all o met x inverse v.stripes (words spelt w (length v.stripes) part)) same ∙ ap (begun_all o met x inverse here.stripes) read)
+    ∙ sym (begun_more o met x inverse spelt w bytes (stripes_in (take i old)) here.stripes)
+    ∙ ap (λ t. begun_all o met x inverse t (words spelt w (length t) bytes)) (sym (stripes_more old i l))
 
 values_room : (n w all size at wide size' len : ℕ) → n + w ≤ all → at ≡ n * size → wide ≡ w → size' ≡ size → len ≡ all * size → at + wide * size' ≤ len
 values_room n w all size at wide size' len l a b c d =

@@ -2,7 +2,7 @@
 ghost use Rattle.std.specs.Prelude.{◌≡◌, ◌≢◌, ℕ, ◌+◌, ◌*◌, ◌-◌, ◌<◌, ◌≤◌, ◌&&◌, ◌==◌, nat_lt, true, false, length, take, All, List, [], ◌∷◌, ◌++◌, slice_index, slice_index_or, replicate, IfOk};
 ghost use Rattle.std.specs.List.{list_any};
 ghost use Rattle.interpolation.specs.Progressive.{StandsFor, stripe_of, lengths_of, column, step_bound};
-ghost use Rattle.pet_interp.specs.Blocks.{stripes_in, no_block};
+ghost use Rattle.pet_interp.specs.Blocks.{stripes_in, no_block, HasRoom};
 ghost use Rattle.pet_rows.specs.declared.blocks.TheConstants.{MAX_WIDTH};
 ghost use Rattle.pet_poly.specs.Rows.{words};
 ghost use Rattle.interpolation.specs.Points.{GoesThrough, IsOnlyThrough};
@@ -60,11 +60,15 @@ impl<'f, F: Rows> Progress<'f, F> {
         let mut at = 0;
         while at < lengths.len() {
             let width = run_width(lengths, at);
-            let count = usize::from(lengths[at]);
-            let block = StripeBlock::new(alloc, f, lengths[at], width)?;
-            grow(&mut product, f.zero(), count)?;
-            grow(&mut spare, f.zero(), count * width)?;
-            blocks.push(block)?;
+            push_block(
+                alloc,
+                f,
+                lengths[at],
+                width,
+                &mut blocks,
+                &mut product,
+                &mut spare,
+            )?;
             at += width;
         }
         let factors = some_factors(alloc, f, product.len())?;
@@ -160,6 +164,30 @@ fn run_width(lengths: &[u16], at: usize) -> usize
         width += 1;
     }
     width
+}
+
+/// Adds a block of so many stripes of this length, and all the room that it needs.
+fn push_block<F: Rows>(
+    alloc: Global,
+    f: &F,
+    size: u16,
+    width: usize,
+    blocks: &mut Vec<StripeBlock<F>>,
+    product: &mut Vec<F::Elem>,
+    spare: &mut Vec<F::Elem>,
+) -> Result<(), NoMemory>
+    requires some { 0 < width }
+    requires narrow { width ≤ MAX_WIDTH }
+    ensures { IfOk result (λ _. (lengths : List ℕ)
+        → HasRoom F.is_element lengths blocks.old.items product.old.items spare.old.items
+        → HasRoom F.is_element (lengths ++ replicate width size) blocks.new.items product.new.items spare.new.items) }
+{
+    let count = usize::from(size);
+    grow(product, f.zero(), count)?;
+    grow(spare, f.zero(), count * width)?;
+    let block = StripeBlock::new(alloc, f, size, width)?;
+    blocks.push(block)?;
+    Ok(())
 }
 
 /// Adds copies until there are so many elements.

@@ -1,36 +1,39 @@
-use Rattle.std.proofs.Common.{◌≡◌, ◌∙◌, ◌+◌, ◌-◌, ◌*◌, ◌<◌, ◌++◌, List, length, get_or, take, drop, refl, ap, ap₂, sym, arith, rules}
+use Rattle.std.proofs.Common.{◌≡◌, ◌∙◌, ◌+◌, ◌-◌, ◌*◌, ◌<◌, List, length, get_or, take, drop, refl, ap, ap₂, sym, arith}
 use Rattle.std.proofs.lemmas.List.{length-set, length-append}
 use Rattle.pet_poly.specs.Rows.{words}
 use Rattle.pet_interp.specs.Blocks.{HeldBlock, stripes_in, no_block}
 use Rattle.interpolation.specs.Lifted.{begun_all}
 use Rattle.pet_interp.proofs.Columns.{parts}
 use Rattle.pet_interp.proofs.BlockStripes.{length-begun_all}
-use Rattle.pet_interp.proofs.Passes.{blocks_kept, block_ahead, cost_block, stripes_more, stripes_more_set, rest_more, values_ahead, words_take, begun_more, all_stripes, all_cost}
+use Rattle.pet_interp.proofs.Passes.{blocks_kept, block_ahead, cost_block, stripes_more, rest_more, values_ahead, words_take, begun_block, all_stripes, all_cost}
 use Rattle.pet_interp.proofs.lift.begin.Goals as goal
 
 pub overflow_mul-end : goal.overflow_mul-end
 overflow_mul-end g c =
     let inv = c.loop-i.invariant in
-    let room =
-    values_ahead c.loop-i.blocks c.args.blocks.now c.loop-i.i c.index-blocks-i.result g.F.Field.coding.width c.loop-i.at c.width.result c.WIDTH.result (length c.args.values.now)
-    c.loop-i-test.true inv.long inv.rest inv.at c.width.ensures (c.WIDTH.ensures ∙ sym g.met.F.Field.wide) c.requires.width in
-    search rules
+    omega (
+      arith,
+      values_ahead c.loop-i.blocks c.args.blocks.now c.loop-i.i c.index-blocks-i.result g.F.Field.coding.width c.loop-i.at c.width.result c.WIDTH.result (length c.args.values.now)
+          c.loop-i-test.true inv.long inv.rest inv.at c.width.ensures (c.WIDTH.ensures ∙ sym g.met.F.Field.wide) c.requires.width,
+    )
 
 pub overflow_add-end : goal.overflow_add-end
 overflow_add-end g c =
     let inv = c.loop-i.invariant in
-    let room =
-    values_ahead c.loop-i.blocks c.args.blocks.now c.loop-i.i c.index-blocks-i.result g.F.Field.coding.width c.loop-i.at c.width.result c.WIDTH.result (length c.args.values.now)
-    c.loop-i-test.true inv.long inv.rest inv.at c.width.ensures (c.WIDTH.ensures ∙ sym g.met.F.Field.wide) c.requires.width in
-    search rules
+    omega (
+      arith,
+      values_ahead c.loop-i.blocks c.args.blocks.now c.loop-i.i c.index-blocks-i.result g.F.Field.coding.width c.loop-i.at c.width.result c.WIDTH.result (length c.args.values.now)
+          c.loop-i-test.true inv.long inv.rest inv.at c.width.ensures (c.WIDTH.ensures ∙ sym g.met.F.Field.wide) c.requires.width,
+    )
 
 pub slice_bounds-begin-end : goal.slice_bounds-begin-end
 slice_bounds-begin-end g c =
     let inv = c.loop-i.invariant in
-    let room =
-    values_ahead c.loop-i.blocks c.args.blocks.now c.loop-i.i c.index-blocks-i.result g.F.Field.coding.width c.loop-i.at c.width.result c.WIDTH.result (length c.args.values.now)
-    c.loop-i-test.true inv.long inv.rest inv.at c.width.ensures (c.WIDTH.ensures ∙ sym g.met.F.Field.wide) c.requires.width in
-    search rules
+    omega (
+      arith,
+      values_ahead c.loop-i.blocks c.args.blocks.now c.loop-i.i c.index-blocks-i.result g.F.Field.coding.width c.loop-i.at c.width.result c.WIDTH.result (length c.args.values.now)
+          c.loop-i-test.true inv.long inv.rest inv.at c.width.ensures (c.WIDTH.ensures ∙ sym g.met.F.Field.wide) c.requires.width,
+    )
 
 pub begin-requires-clause-waits : goal.begin-requires-clause-waits
 begin-requires-clause-waits g c = (c.loop-i.invariant.blocks c.requires.blocks.0 c.requires.blocks.1 c.loop-i.i c.index-blocks-i-in-loop-i.result (omega (arith, c.loop-i.invariant.long))).waits
@@ -62,22 +65,15 @@ loop-i-preserved g c =
     c.width.ensures ∙ ap (λ (v : HeldBlock g.row.F-Elem.Denot). length v.stripes) (block_ahead now old i c.index-blocks-i.result no_block few inv.rest) in
     let step : c.width.result * c.WIDTH.result ≡ length here.stripes * w = ap₂ ◌*◌ wide (c.WIDTH.ensures ∙ sym g.met.F.Field.wide) in
     let end : length (stripes_in (take (i + 1) old)) ≡ length before + length here.stripes = ap length (stripes_more old i few0) ∙ length-append before here.stripes in
-    let count : length new.stripes ≡ length (get_or now i b).stripes = ap length did.stripes ∙ length-begun_all o met x inverse (get_or now i b).stripes _ in
     let size = at + c.width.result * c.WIDTH.result - at in
+    let count : length new.stripes ≡ length (get_or now i b).stripes = ap length did.stripes ∙ length-begun_all o met x inverse (get_or now i b).stripes (words F.coding.spelt w (length (get_or now i b).stripes) (take size (drop at bytes))) in
     let read : words F.coding.spelt w (length here.stripes) (take size (drop at bytes)) ≡ words F.coding.spelt w (length here.stripes) (drop (length before * w) bytes) =
     words_take F.coding.spelt w (length here.stripes) size (drop at bytes) (omega (arith, step)) ∙ ap (λ n. words F.coding.spelt w (length here.stripes) (drop n bytes)) inv.at in
     record {
       at = omega (arith, inv.at, step, ap (λ n. n * w) end, parts (length before) (length here.stripes) w);
       long = length-set now i new ∙ inv.long;
       blocks = λ room h. blocks_kept P met room now i b new (inv.blocks room h) few did.size did.waits count did.each;
-      done =
-          stripes_more_set now i new few
-          ∙ ap₂ ◌++◌ inv.done
-          (did.stripes
-          ∙ ap (λ (v : HeldBlock g.row.F-Elem.Denot). begun_all o met x inverse v.stripes (words F.coding.spelt w (length v.stripes) (take size (drop at bytes)))) same
-          ∙ ap (begun_all o met x inverse here.stripes) read)
-          ∙ sym (begun_more o met x inverse F.coding.spelt w bytes before here.stripes)
-          ∙ ap (λ t. begun_all o met x inverse t (words F.coding.spelt w (length t) bytes)) (sym (stripes_more old i few0));
+      done = begun_block o met x inverse F.coding.spelt w bytes (take size (drop at bytes)) now old i b new few0 inv.long inv.rest inv.done did.stripes read;
       rest = rest_more now old i new inv.rest;
       cost = cost_block met (met + 1) now old i b c.args.steps.now c.loop-i.steps c.begin.new.steps few0 same inv.cost did.cost;
     }
@@ -96,3 +92,21 @@ returns-clause-stripes g c =
 
 pub returns-clause-cost : goal.returns-clause-cost
 returns-clause-cost g c = all_cost c.args.met (c.args.met + 1) c.args.steps.now c.loop-i.steps c.args.blocks.now c.loop-i.i c.loop-i-test.false c.loop-i.invariant.cost
+
+pub bounds-blocks-i : goal.bounds-blocks-i
+bounds-blocks-i g c = omega (arith, c.loop-i.invariant.long)
+
+pub bounds-blocks-i-in-loop-i : goal.bounds-blocks-i-in-loop-i
+bounds-blocks-i-in-loop-i g c = omega (arith, c.loop-i.invariant.long)
+
+pub slice_bounds-begin-count : goal.slice_bounds-begin-count
+slice_bounds-begin-count g c = omega arith
+
+pub begin-requires-clause-point : goal.begin-requires-clause-point
+begin-requires-clause-point g c = c.requires.point
+
+pub begin-requires-clause-inverse : goal.begin-requires-clause-inverse
+begin-requires-clause-inverse g c = c.requires.inverse
+
+pub loop-i-smaller : goal.loop-i-smaller
+loop-i-smaller g c = omega arith

@@ -48,3 +48,25 @@ returns-clause-stripe g c =
 
 pub loop-place-init : goal.loop-place-init
 loop-place-init g c = record { within = c.requires; same = refl }
+
+pub offset_bounds-blocks-block : goal.offset_bounds-blocks-block
+offset_bounds-blocks-block g c = omega (arith, block_here c.args.blocks.now c.loop-place.block c.loop-place.place c.loop-place.invariant.within)
+
+pub offset_bounds-blocks-block-in-loop-place : goal.offset_bounds-blocks-block-in-loop-place
+offset_bounds-blocks-block-in-loop-place g c = omega (arith, block_here c.args.blocks.now c.loop-place.block c.loop-place.place c.loop-place.invariant.within)
+
+pub overflow_add-block : goal.overflow_add-block
+overflow_add-block g c = omega (arith, block_here c.args.blocks.now c.loop-place.block c.loop-place.place c.loop-place.invariant.within)
+
+pub loop-place-smaller : goal.loop-place-smaller
+loop-place-smaller g c = omega (arith, block_here c.args.blocks.now c.loop-place.block c.loop-place.place c.loop-place.invariant.within)
+
+pub overflow_sub-place : goal.overflow_sub-place
+overflow_sub-place g c =
+    let bs = c.args.blocks.now in
+    let i = c.loop-place.block in
+    let b = c.index-blocks-block.result in
+    let again = c.index-blocks-block-in-loop-place.result in
+    let same : again ≡ b =
+    c.index-blocks-block-in-loop-place.is ∙ get_or_default bs i again b (block_here bs i c.loop-place.place c.loop-place.invariant.within) ∙ sym c.index-blocks-block.is in
+    rw (c.width-place.ensures ∙ ap (λ (v : HeldBlock g.row.F-Elem.Denot). length v.stripes) same ∙ sym c.width.ensures) c.loop-place-test.true

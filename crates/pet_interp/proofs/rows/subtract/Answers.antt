@@ -1,9 +1,10 @@
 use Rattle.std.proofs.Common.{◌≡◌, ◌+◌, ◌-◌, ◌<◌, length, get_or, take, drop, refl, ap, ap₂, sym, ◌∙◌, arith}
-use Rattle.std.proofs.lemmas.List.{length-set, get_or-set_other, get_or_default}
+use Rattle.std.proofs.lemmas.List.{length-take-le, length-drop, length-set, get_or-set_other, get_or_default}
 use Rattle.std.proofs.lemmas.List.Elements.{All-set}
 use Rattle.pet_poly.specs.Rows.{words}
 use Rattle.pet_poly.specs.laws.RowLaws.{word_at}
 use Rattle.pet_rows.specs.laws.PlaceLaws.{more_rows, filled}
+use Rattle.pet_interp.proofs.Places.{row_inside}
 use Rattle.pet_interp.proofs.rows.subtract.Goals as goal
 
 pub loop-c-preserved : goal.loop-c-preserved
@@ -49,3 +50,34 @@ sub-requires g c = record {
   first = c.read.ensures.element;
   second = rw c.index-row-c.is (c.loop-c.invariant.elements c.loop-c.c c.index-row-c.result (omega (arith, c.loop-c.invariant.long)));
 }
+
+pub overflow_add-end : goal.overflow_add-end
+overflow_add-end g c =
+    let i = c.loop-c.invariant in
+    omega (arith, g.met.F.Field.wide, i.at, row_inside g.F.Field.coding.width (length c.args.row.now) c.loop-c.c (length c.args.values.now) c.requires.values (omega arith))
+
+pub slice_bounds-read-count : goal.slice_bounds-read-count
+slice_bounds-read-count g c = omega arith
+
+pub slice_bounds-read-end : goal.slice_bounds-read-end
+slice_bounds-read-end g c =
+    let i = c.loop-c.invariant in
+    omega (arith, g.met.F.Field.wide, i.at, row_inside g.F.Field.coding.width (length c.args.row.now) c.loop-c.c (length c.args.values.now) c.requires.values (omega arith))
+
+pub read-requires : goal.read-requires
+read-requires g c =
+    let at = c.loop-c.at in
+    let size = at + c.WIDTH.result - at in
+    let i = c.loop-c.invariant in
+    length-take-le size (drop at c.args.values.now)
+    (omega (arith, length-drop at c.args.values.now, g.met.F.Field.wide, i.at, row_inside g.F.Field.coding.width (length c.args.row.now) c.loop-c.c (length c.args.values.now) c.requires.values (omega arith)))
+    ∙ omega (arith, g.met.F.Field.wide)
+
+pub bounds-row-c : goal.bounds-row-c
+bounds-row-c g c = omega (arith, c.loop-c.invariant.long)
+
+pub bounds-row-c-in-loop-c : goal.bounds-row-c-in-loop-c
+bounds-row-c-in-loop-c g c = omega (arith, c.loop-c.invariant.long)
+
+pub loop-c-smaller : goal.loop-c-smaller
+loop-c-smaller g c = omega arith

@@ -1,4 +1,4 @@
-use Rattle.std.proofs.Common.{◌≡◌, ◌∙◌, ◌*◌, true, All, length, map, ap, sym, arith, subst}
+use Rattle.std.proofs.Common.{◌≡◌, ◌∙◌, ◌*◌, true, All, length, map, ap, refl, sym, arith, subst}
 use Rattle.std.specs.Vec.{with_items}
 use Rattle.std.proofs.lemmas.List.{with_items_is}
 use Rattle.std.proofs.lemmas.List.Elements.{All-same}
@@ -69,3 +69,30 @@ returns-else-met-self-clause-stripes g c =
     let factors = map g.F.Rows.element_of c.args.factors.now in
     subst (λ (v : HeldBlock g.row.F-Elem.Denot). v.stripes ≡ map (grown F.coding.ops c.args.met c.args.from factors) v.stripes) c.self.view_is
     (sym (grown_none F.coding.ops c.args.met c.args.from factors _ (All F.is_element) b.size c.if-met-self.false each))
+
+pub add_rows-requires-clause-narrow : goal.add_rows-requires-clause-narrow
+add_rows-requires-clause-narrow g c = c.self.invariant.narrow
+
+pub add_rows-requires-clause-longer : goal.add_rows-requires-clause-longer
+add_rows-requires-clause-longer g c = c.if-met-self.true
+
+pub add_rows-requires-clause-room : goal.add_rows-requires-clause-room
+add_rows-requires-clause-room g c = c.requires.room
+
+pub add_rows-requires-clause-factors : goal.add_rows-requires-clause-factors
+add_rows-requires-clause-factors g c = c.requires.factors
+
+pub returns-then-met-self-clause-size : goal.returns-then-met-self-clause-size
+returns-then-met-self-clause-size g c = ap (λ (v : HeldBlock g.row.F-Elem.Denot). v.size) c.self.view_is
+
+pub returns-then-met-self-clause-waits : goal.returns-then-met-self-clause-waits
+returns-then-met-self-clause-waits g c = ap (λ (v : HeldBlock g.row.F-Elem.Denot). v.waits) c.self.view_is
+
+pub returns-else-met-self-clause-size : goal.returns-else-met-self-clause-size
+returns-else-met-self-clause-size g c = refl
+
+pub returns-else-met-self-clause-waits : goal.returns-else-met-self-clause-waits
+returns-else-met-self-clause-waits g c = refl
+
+pub returns-else-met-self-clause-cost : goal.returns-else-met-self-clause-cost
+returns-else-met-self-clause-cost g c = omega arith

@@ -1,4 +1,4 @@
-use Rattle.std.proofs.Common.{◌≡◌, ◌∙◌, ◌+◌, ◌*◌, true, All, length, ap, sym, arith, subst}
+use Rattle.std.proofs.Common.{◌≡◌, ◌∙◌, ◌+◌, ◌*◌, true, All, length, ap, refl, sym, arith, subst}
 use Rattle.std.specs.Vec.{with_items}
 use Rattle.std.proofs.lemmas.List.{with_items_is}
 use Rattle.std.proofs.lemmas.List.Elements.{All-same}
@@ -84,3 +84,30 @@ returns-else-met-self-clause-stripes g c =
     let i = g.F.Rows.element_of c.args.inverse.now in
     subst (λ (v : HeldBlock g.row.F-Elem.Denot). v.stripes ≡ begun_all F.coding.ops c.args.met x i v.stripes (words F.coding.spelt F.coding.width (length v.stripes) c.args.values.now)) c.self.view_is
     (sym (begun_none F.coding.ops c.args.met x i _ _ (All F.is_element) b.size c.if-met-self.false each))
+
+pub begin_row-requires-clause-narrow : goal.begin_row-requires-clause-narrow
+begin_row-requires-clause-narrow g c = c.self.invariant.narrow
+
+pub begin_row-requires-clause-longer : goal.begin_row-requires-clause-longer
+begin_row-requires-clause-longer g c = c.if-met-self.true
+
+pub begin_row-requires-clause-point : goal.begin_row-requires-clause-point
+begin_row-requires-clause-point g c = c.requires.point
+
+pub begin_row-requires-clause-inverse : goal.begin_row-requires-clause-inverse
+begin_row-requires-clause-inverse g c = c.requires.inverse
+
+pub returns-then-met-self-clause-size : goal.returns-then-met-self-clause-size
+returns-then-met-self-clause-size g c = ap (λ (v : HeldBlock g.row.F-Elem.Denot). v.size) c.self.view_is
+
+pub returns-then-met-self-clause-waits : goal.returns-then-met-self-clause-waits
+returns-then-met-self-clause-waits g c = ap (λ (v : HeldBlock g.row.F-Elem.Denot). v.waits) c.self.view_is
+
+pub returns-else-met-self-clause-size : goal.returns-else-met-self-clause-size
+returns-else-met-self-clause-size g c = refl
+
+pub returns-else-met-self-clause-waits : goal.returns-else-met-self-clause-waits
+returns-else-met-self-clause-waits g c = refl
+
+pub returns-else-met-self-clause-cost : goal.returns-else-met-self-clause-cost
+returns-else-met-self-clause-cost g c = omega arith

@@ -1,4 +1,4 @@
-use Rattle.std.proofs.Common.{◌≡◌, ◌∙◌, ap, sym, arith, subst, ◌+◌, ◌-◌, ◌<◌, ◌++◌, All, refl, length, map, take, drop}
+use Rattle.std.proofs.Common.{◌≡◌, ◌∙◌, ap, sym, arith, subst, ◌+◌, ◌-◌, ◌*◌, ◌<◌, ◌≤◌, ◌++◌, All, refl, length, map, take, drop}
 use Rattle.std.specs.Vec.{with_items}
 use Rattle.std.proofs.lemmas.List.{with_items_is}
 use Rattle.std.proofs.lemmas.List.Elements.{All-from_get_or, All-same}
@@ -6,7 +6,7 @@ use Rattle.pet_poly.specs.InPlace.{linear_product}
 use Rattle.pet_poly.specs.Rows.{words}
 use Rattle.pet_poly.specs.laws.InPlaceLaws.{linear_front}
 use Rattle.pet_poly.specs.laws.RowLaws.{length-words, words_are}
-use Rattle.interpolation.specs.Progressive.{Held, StandsFor}
+use Rattle.interpolation.specs.Progressive.{Held, StandsFor, step_bound}
 use Rattle.pet_interp.specs.Blocks.{IsBlock, stripes_in}
 use Rattle.pet_interp.proofs.Grown.{longest_same}
 use Rattle.pet_interp.proofs.Added.{weight_of, stands_added}
@@ -113,3 +113,33 @@ returns-clause-stands g c points st ne =
 
 pub returns-clause-met : goal.returns-clause-met
 returns-clause-met g c = ap (λ (v : Held g.row.F-Elem.Denot). v.met + 1) c.self.view_is
+
+pub advance-requires-clause-products : goal.advance-requires-clause-products
+advance-requires-clause-products g c = All-same g.F.Field.is_element c.deref_mut-2.result.now c.self.inside.product.items c.deref_mut-2.ensures.value c.self.invariant.products
+
+pub advance-requires-clause-some : goal.advance-requires-clause-some
+advance-requires-clause-some g c =
+    λ l. rw (ap length c.deref_mut-3.ensures.value) (c.self.invariant.some (rw (ap length (sym c.deref_mut-2.ensures.value)) l))
+
+pub advance-requires-clause-point : goal.advance-requires-clause-point
+advance-requires-clause-point g c = c.requires.point
+
+pub advance-requires-clause-width : goal.advance-requires-clause-width
+advance-requires-clause-width g c =
+    c.requires.width
+    ∙ ap (λ n. n * g.F.Field.coding.width)
+    (ap (λ (v : Held g.row.F-Elem.Denot). length v.stripes) (sym c.self.view_is) ∙ ap (λ t. length (stripes_in t)) (sym c.deref_mut.ensures.value))
+
+pub overflow_add-met : goal.overflow_add-met
+overflow_add-met g c = omega (arith, c.requires.few, ap (λ (v : Held g.row.F-Elem.Denot). v.met) c.self.view_is)
+
+pub overflow_add-self : goal.overflow_add-self
+overflow_add-self g c = omega (arith, c.requires.few, ap (λ (v : Held g.row.F-Elem.Denot). v.met) c.self.view_is)
+
+pub turn_back-requires-clause-some : goal.turn_back-requires-clause-some
+turn_back-requires-clause-some g c = omega arith
+
+pub returns-clause-cost : goal.returns-clause-cost
+returns-clause-cost g c =
+    subst (λ (v : Held g.row.F-Elem.Denot). c.advance.new.steps ≤ c.args.steps.now + step_bound v.met (map length v.stripes)) c.self.view_is
+    (subst (λ t. c.advance.new.steps ≤ c.args.steps.now + step_bound c.self.inside.met (map length (stripes_in t))) c.deref_mut.ensures.value c.advance.ensures.cost)
