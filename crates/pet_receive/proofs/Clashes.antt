@@ -4,14 +4,13 @@ use Rattle.std.proofs.Common.{◌≡◌, ℕ, ◌+◌, ◌≤◌, cond, Bool, tr
 use Rattle.std.proofs.lemmas.List.Sums.{sum_by-cons}
 use Rattle.packet_set.specs.Packets.{Packets}
 use Rattle.kept_sets.specs.KeptSet.{cost_in}
-use Rattle.pet_receive.specs.Arrivals.{GroupState}
 use Rattle.kept_sets.specs.Union.{first_past}
 use Rattle.kept_sets.specs.GroupClash.{first_clash_in}
 use Rattle.pet_receive.specs.Joining.{packets_at, clash_or, clash_from, new_of, cost_beside}
 
-module _ {E : Type 0} (mine : List (ℕ × GroupState E)) where
-  pub clash_next : (told : Option ℕ) (e : ℕ × GroupState E) (rest : List (ℕ × GroupState E))
-      → clash_from told mine (e ∷ rest) ≡ clash_or e.0 (first_clash_in told (packets_at mine e.0) e.1.packets) (clash_from told mine rest)
+module _ (mine : List (ℕ × Packets)) where
+  pub clash_next : (told : Option ℕ) (e : ℕ × Packets) (rest : List (ℕ × Packets))
+      → clash_from told mine (e ∷ rest) ≡ clash_or e.0 (first_clash_in told (packets_at mine e.0) e.1) (clash_from told mine rest)
   unfolding clash_from
   clash_next told e rest = refl
 
@@ -40,9 +39,9 @@ module _ {E : Type 0} (mine : List (ℕ × GroupState E)) where
         omega (arith, f.0, sum_by-cons (λ (x : ℕ × Packets). cost_in x.1) e rest),
       )
 
-  pub beside_next : (limit t m : ℕ) (e : ℕ × GroupState E) (rest : List (ℕ × GroupState E)) → t ≤ limit → cost_beside limit t (is_none (packets_at mine e.0)) (cost_in e.1.packets) ≡ Some m
+  pub beside_next : (limit t m : ℕ) (e : ℕ × Packets) (rest : List (ℕ × Packets)) → t ≤ limit → cost_beside limit t (is_none (packets_at mine e.0)) (cost_in e.1) ≡ Some m
       → (m ≤ limit) × (first_past limit t (new_of mine (e ∷ rest)) ≡ first_past limit m (new_of mine rest)) × (t + sum_by (λ x. cost_in x.1) (new_of mine (e ∷ rest)) ≡ m + sum_by (λ x. cost_in x.1) (new_of mine rest))
-  beside_next limit t m e rest room is = next_by limit t m (e.0, e.1.packets) (new_of mine rest) room (is_none (packets_at mine e.0)) is
+  beside_next limit t m e rest room is = next_by limit t m e (new_of mine rest) room (is_none (packets_at mine e.0)) is
 
   stop_past : (limit t n : ℕ) (b : Bool) → (if b then None else Some (t + n)) ≡ None → b ≡ true
   stop_past limit t n true e = refl
@@ -53,9 +52,9 @@ module _ {E : Type 0} (mine : List (ℕ × GroupState E)) where
   stop_by limit t e rest false is = absurd (cc)
   stop_by limit t e rest true is = ap (λ b. if b then Some e.0 else first_past limit (t + cost_in e.1) rest) (stop_past limit t (cost_in e.1) (nat_lt limit (t + cost_in e.1)) is)
 
-  pub beside_stop : (limit t : ℕ) (e : ℕ × GroupState E) (rest : List (ℕ × GroupState E)) → cost_beside limit t (is_none (packets_at mine e.0)) (cost_in e.1.packets) ≡ None
+  pub beside_stop : (limit t : ℕ) (e : ℕ × Packets) (rest : List (ℕ × Packets)) → cost_beside limit t (is_none (packets_at mine e.0)) (cost_in e.1) ≡ None
       → first_past limit t (new_of mine (e ∷ rest)) ≡ Some e.0
-  beside_stop limit t e rest is = stop_by limit t (e.0, e.1.packets) (new_of mine rest) (is_none (packets_at mine e.0)) is
+  beside_stop limit t e rest is = stop_by limit t e (new_of mine rest) (is_none (packets_at mine e.0)) is
 
   pub past_end : (limit t : ℕ) → first_past limit t (new_of mine []) ≡ None
   unfolding first_past

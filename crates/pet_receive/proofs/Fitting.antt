@@ -58,30 +58,30 @@ or_map f (Some x) y = refl
 -- ---- of all groups
 
 module _ {E : Type 0} (r : ReceiverState E) (told : Option ℕ) (kept : IsKeptSet (kept_set r)) (is : told ≡ told_by (kept_set r)) where
-  clash_same : (h : Header) (k n : ℕ) (x : List ℕ) → h.group ≡ k → clashes (kept_set r) (fields_with h n x) ≡ clashes_by told (packets_at r.groups k) h n x
+  clash_same : (h : Header) (k n : ℕ) (x : List ℕ) → h.group ≡ k → clashes (kept_set r) (fields_with h n x) ≡ clashes_by told (packets_at (packets_of r.groups) k) h n x
   clash_same h k n x group =
       let f : Fields = fields_with h n x in
       let other : Option ℕ → Bool = λ o. option_map_or (λ m. not (m == h.groups)) o false in
       let count : tells_other_count (kept_set r) f ≡ other told = count_told (kept_set r) kept f ∙ ap other (sym is) in
-      let table : ℕ → Bool = λ j. option_map_or (λ (p : Packets). not (same_table p.header.table h.table)) (packets_at r.groups j) false in
-      let payload : ℕ → Bool = λ j. is_other_payload (packets_at r.groups j) n x in
+      let table : ℕ → Bool = λ j. option_map_or (λ (p : Packets). not (same_table p.header.table h.table)) (packets_at (packets_of r.groups) j) false in
+      let payload : ℕ → Bool = λ j. is_other_payload (packets_at (packets_of r.groups) j) n x in
       ap (λ b. b || table h.group || payload h.group) count ∙ ap (λ j. other told || table j || payload j) group
 
   clash_all : (ts : List (ℕ × GroupState E)) → AllByRecursion (λ e. e.1.packets.header.group ≡ e.0) ts
-      → clash_from told r.groups ts ≡ option_map clash_of (find (clashes (kept_set r)) (flat_map (λ (e : ℕ × Packets). frames_in_group e.1) (packets_of ts)))
-  clash_all [] h = clash_end r.groups told
+      → clash_from told (packets_of r.groups) (packets_of ts) ≡ option_map clash_of (find (clashes (kept_set r)) (flat_map (λ (e : ℕ × Packets). frames_in_group e.1) (packets_of ts)))
+  clash_all [] h = clash_end (packets_of r.groups) told
   clash_all (e ∷ rest) h =
       let p = e.1.packets in
       let s : Fields → Bool = clashes (kept_set r) in
-      let t : Fields → Bool = λ f. clashes_by told (packets_at r.groups e.0) p.header f.number f.payload in
+      let t : Fields → Bool = λ f. clashes_by told (packets_at (packets_of r.groups) e.0) p.header f.number f.payload in
       let more = flat_map (λ (x : ℕ × Packets). frames_in_group x.1) (packets_of rest) in
-      clash_next r.groups told e rest
-      ∙ in_group p e.0 h.0 s t (λ n x. clash_same p.header e.0 n x h.0) (clash_from told r.groups rest) (range_with_len 0 (length p.slots))
+      clash_next (packets_of r.groups) told (e.0, e.1.packets) (packets_of rest)
+      ∙ in_group p e.0 h.0 s t (λ n x. clash_same p.header e.0 n x h.0) (clash_from told (packets_of r.groups) (packets_of rest)) (range_with_len 0 (length p.slots))
       ∙ ap (option_or (option_map clash_of (find s (frames_in_group p)))) (clash_all rest h.1)
       ∙ or_map clash_of (find s (frames_in_group p)) (find s more)
       ∙ ap (option_map clash_of) (sym (find-append s (frames_in_group p) more))
 
-  pub clash_is : (o : ReceiverState E) → IsKeptSet (kept_set o) → clash_from told r.groups o.groups ≡ option_map clash_of (first_clash (kept_set r) (kept_set o))
+  pub clash_is : (o : ReceiverState E) → IsKeptSet (kept_set o) → clash_from told (packets_of r.groups) (packets_of o.groups) ≡ option_map clash_of (first_clash (kept_set r) (kept_set o))
   clash_is o other =
       let rises : Rises o.groups = subst (IsStrictlySortedBy nat_cmp) (keys_values (λ (g : GroupState E). g.packets) o.groups) other.rising in
       clash_all o.groups (recursion_from_All (λ (e : ℕ × GroupState E). e.1.packets.header.group ≡ e.0) o.groups

@@ -23,7 +23,7 @@ use Rattle.kept_sets.specs.KeptSet.{KeptSet, IsKeptSet, open_group, payload_of, 
 use Rattle.kept_sets.specs.Verdicts.{tells_other_count, clashes, is_too_much, newly_shown, frame_verdict, layer_set, shown_between, is_kept}
 use Rattle.pet_receive.specs.Arrivals.{GroupState, ReceiverState, Order, HoldsAfter, HasKept, kept_set, state_of, numbers_of}
 use Rattle.kept_sets.specs.GroupVerdict.{verdict_at, verdict_in}
-use Rattle.pet_receive.specs.Receiving.{IsReceiver, IsReadyFor, HasGrown, verdict_new}
+use Rattle.pet_receive.specs.Receiving.{IsReceiver, IsReadyFor, HasGrown, verdict_new, verdict_by}
 use Rattle.kept_sets.specs.laws.EntryLaws.{lookup_here, lookup_other, lookup_values, insert_values, all_found}
 use Rattle.kept_sets.specs.laws.ToldLaws.{open_tells}
 use Rattle.kept_sets.specs.laws.KeptSetLaws.{IsKeepable, keepable, keep_sound, open_here, header_with, cost_opened, cost_same}
@@ -91,11 +91,17 @@ rest_some set f p = rest_some_by f (same_table p.header.table (header_of f).tabl
 pub is_clash : (set : KeptSet) (f : Fields) → bytes_eq f.session set.session ≡ true → tells_other_count set f ≡ true → frame_verdict set f ≡ Clash
 is_clash set f e t = is_rest set f e ∙ ap (λ b. rest_of set f b (open_group set f.group)) t ∙ rest_clash set f (open_group set f.group)
 
-pub is_new : (set : KeptSet) (f : Fields) → bytes_eq f.session set.session ≡ true → tells_other_count set f ≡ false → open_group set f.group ≡ None → frame_verdict set f ≡ verdict_new f set.limit (cost_kept set)
+is_new : (set : KeptSet) (f : Fields) → bytes_eq f.session set.session ≡ true → tells_other_count set f ≡ false → open_group set f.group ≡ None → frame_verdict set f ≡ verdict_new f set.limit (cost_kept set)
 is_new set f e t none = is_rest set f e ∙ ap₂ (λ b p. rest_of set f b p) t none ∙ rest_none set f
 
-pub is_in : (set : KeptSet) (f : Fields) (p : Packets) → bytes_eq f.session set.session ≡ true → tells_other_count set f ≡ false → open_group set f.group ≡ Some p → frame_verdict set f ≡ verdict_in f p
+is_in : (set : KeptSet) (f : Fields) (p : Packets) → bytes_eq f.session set.session ≡ true → tells_other_count set f ≡ false → open_group set f.group ≡ Some p → frame_verdict set f ≡ verdict_in f p
 is_in set f p e t opened = is_rest set f e ∙ ap₂ (λ b o. rest_of set f b o) t opened ∙ rest_some set f p
+
+-- by what is kept of the frame's group
+pub is_by : (set : KeptSet) (f : Fields) → bytes_eq f.session set.session ≡ true → tells_other_count set f ≡ false → (o : Option Packets) → open_group set f.group ≡ o
+    → frame_verdict set f ≡ verdict_by f o set.limit (cost_kept set)
+is_by set f same told None closed = is_new set f same told closed
+is_by set f same told (Some p) opened = is_in set f p same told opened
 
 -- ---- one pair more in an order
 

@@ -57,13 +57,12 @@ sum_states f (e ∷ es) =
 pub sum_is : {E : Type 0} (f : Packets → ℕ) (es : List (ℕ × GroupState E)) → sum_by (λ g. f g.packets) (values_of es) ≡ sum_by (λ (e : ℕ × Packets). f e.1) (map (λ e. (e.0, e.1.packets)) es)
 sum_is f es = sum_states f es
 
--- a sum that has come as far as a state: with this one, and that it is at most the whole
-pub sum_more : {E : Type 0} (f : Packets → ℕ) (total one whole : ℕ) (it : List (GroupState E)) (s : GroupState E) (rest : List (GroupState E)) → it ≡ s ∷ rest → one ≡ f s.packets
-    → total + sum_by (λ g. f g.packets) it ≡ whole → (total + one + sum_by (λ g. f g.packets) rest ≡ whole) × (total + one ≤ whole)
-sum_more f total one whole it s rest is here so =
-    let value : GroupState _ → ℕ = λ g. f g.packets in
-    let first = sum_by-cons value s rest in
-    let same = ap (sum_by value) is in
+-- a sum over a list that has come as far as an item: with this one, and that it is at most the whole
+pub sum_more : {X : Type 0} (f : X → ℕ) (total one whole : ℕ) (it : List X) (x : X) (rest : List X) → it ≡ x ∷ rest → one ≡ f x
+    → total + sum_by f it ≡ whole → (total + one + sum_by f rest ≡ whole) × (total + one ≤ whole)
+sum_more f total one whole it x rest is here so =
+    let first = sum_by-cons f x rest in
+    let same = ap (sum_by f) is in
     (omega arith, omega arith)
 
 -- ---- the frames of an open group

@@ -17,13 +17,17 @@ use Rattle.kept_sets.specs.Union.{join_group, is_new, new_numbers}
 use Rattle.kept_sets.specs.declared.union.Absorb.{Absorb}
 use Rattle.kept_sets.specs.declared.union.Absorb.TheVariants.{Clash}
 
+-- the packets of groups, where each has them so
+abbrev pub packets_by : {G : Type 0} → (G → Packets) → List (ℕ × G) → List (ℕ × Packets)
+packets_by kept es = map (λ e. (e.0, kept e.1)) es
+
 -- the packets of open groups
 abbrev pub packets_of : {E : Type 0} → List (ℕ × GroupState E) → List (ℕ × Packets)
-packets_of es = map (λ e. (e.0, e.1.packets)) es
+packets_of es = packets_by (λ g. g.packets) es
 
 -- the packets of one of them, where it is open
-abbrev pub packets_at : {E : Type 0} → List (ℕ × GroupState E) → ℕ → Option Packets
-packets_at es group = lookup (is_at (nat_cmp group)) (packets_of es)
+abbrev pub packets_at : List (ℕ × Packets) → ℕ → Option Packets
+packets_at es group = lookup (is_at (nat_cmp group)) es
 
 -- ---- the checks
 
@@ -32,24 +36,24 @@ abbrev pub clash_or : ℕ → Option ℕ → Option Absorb → Option Absorb
 clash_or group None later = later
 clash_or group (Some number) later = Some (Clash group number)
 
-unfoldable pub clash_from : {E : Type 0} → Option ℕ → List (ℕ × GroupState E) → List (ℕ × GroupState E) → Option Absorb
+unfoldable pub clash_from : Option ℕ → List (ℕ × Packets) → List (ℕ × Packets) → Option Absorb
 clash_from told mine [] = None
-clash_from told mine (e ∷ rest) = clash_or e.0 (first_clash_in told (packets_at mine e.0) e.1.packets) (clash_from told mine rest)
+clash_from told mine (e ∷ rest) = clash_or e.0 (first_clash_in told (packets_at mine e.0) e.1) (clash_from told mine rest)
 
 -- the other's groups that are not open here
-abbrev pub new_of : {E : Type 0} → List (ℕ × GroupState E) → List (ℕ × GroupState E) → List (ℕ × Packets)
-new_of mine theirs = filter (λ e. is_none (lookup (is_at (nat_cmp e.0)) (packets_of mine))) (packets_of theirs)
+abbrev pub new_of : List (ℕ × Packets) → List (ℕ × Packets) → List (ℕ × Packets)
+new_of mine theirs = filter (λ e. is_none (packets_at mine e.0)) theirs
 
 -- what the open groups cost with one that costs `more`, if it is not open; nothing where that passes the limit
 unfoldable pub cost_beside : ℕ → ℕ → Bool → ℕ → Option ℕ
 cost_beside limit cost closed more = if not closed then Some cost else if nat_lt limit (cost + more) then None else Some (cost + more)
 
 -- the layers that are shown by all that is kept here or there, and not by what is kept here
-abbrev pub shown_at : {E : Type 0} → List (ℕ × GroupState E) → ℕ × Packets → List (ℕ × ℕ)
+abbrev pub shown_at : List (ℕ × Packets) → ℕ × Packets → List (ℕ × ℕ)
 shown_at mine e = map (λ layer. (e.0, layer)) (shown_by_both (packets_at mine e.0) e.1)
 
-abbrev pub shown_by : {E : Type 0} → List (ℕ × GroupState E) → List (ℕ × GroupState E) → List (ℕ × ℕ)
-shown_by mine theirs = flat_map (shown_at mine) (packets_of theirs)
+abbrev pub shown_by : List (ℕ × Packets) → List (ℕ × Packets) → List (ℕ × ℕ)
+shown_by mine theirs = flat_map (shown_at mine) theirs
 
 -- ---- the room
 

@@ -3,4 +3,5 @@ pub mod ShownBytes
 pub mod Receiving
 pub mod UnionSteps
 pub mod Joining
+pub mod Counted
 pub mod laws

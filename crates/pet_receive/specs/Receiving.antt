@@ -6,17 +6,22 @@ use Rattle.std.specs.Map.{lookup}
 use Rattle.pet_base.specs.declared.limits.TheConstants.{MAX_PACKETS}
 use Rattle.pet_field.specs.Field.{Coding}
 use Rattle.packet_frame.specs.Frame.{Fields}
-use Rattle.packet_set.specs.Packets.{slot_at, with_packet, no_packets}
+use Rattle.packet_set.specs.Packets.{Packets, slot_at, with_packet, no_packets}
 use Rattle.stripe_plan.specs.Sizes.{cost_of}
 use Rattle.kept_sets.specs.declared.verdict.Verdict.{Verdict}
 use Rattle.kept_sets.specs.declared.verdict.Verdict.TheVariants.{Full}
 use Rattle.kept_sets.specs.KeptSet.{IsKeptSet, cost_kept, told_by, header_of}
-use Rattle.kept_sets.specs.GroupVerdict.{shows_next}
+use Rattle.kept_sets.specs.GroupVerdict.{verdict_in, shows_next}
 use Rattle.pet_receive.specs.Arrivals.{GroupState, ReceiverState, Order, HoldsAfter, kept_set, HasKept}
 
 -- where its group is not open
 abbrev pub verdict_new : Fields → ℕ → ℕ → Verdict
 verdict_new f limit cost = if nat_lt limit (cost + cost_of f.packets f.layers) then Full else shows_next f 0
+
+-- by what is kept of its group
+abbrev pub verdict_by : Fields → Option Packets → ℕ → ℕ → Verdict
+verdict_by f None limit cost = verdict_new f limit cost
+verdict_by f (Some p) limit cost = verdict_in f p
 
 module _ {E : Type 0} (is_element : E → Type 0) (c : Coding E) where
   -- a frame can be kept next: where its group is open, it has the group's table and its number is not kept

@@ -2,23 +2,23 @@
 ghost use Rattle.std.specs.Prelude.{◌≡◌, ◌+◌, ◌≤◌, is_none, None, Some, option_copied, IfOk, OnOk, IfErr, sum_by};
 ghost use Rattle.kept_sets.specs.KeptSet.{cost_in};
 ghost use Rattle.kept_sets.specs.Union.{first_past};
-ghost use Rattle.pet_receive.specs.Joining.{packets_at, clash_from, new_of, cost_beside};
+ghost use Rattle.pet_receive.specs.Joining.{packets_by, packets_at, clash_from, new_of, cost_beside};
 
+use crate::has_packets::HasPackets;
 use kept_sets::{Absorb, clash_in};
-use open_group::OpenGroup;
 use packet_set::PacketSet;
 use pet_encode::group_cost;
-use pet_rows::Rows;
 use std::collections::BTreeMap;
 
 /// The first packet of the other's, by group, then number, that clashes with what is kept here, where `told` is the
 /// number of groups that the packets here tell.
-pub(crate) fn find_clash<F: Rows>(
+pub(crate) fn find_clash<G: HasPackets>(
     told: Option<u32>,
-    groups: &BTreeMap<u32, OpenGroup<'_, F>>,
-    others: &BTreeMap<u32, OpenGroup<'_, F>>,
+    groups: &BTreeMap<u32, G>,
+    others: &BTreeMap<u32, G>,
 ) -> Option<Absorb>
-    ensures { result ≡ clash_from told groups.now.entries others.now.entries }
+    ensures { result ≡ clash_from told (packets_by G.kept groups.now.entries)
+        (packets_by G.kept others.now.entries) }
 {
     for (group, other) in others.iter() {
         if let Some(number) = clash_in(told, packets_in(groups, *group), other.packets()) {
@@ -30,19 +30,22 @@ pub(crate) fn find_clash<F: Rows>(
 
 /// What the open groups cost with the other's that are not open here, or the first of these with which they would cost
 /// more than the limit.
-pub(crate) fn cost_with<F: Rows>(
-    groups: &BTreeMap<u32, OpenGroup<'_, F>>,
-    others: &BTreeMap<u32, OpenGroup<'_, F>>,
+pub(crate) fn cost_with<G: HasPackets>(
+    groups: &BTreeMap<u32, G>,
+    others: &BTreeMap<u32, G>,
     limit: u64,
     cost: u64,
 ) -> Result<u64, u32>
     requires { cost ≤ limit }
     ensures full { IfErr result (λ group. first_past limit cost
-        (new_of groups.now.entries others.now.entries) ≡ Some group) }
+        (new_of (packets_by G.kept groups.now.entries)
+        (packets_by G.kept others.now.entries)) ≡ Some group) }
     ensures fits { OnOk result (first_past limit cost
-        (new_of groups.now.entries others.now.entries) ≡ None) }
+        (new_of (packets_by G.kept groups.now.entries)
+        (packets_by G.kept others.now.entries)) ≡ None) }
     ensures total { IfOk result (λ total. total ≡ cost
-        + sum_by (λ e. cost_in e.1) (new_of groups.now.entries others.now.entries)) }
+        + sum_by (λ e. cost_in e.1) (new_of (packets_by G.kept groups.now.entries)
+        (packets_by G.kept others.now.entries))) }
 {
     let mut total = cost;
     for (group, other) in others.iter() {
@@ -55,11 +58,11 @@ pub(crate) fn cost_with<F: Rows>(
 }
 
 /// The packets of a group, where it is open.
-pub(crate) fn packets_in<'a, F: Rows>(
-    groups: &'a BTreeMap<u32, OpenGroup<'_, F>>,
+pub(crate) fn packets_in<'a, G: HasPackets>(
+    groups: &'a BTreeMap<u32, G>,
     group: u32,
 ) -> Option<&'a PacketSet>
-    ensures { option_copied result ≡ packets_at groups.now.entries group }
+    ensures { option_copied result ≡ packets_at (packets_by G.kept groups.now.entries) group }
 {
     match groups.get(&group) {
         Some(open) => Some(open.packets()),

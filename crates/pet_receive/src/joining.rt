@@ -5,8 +5,9 @@ ghost use Rattle.packet_set.specs.Packets.{count_in};
 ghost use Rattle.interpolation.specs.Progressive.{step_bound};
 ghost use Rattle.pet_receive.specs.Arrivals.{GroupState, HoldsAfter, layers_of, stripe_lengths};
 ghost use Rattle.kept_sets.specs.Union.{is_new};
-ghost use Rattle.pet_receive.specs.Joining.{OpensAll, IsReadyAt, IsFillable, HasFilled, CanJoin, JoinsOne, JoinsAll, with_theirs, shown_by};
+ghost use Rattle.pet_receive.specs.Joining.{OpensAll, IsReadyAt, IsFillable, HasFilled, CanJoin, JoinsOne, JoinsAll, with_theirs, packets_of, shown_by};
 
+use crate::has_packets::HasPackets;
 use crate::opening::open_missing;
 use crate::shown::newly_shown;
 use open_group::OpenGroup;
@@ -31,7 +32,8 @@ pub(crate) fn take_in<'f, F: Rows, L: Ledger>(
     requires some { All (λ e. nat_lt 0 (count_in e.1.packets) ≡ true) groups.old.entries }
     requires ready { (opened : List (ℕ × GroupState F.Elem)) → OpensAll F.is_element F.coding groups.old.entries others.now.entries opened
         → CanJoin F.is_element F.coding opened others.now.entries }
-    ensures shown { IfOk result (λ shown. shown.items ≡ shown_by groups.old.entries others.now.entries) }
+    ensures shown { IfOk result (λ shown. shown.items ≡ shown_by (packets_of groups.old.entries)
+        (packets_of others.now.entries)) }
     ensures joined { OnOk result ((opened : List (ℕ × GroupState F.Elem)) × OpensAll F.is_element F.coding groups.old.entries others.now.entries opened
         × JoinsAll F.is_element F.coding opened steps.old others.now.entries groups.new.entries steps.new) }
     ensures err { OnErr result ((groups.new.entries ≡ groups.old.entries) × (steps.new ≡ steps.old)) }
@@ -80,9 +82,9 @@ fn open_each<'f, F: Rows>(
 }
 
 /// Takes out the groups that have no packet.
-fn close_empty<'f, F: Rows>(groups: &mut BTreeMap<u32, OpenGroup<'f, F>>)
+fn close_empty<G: HasPackets + Drop>(groups: &mut BTreeMap<u32, G>)
     ensures { groups.new.entries
-        ≡ filter (λ e. nat_lt 0 (count_in e.1.packets)) groups.old.entries }
+        ≡ filter (λ e. nat_lt 0 (count_in (G.kept e.1))) groups.old.entries }
 {
     groups.retain(|_, open| open.packets().len() > 0);
 }

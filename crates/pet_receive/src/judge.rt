@@ -1,14 +1,31 @@
-//! The verdict of a frame whose group is not open.
-ghost use Rattle.std.specs.Prelude.{◌≡◌, ◌≤◌};
+//! The verdict of a frame by what is kept of its group, or where its group is not open.
+ghost use Rattle.std.specs.Prelude.{◌≡◌, ◌≤◌, option_copied};
 ghost use Rattle.packet_frame.specs.View.{view};
-ghost use Rattle.pet_receive.specs.Receiving.{verdict_new};
+ghost use Rattle.pet_receive.specs.Receiving.{verdict_by, verdict_new};
 
-use kept_sets::{Verdict, shown_next};
+use kept_sets::{Verdict, judge_in, shown_next};
 use packet_frame::Frame;
+use packet_set::PacketSet;
 use pet_encode::group_cost;
 
+/// The verdict by what is kept of the frame's group. The open groups cost `cost`, at most `limit`.
+pub(crate) fn judge_group(
+    mine: Option<&PacketSet>,
+    frame: &Frame<'_>,
+    limit: u64,
+    cost: u64,
+) -> Verdict
+    requires { cost ≤ limit }
+    ensures { result ≡ verdict_by (view frame.now) (option_copied mine.entry) limit cost }
+{
+    match mine {
+        Some(packets) => judge_in(packets, frame),
+        None => judge_new(frame, limit, cost),
+    }
+}
+
 /// The verdict where the group is not open. The open groups cost `cost`, at most `limit`.
-pub(crate) fn judge_new(frame: &Frame<'_>, limit: u64, cost: u64) -> Verdict
+fn judge_new(frame: &Frame<'_>, limit: u64, cost: u64) -> Verdict
     requires { cost ≤ limit }
     ensures { result ≡ verdict_new (view frame.now) limit cost }
 {

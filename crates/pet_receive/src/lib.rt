@@ -9,6 +9,7 @@
 #![tactic(auto)]
 
 mod checks;
+mod has_packets;
 mod joining;
 mod judge;
 mod keeping;

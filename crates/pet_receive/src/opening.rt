@@ -54,7 +54,15 @@ fn open_group<'f, F: Rows>(
         × HoldsAfter F.is_element F.coding g []) }
     ensures err { OnErr result (groups.new.entries ≡ groups.old.entries) }
 {
-    let open = OpenGroup::open(alloc, field, header)?;
-    groups.insert(group, open)?;
+    put(groups, group, OpenGroup::open(alloc, field, header)?)
+}
+
+/// Puts what is kept of a group among the others.
+fn put<G: Drop>(groups: &mut BTreeMap<u32, G>, group: u32, kept: G) -> Result<(), NoMemory>
+    ensures put { OnOk result (groups.new.entries
+        ≡ insert_entry nat_cmp groups.old.entries group kept) }
+    ensures err { OnErr result (groups.new.entries ≡ groups.old.entries) }
+{
+    groups.insert(group, kept)?;
     Ok(())
 }

@@ -15,14 +15,15 @@ ghost use Rattle.pet_receive.specs.UnionSteps.{union_steps};
 ghost use Rattle.kept_sets.specs.Union.{union, absorb_fault, new_pairs, shown_by_union};
 ghost use Rattle.pet_receive.specs.ShownBytes.{IsShown, IsShownBytes, Agrees, IsComplete, shown_in_all};
 
-use crate::checks::{cost_with, find_clash};
+use crate::checks::{cost_with, find_clash, packets_in};
 use crate::joining::take_in;
-use crate::judge::judge_new;
+use crate::judge::judge_group;
 use crate::keeping::keep_frame;
-use crate::totals::{total_kept, total_shown, total_whole};
-use kept_sets::{Absorb, Verdict, is_other_count, judge_in};
+use crate::totals::{Count, total};
+use kept_sets::{Absorb, Verdict, is_other_count};
 use open_group::OpenGroup;
 use packet_frame::{Frame, Header, read_frame};
+use packet_set::PacketSet;
 use pet_base::{NoMemory, Steps};
 use pet_rows::Rows;
 use std::alloc::Global;
@@ -169,7 +170,7 @@ impl<'f, F: Rows> Receiver<'f, F> {
         ensures { IsTrue result ↔ IsComplete (kept_set self.now) }
     {
         match self.told {
-            Some(groups) => total_whole(&self.groups) == groups,
+            Some(groups) => total(Count::Whole, &self.groups) == groups,
             None => false,
         }
     }
@@ -178,8 +179,8 @@ impl<'f, F: Rows> Receiver<'f, F> {
     pub fn count(&self, group: u32) -> u16
         ensures { result ≡ count_kept (kept_set self.now) group }
     {
-        match self.groups.get(&group) {
-            Some(open) => open.packets().len(),
+        match self.packets(group) {
+            Some(packets) => packets.len(),
             None => 0,
         }
     }
@@ -188,8 +189,8 @@ impl<'f, F: Rows> Receiver<'f, F> {
     pub fn has(&self, group: u32, number: u16) -> bool
         ensures { IsTrue result ↔ Keeps (kept_set self.now) group number }
     {
-        match self.groups.get(&group) {
-            Some(open) => open.packets().has(number),
+        match self.packets(group) {
+            Some(packets) => packets.has(number),
             None => false,
         }
     }
@@ -198,8 +199,8 @@ impl<'f, F: Rows> Receiver<'f, F> {
     pub fn packet(&self, group: u32, number: u16) -> Option<&[u8]>
         ensures { option_copied result ≡ payload_of (kept_set self.now) group number }
     {
-        match self.groups.get(&group) {
-            Some(open) => open.packets().payload(number),
+        match self.packets(group) {
+            Some(packets) => packets.payload(number),
             None => None,
         }
     }
@@ -208,8 +209,8 @@ impl<'f, F: Rows> Receiver<'f, F> {
     pub fn header(&self, group: u32) -> Option<&Header>
         ensures { option_copied result ≡ option_map (λ p. p.header) (open_group (kept_set self.now) group) }
     {
-        match self.groups.get(&group) {
-            Some(open) => Some(open.packets().header()),
+        match self.packets(group) {
+            Some(packets) => Some(packets.header()),
             None => None,
         }
     }
@@ -235,7 +236,7 @@ impl<'f, F: Rows> Receiver<'f, F> {
     {
         // A field is touched, so that what the type promises of itself is known here.
         let _ = &self.told;
-        total_kept(&self.groups)
+        total(Count::Packets, &self.groups)
     }
 
     /// How many layers are shown. It takes no memory.
@@ -244,7 +245,14 @@ impl<'f, F: Rows> Receiver<'f, F> {
     {
         // A field is touched, so that what the type promises of itself is known here.
         let _ = &self.told;
-        total_shown(&self.groups)
+        total(Count::Shown, &self.groups)
+    }
+
+    /// The packets that are kept of a group, where it is open.
+    fn packets(&self, group: u32) -> Option<&PacketSet>
+        ensures { option_copied result ≡ open_group (kept_set self.now) group }
+    {
+        packets_in(&self.groups, group)
     }
 
     /// What the open groups cost with those of the other, or why the two cannot be joined.
@@ -309,10 +317,12 @@ impl<'f, F: Rows> Receiver<'f, F> {
         if is_other_count(self.told, frame.header.groups) {
             return Verdict::Clash;
         }
-        match self.groups.get(&frame.header.group) {
-            Some(open) => judge_in(open.packets(), frame),
-            None => judge_new(frame, self.limit, self.cost),
-        }
+        judge_group(
+            packets_in(&self.groups, frame.header.group),
+            frame,
+            self.limit,
+            self.cost,
+        )
     }
 
     /// Keeps a frame whose verdict is `Kept`.

@@ -1,22 +1,22 @@
 //! The layers that are shown by what another receiver has kept.
 ghost use Rattle.std.specs.Prelude.{◌≡◌, IfOk};
-ghost use Rattle.pet_receive.specs.Joining.{shown_by};
+ghost use Rattle.pet_receive.specs.Joining.{packets_by, shown_by};
 
 use crate::checks::packets_in;
+use crate::has_packets::HasPackets;
 use kept_sets::push_shown;
-use open_group::OpenGroup;
 use pet_base::NoMemory;
-use pet_rows::Rows;
 use std::alloc::Global;
 use std::collections::BTreeMap;
 
 /// The layers that are shown by all that is kept here or there, and not by what is kept here, by group, then layer.
-pub(crate) fn newly_shown<F: Rows>(
+pub(crate) fn newly_shown<G: HasPackets>(
     alloc: Global,
-    groups: &BTreeMap<u32, OpenGroup<'_, F>>,
-    others: &BTreeMap<u32, OpenGroup<'_, F>>,
+    groups: &BTreeMap<u32, G>,
+    others: &BTreeMap<u32, G>,
 ) -> Result<Vec<(u32, u8)>, NoMemory>
-    ensures { IfOk result (λ shown. shown.items ≡ shown_by groups.now.entries others.now.entries) }
+    ensures { IfOk result (λ shown. shown.items ≡ shown_by (packets_by G.kept groups.now.entries)
+        (packets_by G.kept others.now.entries)) }
 {
     let mut shown = Vec::new(alloc);
     for (group, other) in others.iter() {

@@ -4,7 +4,7 @@ use Rattle.std.specs.Str.{bytes_eq}
 use Rattle.kept_sets.specs.declared.union.Absorb.{Absorb}
 use Rattle.kept_sets.specs.KeptSet.{cost_kept, cost_in}
 use Rattle.kept_sets.specs.Union.{absorb_fault, union, first_past}
-use Rattle.pet_receive.specs.Joining.{new_of}
+use Rattle.pet_receive.specs.Joining.{packets_of, new_of}
 use Rattle.pet_receive.specs.Arrivals.{ReceiverState, kept_set}
 use Rattle.kept_sets.specs.laws.UnionSound.{union_cost}
 use Rattle.pet_receive.proofs.Fitting.{clash_is, fault_session, fault_clash, fault_full, fault_none}
@@ -44,7 +44,7 @@ returns-in-Err-clause-refused g c =
     let o : ReceiverState g.row.F-Elem.Denot = record { session = c.other.inside.session; limit = c.other.inside.limit; groups = c.other.inside.groups.entries } in
     let same = same_by c.ne.result (bytes_eq r.session o.session) c.ne.ensures c.if-ne.false in
     let clash = c.find_clash.ensures ∙ clash_is r c.self.inside.told c.self.invariant.set c.self.invariant.told_is o c.other.invariant.set in
-    let full = ap (λ n. first_past r.limit n (new_of r.groups o.groups)) (sym c.self.invariant.cost_is) ∙ c.in-Err.ensures.full in
+    let full = ap (λ n. first_past r.limit n (new_of (packets_of r.groups) (packets_of o.groups))) (sym c.self.invariant.cost_is) ∙ c.in-Err.ensures.full in
     seen r c.args.self.now o c.args.other.now _ c.self.view_is c.other.view_is
     (fault_full (kept_set r) (kept_set o) same (sym c.in_default.is ∙ clash) c.in-Err.group full)
 
@@ -54,7 +54,7 @@ returns-in-Ok-clause-joined g c =
     let o : ReceiverState g.row.F-Elem.Denot = record { session = c.other.inside.session; limit = c.other.inside.limit; groups = c.other.inside.groups.entries } in
     let same = same_by c.ne.result (bytes_eq r.session o.session) c.ne.ensures c.if-ne.false in
     let clash = c.find_clash.ensures ∙ clash_is r c.self.inside.told c.self.invariant.set c.self.invariant.told_is o c.other.invariant.set in
-    let fits = ap (λ n. first_past r.limit n (new_of r.groups o.groups)) (sym c.self.invariant.cost_is) ∙ c.in-Ok.ensures.fits in
+    let fits = ap (λ n. first_past r.limit n (new_of (packets_of r.groups) (packets_of o.groups))) (sym c.self.invariant.cost_is) ∙ c.in-Ok.ensures.fits in
     seen r c.args.self.now o c.args.other.now _ c.self.view_is c.other.view_is
     (fault_none (kept_set r) (kept_set o) same (sym c.in_default.is ∙ clash) fits)
 
@@ -62,6 +62,6 @@ pub returns-in-Ok-clause-cost : goal.returns-in-Ok-clause-cost
 returns-in-Ok-clause-cost g c =
     let r : ReceiverState g.row.F-Elem.Denot = record { session = c.self.inside.session; limit = c.self.inside.limit; groups = c.self.inside.groups.entries } in
     let o : ReceiverState g.row.F-Elem.Denot = record { session = c.other.inside.session; limit = c.other.inside.limit; groups = c.other.inside.groups.entries } in
-    c.in-Ok.ensures.total ∙ ap (λ n. n + sum_by (λ e. cost_in e.1) (new_of r.groups o.groups)) c.self.invariant.cost_is
+    c.in-Ok.ensures.total ∙ ap (λ n. n + sum_by (λ e. cost_in e.1) (new_of (packets_of r.groups) (packets_of o.groups))) c.self.invariant.cost_is
     ∙ sym (union_cost (kept_set r) (kept_set o) c.self.invariant.set.rising c.other.invariant.set.rising)
     ∙ ap₂ (λ (s t : ReceiverState g.row.F-Elem.Denot). cost_kept (union (kept_set s) (kept_set t))) c.self.view_is c.other.view_is

@@ -5,10 +5,10 @@ use Rattle.pet_receive.specs.Arrivals.{ReceiverState, kept_set}
 use Rattle.pet_receive.proofs.Sums.{sum_is, kept_fits}
 use Rattle.pet_receive.proofs.receiver.Receiver.kept.Goals as goal
 
-pub total_kept-requires : goal.total_kept-requires
-total_kept-requires g c =
+pub total-requires : goal.total-requires
+total-requires g c =
     let r : ReceiverState g.row.F-Elem.Denot = record { session = c.self.inside.session; limit = c.self.inside.limit; groups = c.self.inside.groups.entries } in
     omega (arith, sum_is count_in c.self.inside.groups.entries, kept_fits (kept_set r) c.self.invariant.set)
 
 pub returns : goal.returns
-returns g c = c.total_kept.ensures ∙ sum_is count_in c.self.inside.groups.entries ∙ ap (λ (v : ReceiverState g.row.F-Elem.Denot). kept_in_all (kept_set v)) c.self.view_is
+returns g c = c.total.ensures ∙ sum_is count_in c.self.inside.groups.entries ∙ ap (λ (v : ReceiverState g.row.F-Elem.Denot). kept_in_all (kept_set v)) c.self.view_is

@@ -5,10 +5,10 @@ use Rattle.pet_receive.specs.Arrivals.{ReceiverState, kept_set}
 use Rattle.pet_receive.proofs.Sums.{sum_is, shown_fits}
 use Rattle.pet_receive.proofs.receiver.Receiver.shown.Goals as goal
 
-pub total_shown-requires : goal.total_shown-requires
-total_shown-requires g c =
+pub total-requires : goal.total-requires
+total-requires g c =
     let r : ReceiverState g.row.F-Elem.Denot = record { session = c.self.inside.session; limit = c.self.inside.limit; groups = c.self.inside.groups.entries } in
     omega (arith, sum_is shown_in c.self.inside.groups.entries, shown_fits (kept_set r) c.self.invariant.set)
 
 pub returns : goal.returns
-returns g c = c.total_shown.ensures ∙ sum_is shown_in c.self.inside.groups.entries ∙ ap (λ (v : ReceiverState g.row.F-Elem.Denot). shown_in_all (kept_set v)) c.self.view_is
+returns g c = c.total.ensures ∙ sum_is shown_in c.self.inside.groups.entries ∙ ap (λ (v : ReceiverState g.row.F-Elem.Denot). shown_in_all (kept_set v)) c.self.view_is

@@ -1,7 +1,0 @@
-use Rattle.std.proofs.Common.{◌≡◌, ◌+◌, sum_by}
-use Rattle.std.specs.Map.{values_of}
-use Rattle.packet_set.specs.Packets.{count_in}
-use Rattle.pet_receive.proofs.totals.total_kept.Given as goal
-
-abbrev pub invariant-loop-open : goal.invariant-loop-open
-invariant-loop-open g l = l.total + sum_by (λ s. count_in s.packets) l.open-iterator ≡ sum_by (λ s. count_in s.packets) (values_of l.groups.entries)
