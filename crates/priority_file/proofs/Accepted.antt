@@ -57,7 +57,7 @@ IsSound-from d h =
       few = a.1.1.1.1.1.1.0;
     }
 
-from_not_false : (b : Bool) → not b ≡ false → b ≡ true
+pub from_not_false : (b : Bool) → not b ≡ false → b ≡ true
 from_not_false true h = refl
 from_not_false false h = absurd (cc)
 

@@ -4,3 +4,4 @@ pub mod Tables
 pub mod ReadingLaws
 pub mod KindLaws
 pub mod Accepted
+pub mod ListWalks

@@ -85,7 +85,7 @@ fn is_name(name: &str) -> bool
 fn are_name_bytes(bytes: &[u8]) -> bool
     ensures { result ≡ list_all is_name_byte bytes.now }
 {
-    bytes.iter().all(|byte| is_name_byte(*byte))
+    bytes.iter().copied().all(is_name_byte)
 }
 
 /// Whether a name is none that a layer may have.

@@ -1,12 +1,19 @@
 //! Which keys a priority file has, and which it lacks.
-ghost use Rattle.std.specs.Prelude.{◌≡◌, not, ◌&&◌, ◌||◌, string_bytes};
+ghost use Rattle.std.specs.Prelude.{◌≡◌, not, ◌&&◌, ◌||◌, string_bytes, bytes_eq, position, is_none, map};
 ghost use Rattle.std.specs.List.{list_any};
 ghost use Rattle.std.specs.BTreeMap.{keys};
 ghost use Rattle.toml.specs.View.{view, table_view, items_view};
-ghost use Rattle.priority_file.specs.Document.{is_one_of, has_other_key, file_keys, layer_keys, layers_of, tables_of, layer_has_unknown_key, has_two_needs, has_file_keys, has_name_and_kinds, has_a_need, has_unknown_key, layer_misses_key, misses_key, on_table};
+ghost use Rattle.priority_file.specs.Document.{has_other_key, file_keys, layer_keys, layers_of, tables_of, layer_has_unknown_key, has_two_needs, has_file_keys, has_name_and_kinds, has_a_need, has_unknown_key, layer_misses_key, misses_key, on_table};
 
+use crate::kinds::position_of;
 use crate::members::{array_at, has_key};
 use toml::{Table, Value};
+
+/// The keys of a priority file.
+const FILE_KEYS: [&str; 2] = ["packets", "layer"];
+
+/// The keys of a layer.
+const LAYER_KEYS: [&str; 4] = ["name", "kinds", "need", "percent"];
 
 /// Whether the document or a layer has a key that is not known there, or a layer has both `need` and `percent`.
 pub fn has_unknown_key(document: &Table) -> bool
@@ -52,7 +59,7 @@ fn layers_of(document: &Table) -> &[Value]
 fn any_has_unknown_key(layers: &[Value]) -> bool
     ensures { result ≡ list_any (λ v. on_table layer_has_unknown_key (view v)) layers.now }
 {
-    layers.iter().any(|layer| has_unknown_layer_key(layer))
+    layers.iter().any(has_unknown_layer_key)
 }
 
 fn has_unknown_layer_key(layer: &Value) -> bool
@@ -79,7 +86,7 @@ fn has_two_needs(table: &Table) -> bool
 fn any_misses_key(layers: &[Value]) -> bool
     ensures { result ≡ list_any (λ v. on_table layer_misses_key (view v)) layers.now }
 {
-    layers.iter().any(|layer| misses_layer_key(layer))
+    layers.iter().any(misses_layer_key)
 }
 
 fn misses_layer_key(layer: &Value) -> bool
@@ -112,36 +119,26 @@ fn has_a_need(table: &Table) -> bool
 fn has_other_file_key(table: &Table) -> bool
     ensures { result ≡ has_other_key file_keys (table_view table.now) }
 {
-    any_other_file_key(table)
-}
-
-fn any_other_file_key(table: &Table) -> bool
-    ensures { result ≡ list_any (λ k. not (is_one_of file_keys (string_bytes k))) (keys table.now) }
-{
-    table.keys().any(|key| !is_file_key(key.as_str()))
+    has_other_key(table, &FILE_KEYS)
 }
 
 fn has_other_layer_key(table: &Table) -> bool
     ensures { result ≡ has_other_key layer_keys (table_view table.now) }
 {
-    any_other_layer_key(table)
+    has_other_key(table, &LAYER_KEYS)
 }
 
-fn any_other_layer_key(table: &Table) -> bool
-    ensures { result ≡ list_any (λ k. not (is_one_of layer_keys (string_bytes k)))
+fn has_other_key(table: &Table, known: &[&str]) -> bool
+    ensures { result ≡ has_other_key (map (λ w. w.now) known.now) (table_view table.now) }
+{
+    any_other_key(table, known)
+}
+
+fn any_other_key(table: &Table, known: &[&str]) -> bool
+    ensures { result ≡ list_any (λ k. is_none (position (λ w. bytes_eq (string_bytes k) w.now) known.now))
         (keys table.now) }
 {
-    table.keys().any(|key| !is_layer_key(key.as_str()))
-}
-
-fn is_file_key(key: &str) -> bool
-    ensures { result ≡ is_one_of file_keys key.now }
-{
-    key == "packets" || key == "layer"
-}
-
-fn is_layer_key(key: &str) -> bool
-    ensures { result ≡ is_one_of layer_keys key.now }
-{
-    key == "name" || key == "kinds" || key == "need" || key == "percent"
+    table
+        .keys()
+        .any(|key| position_of(known, key.as_str()).is_none())
 }

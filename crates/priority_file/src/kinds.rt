@@ -24,7 +24,7 @@ const KIND_WORDS: [&str; CLASSES] = [
 ];
 
 /// A kind, or a place of the P or of the B pictures of a group. It is named by its bit in a set.
-#[derive(Clone, Copy)]
+#[derive(Clone, Copy, PartialEq, Eq)]
 pub(crate) struct Class {
     index: u8,
 }
@@ -158,7 +158,8 @@ pub(crate) fn class_named(word: &str) -> Option<Class>
     }
 }
 
-fn position_of(words: &[&str], word: &str) -> Option<usize>
+/// The place of a word in a list of words.
+pub(crate) fn position_of(words: &[&str], word: &str) -> Option<usize>
     ensures { result ≡ position (λ w. bytes_eq word.now w.now) words.now }
 {
     words.iter().position(|known| word == *known)
@@ -168,5 +169,5 @@ fn position_of(words: &[&str], word: &str) -> Option<usize>
 pub(crate) fn lists(classes: &[Class], class: Class) -> bool
     ensures { result ≡ lists class classes.now }
 {
-    classes.iter().any(|other| class.index() == other.index())
+    classes.contains(&class)
 }
