@@ -1,3 +1,4 @@
 pub mod OtherWords
 pub mod Digits
 pub mod SessionBytes
+pub mod FaultWords

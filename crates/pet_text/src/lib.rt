@@ -7,6 +7,7 @@
 
 mod append;
 mod end;
+mod form;
 mod lines;
 mod name;
 mod session;

@@ -1,0 +1,240 @@
+//! What the words of a command give, before their texts are copied.
+ghost use Rattle.std.specs.Prelude.{◌≡◌, ◌&&◌, not, [], ◌∷◌, option_map};
+ghost use Rattle.std.specs.Str.{bytes_eq};
+ghost use Rattle.pet_text.specs.Words.{is_name, texts_of, end_of, session_of, plan_of, check_of, send_files, send_of, receive_files, receive_of, merge_of, video_of, command_of};
+ghost use Rattle.pet_text.specs.Forms.{command_in};
+ghost use Rattle.pet_text.specs.Ends.{end_in};
+
+use crate::end::read_end;
+use crate::session::read_session;
+use datagram_route::Route;
+
+/// A command whose texts still stand in its words.
+#[derive(Clone, Copy)]
+pub(crate) enum Form<'a> {
+    Plan {
+        stream: &'a str,
+        priority: &'a str,
+    },
+    Check {
+        stream: &'a str,
+        priority: &'a str,
+        plan: &'a str,
+    },
+    Send {
+        stream: &'a str,
+        priority: &'a str,
+        to: Route<'a>,
+    },
+    Receive {
+        from: Route<'a>,
+        session: [u8; 8],
+        layers: &'a str,
+        store: &'a str,
+    },
+    Merge {
+        first: &'a str,
+        second: &'a str,
+        out: &'a str,
+    },
+    Video {
+        store: &'a str,
+        out: &'a str,
+    },
+}
+
+/// The form that the words have, where they have one.
+pub(crate) fn form_of(words: &[String]) -> Option<Form<'_>>
+    ensures { option_map command_in result ≡ command_of (texts_of words.now) }
+{
+    match words {
+        [word, first, second] => two_words(word.as_str(), first.as_str(), second.as_str()),
+        [word, first, second, third] => three_words(
+            word.as_str(),
+            first.as_str(),
+            second.as_str(),
+            third.as_str(),
+        ),
+        [word, first, second, third, fourth] => four_words(
+            word.as_str(),
+            first.as_str(),
+            second.as_str(),
+            third.as_str(),
+            fourth.as_str(),
+        ),
+        _ => None,
+    }
+}
+
+/// A command with two words behind its own.
+fn two_words<'a>(word: &str, first: &'a str, second: &'a str) -> Option<Form<'a>>
+    ensures { option_map command_in result ≡ command_of (word.now ∷ first.now ∷ second.now ∷ []) }
+{
+    if same(word, "plan") {
+        plan_words(first, second)
+    } else if same(word, "video") {
+        video_words(first, second)
+    } else {
+        None
+    }
+}
+
+/// A command with three words behind its own.
+fn three_words<'a>(word: &str, first: &'a str, second: &'a str, third: &'a str) -> Option<Form<'a>>
+    ensures { option_map command_in result
+        ≡ command_of (word.now ∷ first.now ∷ second.now ∷ third.now ∷ []) }
+{
+    if same(word, "check") {
+        check_words(first, second, third)
+    } else if same(word, "send") {
+        send_words(first, second, third)
+    } else if same(word, "merge") {
+        merge_words(first, second, third)
+    } else {
+        None
+    }
+}
+
+/// A command with four words behind its own.
+fn four_words<'a>(
+    word: &str,
+    first: &'a str,
+    second: &str,
+    third: &'a str,
+    fourth: &'a str,
+) -> Option<Form<'a>>
+    ensures { option_map command_in result
+        ≡ command_of (word.now ∷ first.now ∷ second.now ∷ third.now ∷ fourth.now ∷ []) }
+{
+    if same(word, "receive") {
+        receive_words(first, second, third, fourth)
+    } else {
+        None
+    }
+}
+
+/// The words behind `plan`.
+fn plan_words<'a>(stream: &'a str, priority: &'a str) -> Option<Form<'a>>
+    ensures { option_map command_in result ≡ plan_of stream.now priority.now }
+{
+    if stream.is_empty() || priority.is_empty() {
+        return None;
+    }
+    Some(Form::Plan { stream, priority })
+}
+
+/// The words behind `check`.
+fn check_words<'a>(stream: &'a str, priority: &'a str, plan: &'a str) -> Option<Form<'a>>
+    ensures { option_map command_in result ≡ check_of stream.now priority.now plan.now }
+{
+    if stream.is_empty() || priority.is_empty() || plan.is_empty() {
+        return None;
+    }
+    Some(Form::Check {
+        stream,
+        priority,
+        plan,
+    })
+}
+
+/// The words behind `send`.
+fn send_words<'a>(stream: &'a str, priority: &'a str, to: &'a str) -> Option<Form<'a>>
+    ensures { option_map command_in result ≡ send_of stream.now priority.now (end_of 1 to.now) }
+{
+    let to = read_end(to, 1)?;
+    if !are_send_files(stream, priority, to) {
+        return None;
+    }
+    Some(Form::Send {
+        stream,
+        priority,
+        to,
+    })
+}
+
+/// Whether the two files that are read have names, and a file that is written another than both.
+fn are_send_files(stream: &str, priority: &str, to: Route<'_>) -> bool
+    ensures { result ≡ send_files stream.now priority.now (end_in to.entry) }
+{
+    if stream.is_empty() || priority.is_empty() {
+        return false;
+    }
+    match to {
+        Route::File(to) => !same(to, stream) && !same(to, priority),
+        Route::Udp(_) => true,
+    }
+}
+
+/// The words behind `receive`.
+fn receive_words<'a>(
+    from: &'a str,
+    session: &str,
+    layers: &'a str,
+    store: &'a str,
+) -> Option<Form<'a>>
+    ensures { option_map command_in result
+        ≡ receive_of (end_of 0 from.now) (session_of session.now) layers.now store.now }
+{
+    let from = read_end(from, 0)?;
+    let session = read_session(session)?;
+    if !are_receive_files(from, layers, store) {
+        return None;
+    }
+    Some(Form::Receive {
+        from,
+        session,
+        layers,
+        store,
+    })
+}
+
+/// Whether the two files that are written have names, each another than the other and than a file that is read.
+fn are_receive_files(from: Route<'_>, layers: &str, store: &str) -> bool
+    ensures { result ≡ receive_files (end_in from.entry) layers.now store.now }
+{
+    if layers.is_empty() || store.is_empty() {
+        return false;
+    }
+    match from {
+        Route::File(from) => !same(from, layers) && !same(from, store) && !same(layers, store),
+        Route::Udp(_) => !same(layers, store),
+    }
+}
+
+/// The words behind `merge`.
+fn merge_words<'a>(first: &'a str, second: &'a str, out: &'a str) -> Option<Form<'a>>
+    ensures { option_map command_in result ≡ merge_of first.now second.now out.now }
+{
+    if !are_merge_files(first, second, out) {
+        return None;
+    }
+    Some(Form::Merge { first, second, out })
+}
+
+/// Whether the three files have names, and the file that is written another than both that are read.
+fn are_merge_files(first: &str, second: &str, out: &str) -> bool
+    ensures { result ≡ (is_name first.now && (is_name second.now
+        && (is_name out.now && (not (bytes_eq out.now first.now) && not (bytes_eq out.now second.now))))) }
+{
+    if first.is_empty() || second.is_empty() || out.is_empty() {
+        return false;
+    }
+    !same(out, first) && !same(out, second)
+}
+
+/// The words behind `video`.
+fn video_words<'a>(store: &'a str, out: &'a str) -> Option<Form<'a>>
+    ensures { option_map command_in result ≡ video_of store.now out.now }
+{
+    if store.is_empty() || out.is_empty() || same(out, store) {
+        return None;
+    }
+    Some(Form::Video { store, out })
+}
+
+/// Whether two texts are one.
+fn same(first: &str, second: &str) -> bool
+    ensures { result ≡ bytes_eq first.now second.now }
+{
+    first == second
+}
