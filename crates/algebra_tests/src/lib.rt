@@ -15,7 +15,6 @@ mod field_tests;
 #[cfg(test)]
 mod interp_tests;
 #[cfg(test)]
-mod one_by_one;
 #[cfg(test)]
 mod poly_tests;
 #[cfg(test)]

@@ -2,7 +2,6 @@
 ghost use Rattle.std.specs.Prelude.{◌≡◌, ℕ, ◌*◌, ◌<◌, ◌≤◌, length, map, All, IfOk, vec_len};
 ghost use Rattle.pet_rows.specs.Blocks.{size_of, width_of};
 
-use crate::one_by_one::OneByOne;
 use crate::{digest, words};
 use pet_base::{NoMemory, Steps};
 use pet_field::Gf16Plain;
@@ -151,10 +150,6 @@ fn agrees_with_a_model(rt: HostRuntime) {
     );
     assert_eq!(rt;
         first_wrong(alloc, &Gf16Plain, &CASES).expect(&rt, "memory"),
-        8
-    );
-    assert_eq!(rt;
-        first_wrong(alloc, &OneByOne, &CASES).expect(&rt, "memory"),
         8
     );
 }
