@@ -24,7 +24,7 @@ fn pair<'a>(
     alloc: Global,
     host: &str,
 ) -> Result<Option<(UdpLink<'a, HostRuntime>, UdpLink<'a, HostRuntime>)>, Fail> {
-    let (mut near, mut far) = (UdpLink::new(net), UdpLink::new(net));
+    let (mut near, mut far) = (UdpLink::new(alloc, net), UdpLink::new(alloc, net));
     let Ok(port) = near.bind(&format!(in alloc; "{host}:0")?) else {
         return Ok(None);
     };
@@ -79,6 +79,93 @@ fn datagrams_arrive_whole_and_in_order(rt: HostRuntime) -> Result<(), Fail> {
     Ok(())
 }
 
+/// How often datagrams are sent, and how many each time: together far more than the system keeps for a socket, each time less.
+const ROUNDS: u16 = 250;
+
+const EACH_ROUND: u16 = 40;
+
+/// The bytes of each of these datagrams, a common length.
+const COMMON: usize = 1001;
+
+/// Sends the datagrams of a round, each with its number in front.
+fn send_round(far: &mut UdpLink<'_, HostRuntime>, round: u16, datagram: &mut Vec<u8>) -> bool {
+    for place in 0..EACH_ROUND {
+        let number = round.wrapping_mul(EACH_ROUND).wrapping_add(place);
+        if let Some(front) = datagram.first_chunk_mut() {
+            *front = number.to_be_bytes();
+        }
+        if far.send(datagram).is_err() {
+            return false;
+        }
+    }
+    true
+}
+
+/// Whether the datagram of this number comes next.
+fn comes(near: &mut UdpLink<'_, HostRuntime>, number: u16, room: &mut [u8]) -> bool
+    requires { MAX_ENTRY ≤ length room.old }
+{
+    near.next(room) == Ok(Got::Datagram(COMMON)) && room.starts_with(&number.to_be_bytes())
+}
+
+/// Sends round after round, and takes one datagram after each; then takes the others. Says whether all came in their order.
+fn keeps_up(
+    near: &mut UdpLink<'_, HostRuntime>,
+    far: &mut UdpLink<'_, HostRuntime>,
+    datagram: &mut Vec<u8>,
+    room: &mut [u8],
+) -> bool
+    requires { MAX_ENTRY ≤ length room.old }
+{
+    for round in 0..ROUNDS {
+        if !send_round(far, round, datagram) || !comes(near, round, room) {
+            return false;
+        }
+    }
+    for number in ROUNDS..ROUNDS * EACH_ROUND {
+        if !comes(near, number, room) {
+            return false;
+        }
+    }
+    true
+}
+
+#[test]
+fn no_datagram_is_lost_while_others_wait(rt: HostRuntime) -> Result<(), Fail> {
+    let mut room = room(rt.alloc())?;
+    let mut datagram = long(rt.alloc(), COMMON)?;
+    let Some((mut near, mut far)) = pair(&rt, rt.alloc(), "127.0.0.1")? else {
+        return Err(Failed.into());
+    };
+    assert!(rt; keeps_up(&mut near, &mut far, &mut datagram, &mut room));
+    Ok(())
+}
+
+/// Whether what came at one port does not come at the next.
+fn begins_anew(
+    near: &mut UdpLink<'_, HostRuntime>,
+    far: &mut UdpLink<'_, HostRuntime>,
+    room: &mut [u8],
+) -> bool
+    requires { MAX_ENTRY ≤ length room.old }
+{
+    far.send(b"a").is_ok()
+        && far.send(b"b").is_ok()
+        && near.next(room) == Ok(Got::Datagram(1))
+        && near.bind("127.0.0.1:0").is_ok()
+        && near.next(room) == Ok(Got::Quiet)
+}
+
+#[test]
+fn a_link_that_is_bound_again_has_nothing_of_before(rt: HostRuntime) -> Result<(), Fail> {
+    let mut room = room(rt.alloc())?;
+    let Some((mut near, mut far)) = pair(&rt, rt.alloc(), "127.0.0.1")? else {
+        return Err(Failed.into());
+    };
+    assert!(rt; begins_anew(&mut near, &mut far, &mut room));
+    Ok(())
+}
+
 /// Whether nothing comes.
 fn is_quiet(link: &mut UdpLink<'_, HostRuntime>, room: &mut [u8]) -> bool
     requires { MAX_ENTRY ≤ length room.old }
@@ -89,7 +176,7 @@ fn is_quiet(link: &mut UdpLink<'_, HostRuntime>, room: &mut [u8]) -> bool
 #[test]
 fn it_is_quiet_after_three_seconds(rt: HostRuntime) -> Result<(), Fail> {
     let mut room = room(rt.alloc())?;
-    let mut link = UdpLink::new(&rt);
+    let mut link = UdpLink::new(rt.alloc(), &rt);
     let start = Instant::now(&rt)?;
     assert!(rt; is_quiet(&mut link, &mut room));
     assert!(rt; start.elapsed(&rt)? >= Duration::from_secs(3));
@@ -123,15 +210,15 @@ fn first_aimed(link: &mut UdpLink<'_, HostRuntime>, addresses: &[&str]) -> Optio
 
 /// Whether a port in use cannot be bound again.
 fn refuses_a_port_in_use(net: &HostRuntime, alloc: Global) -> Result<bool, Fail> {
-    let mut first = UdpLink::new(net);
+    let mut first = UdpLink::new(alloc, net);
     let port = first.bind("127.0.0.1:0")?;
     let taken = format!(in alloc; "127.0.0.1:{port}")?;
-    Ok(UdpLink::new(net).bind(&taken).is_err())
+    Ok(UdpLink::new(alloc, net).bind(&taken).is_err())
 }
 
 #[test]
 fn an_address_that_cannot_be_used_is_a_failure(rt: HostRuntime) -> Result<(), Fail> {
-    let mut link = UdpLink::new(&rt);
+    let mut link = UdpLink::new(rt.alloc(), &rt);
     assert!(rt; refuses_a_port_in_use(&rt, rt.alloc())?);
     assert_eq!(rt; first_bound(&mut link, &UNBOUND), None);
     assert_eq!(rt; first_aimed(&mut link, &UNAIMED), None);
@@ -160,7 +247,7 @@ fn a_side_that_is_not_ready_fails_and_an_end_that_nobody_has_does_not(
         return Err(Failed.into());
     };
     assert!(rt; refuses_both(&mut far, &too_long, &mut room));
-    assert!(rt; UdpLink::new(&rt).send(b"abc").is_err());
+    assert!(rt; UdpLink::new(rt.alloc(), &rt).send(b"abc").is_err());
     drop(near);
     assert!(rt; sends_three(&mut far));
     Ok(())

@@ -1,5 +1,5 @@
 //! Sockets that receive or send datagrams, and a datagram received or sent, tried again where a signal interrupts.
-ghost use Rattle.std.specs.Prelude.{◌≤◌, length, IfOk};
+ghost use Rattle.std.specs.Prelude.{◌≡◌, ◌≤◌, length, IfOk};
 ghost use Rattle.pet_base.specs.declared.limits.TheConstants.{MAX_ENTRY};
 ghost use Rattle.pet_base.specs.LinkSeen.{IsShortGot};
 
@@ -67,7 +67,8 @@ fn any_port(like: SocketAddr) -> SocketAddr {
 /// Receives one datagram to the front of the buffer, or is quiet after it waited.
 pub fn receive(socket: &UdpSocket, into: &mut [u8]) -> Result<Got, Failed>
     requires { MAX_ENTRY ≤ length into.old }
-    ensures { IfOk result IsShortGot }
+    ensures short { IfOk result IsShortGot }
+    ensures buffer { length into.new ≡ length into.old }
 {
     let buffer = &mut into[..usize::from(MAX_ENTRY)];
     for _ in 0..u64::MAX {

@@ -9,9 +9,11 @@
 mod datagrams;
 mod fault_count;
 mod file_place;
+mod inbox;
 mod standard_out;
 mod transfer;
 mod udp_link;
+mod waiting;
 
 pub use file_place::FilePlace;
 pub use standard_out::StandardOut;

@@ -103,7 +103,7 @@ fn run_counted<R: Files + Net, W: Write + Drop, L: Ledger>(
     ensures usage { (result ≡ Status.Usage) ↔ (command_of (texts_of words.now) ≡ None) }
 {
     let mut place = FilePlace::new(machine);
-    let mut link = UdpLink::new(machine);
+    let mut link = UdpLink::new(alloc, machine);
     let mut out = StandardOut::new(out);
     let mut steps = Steps::<L>::new(blank);
     run(alloc, words, &mut place, &mut link, &mut out, &mut steps)
