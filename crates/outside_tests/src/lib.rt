@@ -19,3 +19,5 @@ mod ends_tests;
 mod files_tests;
 #[cfg(test)]
 mod link_tests;
+#[cfg(test)]
+mod place_tests;

@@ -3,18 +3,22 @@ ghost use Rattle.std.specs.Prelude.{◌≡◌, is_some, option_and_then};
 ghost use Rattle.pet_ends.specs.Untold.{Opened, nothing_open, untold};
 
 use crate::fault_count::FaultCount;
+use crate::met_files::MetFiles;
 use crate::transfer::{read_some, write_whole};
 use pet_base::{Failed, Place};
-use std::fs;
 use std::marker::Model;
 use std::rt::Files;
 
 /// The files of the machine, by path. As a `Place` it tells nothing of their names and of what they hold.
+///
+/// `enter` refuses a directory, and what is no regular file where it was entered before. `create` refuses a regular file that was
+/// entered or made before, by this name or another, and leaves it as it is: so no file of a run is lost to a second name of it.
 #[derive(Drop)]
 pub struct FilePlace<'a, R: Files> {
     rt: &'a R,
     input: Option<R::File>,
     output: Option<R::File>,
+    met: MetFiles,
     faults: FaultCount,
 }
 
@@ -39,6 +43,7 @@ impl<'a, R: Files> FilePlace<'a, R> {
             rt,
             input: None,
             output: None,
+            met: MetFiles::new(),
             faults: FaultCount::new(),
         }
     }
@@ -55,7 +60,7 @@ impl<R: Files> Place for FilePlace<'_, R> {
     ghost seen = { untold };
 
     fn enter(&mut self, name: &str) -> Result<(), Failed> {
-        match fs::open(self.rt, name) {
+        match self.met.open(self.rt, name) {
             Ok(file) => {
                 self.input = Some(file);
                 Ok(())
@@ -90,7 +95,7 @@ impl<R: Files> Place for FilePlace<'_, R> {
     }
 
     fn create(&mut self, name: &str) -> Result<(), Failed> {
-        match fs::create(self.rt, name) {
+        match self.met.make(self.rt, name) {
             Ok(file) => {
                 self.output = Some(file);
                 Ok(())

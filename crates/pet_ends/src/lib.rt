@@ -10,6 +10,7 @@ mod datagrams;
 mod fault_count;
 mod file_place;
 mod inbox;
+mod met_files;
 mod standard_out;
 mod transfer;
 mod udp_link;
