@@ -183,6 +183,22 @@ fn it_is_quiet_after_three_seconds(rt: HostRuntime) -> Result<(), Fail> {
     Ok(())
 }
 
+#[test]
+fn all_machines_of_a_network_are_sent_to(rt: HostRuntime) -> Result<(), Fail> {
+    let mut link = UdpLink::new(rt.alloc(), &rt);
+    let aimed = link.aim("127.255.255.255:9").is_ok();
+    assert!(rt; aimed && link.send(b"abc").is_ok());
+    Ok(())
+}
+
+#[test]
+fn an_interface_is_named_in_an_address(rt: HostRuntime) -> Result<(), Fail> {
+    let mut link = UdpLink::new(rt.alloc(), &rt);
+    assert!(rt; link.aim("[fe80::1%no_interface]:9").is_err());
+    assert!(rt; link.aim("[ff02::1%lo]:9").is_ok() || link.bind("[::1]:0").is_err());
+    Ok(())
+}
+
 /// An address of no machine, no port, a port that is no number of 16 bits, and none of the forms.
 static UNBOUND: [&str; 5] = ["192.0.2.1:0", "127.0.0.1", "127.0.0.1:65536", ":", ""];
 

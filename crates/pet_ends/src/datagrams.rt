@@ -38,7 +38,10 @@ impl Target {
 
 /// A socket that receives at the address, and its port, which the system chooses where the address has port 0.
 pub fn open_at<R: Net>(net: &R, address: &str) -> io::Result<(UdpSocket, u16)> {
-    let socket = UdpSocket::bind(net, address)?;
+    let socket = match by_interface(address) {
+        Some(by_name) => UdpSocket::bind(net, by_name)?,
+        None => UdpSocket::bind(net, address)?,
+    };
     socket.set_read_timeout(Some(Duration::from_secs(WAIT)))?;
     let port = socket.local_addr()?.port();
     Ok((socket, port))
@@ -47,13 +50,36 @@ pub fn open_at<R: Net>(net: &R, address: &str) -> io::Result<(UdpSocket, u16)> {
 /// A socket that sends to the address: to the first of its addresses of whose family a socket can be opened.
 pub fn open_towards<R: Net>(net: &R, address: &str) -> io::Result<Target> {
     let mut failure = io::Error::from(ErrorKind::InvalidInput);
-    for to in address.to_socket_addrs(net)? {
-        match UdpSocket::bind(net, any_port(to)) {
+    let all = match by_interface(address) {
+        Some(by_name) => by_name.to_socket_addrs(net)?,
+        None => address.to_socket_addrs(net)?,
+    };
+    for to in all {
+        match open_sender(net, to) {
             Ok(socket) => return Ok(Target { socket, to }),
             Err(e) => failure = e,
         }
     }
     Err(failure)
+}
+
+/// The host and the port of an address whose host names an interface, as `[fe80::1%eth0]:9`. The system looks up such a host, but
+/// without brackets; of an address in brackets std reads an interface's number alone.
+fn by_interface(address: &str) -> Option<(&str, u16)> {
+    let (host, port) = address.rsplit_once(':')?;
+    let host = host.strip_prefix('[')?.strip_suffix(']')?;
+    if host.contains('%') {
+        Some((host, port.parse().ok()?))
+    } else {
+        None
+    }
+}
+
+/// A socket that sends to this address, which may be that of all machines of a network.
+fn open_sender<R: Net>(net: &R, to: SocketAddr) -> io::Result<UdpSocket> {
+    let socket = UdpSocket::bind(net, any_port(to))?;
+    socket.set_broadcast(true)?;
+    Ok(socket)
 }
 
 /// All addresses of this machine of the family of the address, at a port that the system chooses.
