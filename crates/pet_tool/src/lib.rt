@@ -10,6 +10,7 @@
 //! the network and the output of this machine.
 #![tactic(auto)]
 
+mod standard_streams;
 mod starting;
 mod statuses;
 mod top;

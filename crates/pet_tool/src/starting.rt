@@ -6,6 +6,7 @@
 ghost use Rattle.std.specs.Prelude.{◌≡◌, ◌<◌, ◌↔◌, None};
 ghost use Rattle.pet_text.specs.Words.{texts_of, command_of};
 
+use crate::standard_streams::hold_streams;
 use crate::top::run;
 use arrayvec::ArrayVec;
 use pet_base::{Sink, Steps};
@@ -53,16 +54,19 @@ fn no_words(kind: ErrorKind) -> NoWords {
 }
 
 /// Runs the command that the program's words give, over this machine and this output. Words that are no text have the form of
-/// no command.
+/// no command. What is closed of the standard streams is held meanwhile, so that no file takes its number.
 pub fn start_words<R: Env + Alloc<A = Global> + Files + Net, W: Write + Drop>(
     machine: &R,
     out: W,
 ) -> Status {
-    match words(machine) {
+    let held = hold_streams(machine);
+    let status = match words(machine) {
         Ok(words) => start(machine.alloc(), &words, machine, out),
         Err(NoWords::NotText) => start(machine.alloc(), &[], machine, out),
         Err(NoWords::NoMemory) => tell_no_memory(out),
-    }
+    };
+    drop(held);
+    status
 }
 
 /// Prints the line that tells of want of memory.
