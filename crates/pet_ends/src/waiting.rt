@@ -1,9 +1,13 @@
 //! Datagrams that have come and wait to be handed on.
-ghost use Rattle.std.specs.Prelude.{◌≤◌, length, IfSome};
+ghost use Rattle.std.specs.Prelude.{◌≡◌, ◌≤◌, ◌+◌, ◌++◌, [], true, length, take, drop, Some, vec_len, vec_capacity, MatchOption};
 ghost use Rattle.pet_base.specs.declared.limits.TheConstants.{MAX_ENTRY};
+ghost use Rattle.pet_base.specs.Entries.{entry_text, first_entry};
+ghost use Rattle.pet_ends.specs.Waits.{Waits};
+ghost use Rattle.pet_ends.specs.declared.waiting.TheConstants.{MOST_KEPT, LENGTH_BYTES};
 
 use pet_base::MAX_ENTRY;
 use std::alloc::Global;
+use std::marker::Model;
 
 /// The most bytes that are kept, two for each datagram's length among them: 64 MB.
 const MOST_KEPT: usize = 67_108_864;
@@ -19,9 +23,23 @@ pub struct Waiting {
     gone: usize,
 }
 
+impl Model for Waiting {
+    ghost Value = { Waits };
+
+    ghost view = { λ w. record {
+      entries = drop w.gone w.entries.items;
+      kept = vec_len w.entries;
+      room = vec_capacity w.entries;
+    } };
+
+    ghost invariant = { λ w. w.gone ≤ vec_len w.entries };
+}
+
 impl Waiting {
     /// No datagram.
-    pub fn new(alloc: Global) -> Waiting {
+    pub fn new(alloc: Global) -> Waiting
+        ensures { result.entries ≡ [] }
+    {
         Waiting {
             entries: Vec::new(alloc),
             gone: 0,
@@ -29,33 +47,34 @@ impl Waiting {
     }
 
     /// Whether there is room for one more, however long. It makes that room, if memory is found.
-    pub fn has_room(&mut self) -> bool {
+    pub fn has_room(&mut self) -> bool
+        ensures same { self.new.entries ≡ self.old.entries }
+        ensures most { result ≡ true → self.new.kept + LENGTH_BYTES + MAX_ENTRY ≤ MOST_KEPT }
+        ensures room { result ≡ true → self.new.kept + LENGTH_BYTES + MAX_ENTRY ≤ self.new.room }
+    {
         let longest = LENGTH_BYTES + usize::from(MAX_ENTRY);
         self.entries.len() <= MOST_KEPT - longest && self.entries.reserve(longest).is_ok()
     }
 
-    /// Puts a datagram behind the others. One that finds no room is lost.
-    pub fn push(&mut self, datagram: &[u8]) {
-        if let Ok(length) = u16::try_from(datagram.len()) {
-            if self
-                .entries
-                .extend_from_slice(&length.to_be_bytes())
-                .is_ok()
-            {
-                let _ = self.entries.extend_from_slice(datagram);
-            }
-        }
+    /// Puts a datagram behind the others, for which there is room.
+    pub fn push(&mut self, datagram: &[u8])
+        requires short { length datagram.now ≤ MAX_ENTRY }
+        requires room { self.old.kept + LENGTH_BYTES + length datagram.now ≤ self.old.room }
+        ensures { self.new.entries ≡ self.old.entries ++ entry_text datagram.now }
+    {
+        let length = datagram.len() as u16;
+        let _ = self.entries.extend_from_slice(&length.to_be_bytes());
+        let _ = self.entries.extend_from_slice(datagram);
     }
 
     /// Moves the datagram that came first to the front of the buffer, and says how long it is. None where none waits.
     pub fn pop(&mut self, into: &mut [u8]) -> Option<usize>
         requires { MAX_ENTRY ≤ length into.old }
-        ensures { IfSome result (λ count. count ≤ MAX_ENTRY) }
+        ensures first { MatchOption result (self.new.entries ≡ self.old.entries)
+            (λ count. (count ≤ MAX_ENTRY) × (first_entry self.old.entries ≡ Some (take count into.new, self.new.entries))) }
+        ensures buffer { length into.new ≡ length into.old }
     {
-        let (head, rest) = self
-            .entries
-            .get(self.gone..)?
-            .split_first_chunk::<LENGTH_BYTES>()?;
+        let (head, rest) = self.entries[self.gone..].split_first_chunk::<LENGTH_BYTES>()?;
         let count = usize::from(u16::from_be_bytes(*head));
         into[..count].copy_from_slice(rest.get(..count)?);
         self.gone += LENGTH_BYTES + count;
@@ -64,8 +83,10 @@ impl Waiting {
     }
 
     /// Forgets the bytes that are handed on, where they are more than the half. So a byte is moved once, on the average.
-    fn forget(&mut self) {
-        if self.gone > self.entries.len() / 2 && self.gone <= self.entries.len() {
+    fn forget(&mut self)
+        ensures { self.new.entries ≡ self.old.entries }
+    {
+        if self.gone > self.entries.len() / 2 {
             let left = self.entries.len() - self.gone;
             self.entries.copy_within(self.gone.., 0);
             self.entries.truncate(left);
