@@ -20,7 +20,7 @@ use Rattle.pet_base.specs.declared.faults.Stop.TheVariants as place
 use Rattle.pet_receive.specs.Arrivals.{Order, ReceiverState, kept_set}
 use Rattle.kept_sets.specs.KeptSet.{KeptSet}
 use Rattle.kept_sets.specs.laws.KeptSetLaws.{after_more}
-use Rattle.kept_sets.specs.Verdicts.{after, after_all}
+use Rattle.kept_sets.specs.Verdicts.{after, after_all, after_all_in}
 use Rattle.pet_field.specs.Gf16.{gf16_coding}
 use Rattle.met_packets.specs.Gf16.{HasKeptIn, IsArrivalText, IsLayersText, IsTextAt}
 use Rattle.met_packets.specs.LayersText.{order_after, order_after_all}
@@ -31,7 +31,7 @@ use Rattle.command_files.specs.laws.OutputLaws.{puts_nothing}
 use Rattle.met_packets.specs.laws.DatagramAtEnd.{order_push, steps_push, text_nothing, text_push}
 
 pub so_far_start : (s : Seen) (all : Option (List (List ℕ))) (r : ReceiverState ℕ) (steps : ℕ) → HasKeptIn r [] → SoFar (kept_set r) 0 s s all all r steps steps
-unfolding after_all order_after_all steps_of_all
+unfolding after_all_in order_after_all steps_of_all
 so_far_start s all r steps held = record {
   read = [];
   text = [];

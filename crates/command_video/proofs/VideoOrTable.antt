@@ -25,7 +25,7 @@ shown_once : (set : KeptSet) (group : ℕ) (p : Packets) → IsKeptSet set → o
 shown_once set group p sound here numbers layer inside a b one other =
     let table = (group_frame set.session group p (sound.groups group p here)).frame.table in
     one.bytes_are
-    ∙ same_bytes (λ a. a < 65536) gf16_coding (omega arith) gf16_lawful.spellings (layers_of p) layer inside (plan_ends_plan (layers_of p) table.needed) one.message other.message one.is_message other.is_message same_stripe
+    ∙ same_bytes (λ a. a < 65536) gf16_coding gf16_lawful.spellings (layers_of p) layer inside (plan_ends_plan (layers_of p) table.needed) one.message other.message one.is_message other.is_message same_stripe
     ∙ sym other.bytes_are
   where
     same_stripe : (j : ℕ) → j < length (plan_stripes (layers_of p)) → Meets (words_before (layers_of p) layer) (words_before (layers_of p) (layer + 1)) (get_or (plan_stripes (layers_of p)) j (0, 0))

@@ -1,51 +1,40 @@
 //! The encoder of one group.
 ghost use Rattle.std.specs.Prelude.{◌≡◌, ℕ, ◌+◌, ◌*◌, ◌<◌, ◌≤◌, ◌++◌, length, IfOk, OnOk, OnErr};
 ghost use Rattle.packet_frame.specs.Frame.{IsFrame, text};
-ghost use Rattle.pet_encode.specs.Encoding.{IsGroupOf, frame_of, frames_text, values_at};
+ghost use Rattle.pet_encode.specs.Encoding.{IsGroupOf, frame_of, frames_text};
 ghost use Rattle.pet_encode.specs.Session.{Session, IsMessage, IsPacketOf};
-ghost use Rattle.point_values.specs.Matrix.{HasRows};
-ghost use Rattle.stripe_plan.specs.Layers.{needs_of, plan_stripes};
+ghost use Rattle.stripe_plan.specs.Layers.{needs_of};
 ghost use Rattle.stripe_plan.specs.Sizes.{IsTable};
 
-use crate::laid::{laid_out, plan_blocks};
-use crate::values::{append_elements, elements, stripe_values};
-use packet_frame::{Header, begin_frame, end_frame};
+use packet_encoder::PacketEncoder;
+use packet_frame::{FORMAT, Header};
 use pet_base::{MAX_GROUPS, MAX_PACKETS, NoMemory, Steps};
-use pet_rows::{Block, Rows};
+use pet_field::Field;
+use pet_rows::Rows;
 use point_values::AllValues;
 use std::alloc::Global;
 use std::marker::Model;
 use std::sync::ledger::Ledger;
-use stripe_plan::{datagram_length, stripes};
 
 /// What makes the packets of one group.
 #[derive(Drop)]
-pub struct Encoder<'f, F: Rows> {
-    field: &'f F,
-    header: Header,
-    /// The stripes of the plan in blocks.
-    blocks: Vec<Block>,
-    /// The words of the message, one block after another.
-    laid: Vec<F::Elem>,
+pub struct Encoder<'f, F: Field> {
+    core: PacketEncoder<'f, F>,
 }
 
-impl<'f, F: Rows> Model for Encoder<'f, F> {
-    ghost use Rattle.std.specs.List.{flat_map};
+impl<'f, F: Field> Model for Encoder<'f, F> {
+    ghost use Rattle.std.specs.Prelude.{◌≡◌};
+    ghost use Rattle.packet_frame.specs.declared.format.TheConstants.{FORMAT};
     ghost use Rattle.pet_encode.specs.Encoding.{Encoding};
-    ghost use Rattle.group_encoder.specs.Stored.{IsStored, words_in};
 
     ghost Value = { Encoding };
 
-    ghost view = { λ e. record {
-      header = e.header;
-      message = flat_map F.coding.spelling (words_in F.coding e.blocks.items e.laid.items);
-    } };
+    ghost view = { λ e. e.core.encoding };
 
-    ghost invariant = { λ e. IsStored F.is_element F.COUNT F.coding e.header e.blocks.items
-        e.laid.items };
+    ghost invariant = { λ e. e.core.format ≡ FORMAT };
 }
 
-impl<'f, F: Rows> Encoder<'f, F> {
+impl<'f, F: Field> Encoder<'f, F> {
     /// The encoder of the group of this header, whose message has two bytes for each word of the table. The elements of
     /// the field are written in two bytes, and it has a point for each of `MAX_PACKETS` numbers. It fails only for want
     /// of memory.
@@ -64,17 +53,23 @@ impl<'f, F: Rows> Encoder<'f, F> {
         ensures header { IfOk result (λ e. e.header ≡ header) }
         ensures message { IfOk result (λ e. e.message ≡ message.now) }
     {
-        let plan = plan_blocks(alloc, &header.table)?;
-        let row = elements(alloc, f, message, header.table.words())?;
-        let laid = laid_out(alloc, &plan, &row)?;
-        Ok(Encoder {
-            field: f,
-            header,
-            blocks: plan,
-            laid,
-        })
+        let core = PacketEncoder::new(alloc, f, FORMAT, header, message)?;
+        Ok(Encoder { core })
     }
 
+    /// What the packets share.
+    pub fn header(&self) -> &Header
+        ensures value { result.now ≡ self.now.header }
+        ensures groups { self.now.header.groups ≤ MAX_GROUPS }
+        ensures group { self.now.header.group < self.now.header.groups }
+        ensures table { IsTable self.now.header.table.packets self.now.header.table.layers }
+        ensures message { IsMessage F.coding.width self.now.header.table.layers self.now.message }
+    {
+        self.core.header()
+    }
+}
+
+impl<'f, F: Rows> Encoder<'f, F> {
     /// Appends the frame of the packet `number`, which is below the table's packets. It counts one step for each word of
     /// the table. Where it finds no memory, `into` is as before, and at most so many are counted.
     pub fn packet<L: Ledger>(
@@ -96,39 +91,7 @@ impl<'f, F: Rows> Encoder<'f, F> {
         ensures session { (s : Session) → IsGroupOf s self.now
             → IsPacketOf F.coding s (frame_of F.coding self.now number) }
     {
-        let alloc = *self.laid.allocator();
-        let count = stripes(&self.header.table) as usize;
-        let x = self.field.point(u32::from(number));
-        let values = stripe_values(alloc, self.field, &self.blocks, &self.laid, count, x, steps)?;
-        self.frame(number, &values, into)
-    }
-
-    /// Appends the frame of the packet `number`, of which these are the values. Where it finds no memory, `into` is as
-    /// before.
-    fn frame(&self, number: u16, values: &[F::Elem], into: &mut Vec<u8>) -> Result<(), NoMemory>
-        requires number { number < self.now.header.table.packets }
-        requires values { values.now ≡ values_at F.coding self.now number }
-        ensures ok { OnOk result (into.new.items
-            ≡ into.old.items ++ text (frame_of F.coding self.now number)) }
-        ensures err { OnErr result (into.new.items ≡ into.old.items) }
-        ensures ranges { OnOk result (IsFrame (frame_of F.coding self.now number)) }
-    {
-        let start = into.len();
-        begin_frame(&self.header, number, into)?;
-        append_elements(self.field, values, into);
-        end_frame(start, into);
-        Ok(())
-    }
-
-    /// What the packets share.
-    pub fn header(&self) -> &Header
-        ensures value { result.now ≡ self.now.header }
-        ensures groups { self.now.header.groups ≤ MAX_GROUPS }
-        ensures group { self.now.header.group < self.now.header.groups }
-        ensures table { IsTable self.now.header.table.packets self.now.header.table.layers }
-        ensures message { IsMessage F.coding.width self.now.header.table.layers self.now.message }
-    {
-        &self.header
+        self.core.packet(number, into, steps)
     }
 }
 
@@ -149,7 +112,7 @@ impl<'f, F: AllValues> Encoder<'f, F> {
             → number < self.now.header.table.packets
             → IsPacketOf F.coding s (frame_of F.coding self.now number) }
     {
-        self.range(0, self.header().table.packets(), into, steps)
+        self.core.all(into, steps)
     }
 
     /// Appends the frames of the packets `first` to `first + count - 1`, which are packets of the group. It counts at most
@@ -175,67 +138,6 @@ impl<'f, F: AllValues> Encoder<'f, F> {
             → number < self.now.header.table.packets
             → IsPacketOf F.coding s (frame_of F.coding self.now number) }
     {
-        let values = self.rows(first, count, steps)?;
-        self.frames(first, count, &values, into)
-    }
-
-    /// The values that the packets `first` to `first + count - 1` carry: a row for each.
-    fn rows<L: Ledger>(
-        &self,
-        first: u16,
-        count: u16,
-        steps: &mut Steps<L>,
-    ) -> Result<Vec<F::Elem>, NoMemory>
-        requires { first + count ≤ self.now.header.table.packets }
-        ensures rows { IfOk result (λ values. HasRows
-            (length (plan_stripes self.now.header.table.layers)) count
-            (λ p. values_at F.coding self.now (first + p)) values.items) }
-        ensures cost { steps.new ≤ steps.old
-            + count * length (needs_of self.now.header.table.layers) }
-    {
-        let alloc = *self.laid.allocator();
-        let wide = stripes(&self.header.table) as usize;
-        self.field.value_rows(
-            alloc,
-            &self.blocks,
-            &self.laid,
-            wide,
-            usize::from(first),
-            usize::from(count),
-            steps,
-        )
-    }
-
-    /// Appends the frames of the packets `first` to `first + count - 1`, whose values are these rows.
-    fn frames(
-        &self,
-        first: u16,
-        count: u16,
-        values: &[F::Elem],
-        into: &mut Vec<u8>,
-    ) -> Result<(), NoMemory>
-        requires within { first + count ≤ self.now.header.table.packets }
-        requires rows { HasRows (length (plan_stripes self.now.header.table.layers)) count
-            (λ p. values_at F.coding self.now (first + p)) values.now }
-        ensures ok { OnOk result (into.new.items
-            ≡ into.old.items ++ frames_text F.coding self.now first count) }
-        ensures err { OnErr result (into.new.items ≡ into.old.items) }
-        ensures ranges { OnOk result ((number : ℕ) → first ≤ number → number < first + count
-            → IsFrame (frame_of F.coding self.now number)) }
-    {
-        let table = &self.header().table;
-        let wide = stripes(table) as usize;
-        into.reserve(usize::from(count) * datagram_length(table) as usize)?;
-        let start = into.len();
-        let mut at = 0;
-        for p in 0..count {
-            let end = at + wide;
-            if let Err(none) = self.frame(first + p, &values[at..end], into) {
-                into.truncate(start);
-                return Err(none);
-            }
-            at = end;
-        }
-        Ok(())
+        self.core.range(first, count, into, steps)
     }
 }

@@ -1,2 +1,2 @@
-mod Named
+mod ByCounts
 pub mod Searched

@@ -1,5 +1,6 @@
 pub mod KeptSet
 pub mod Verdicts
+pub mod ByCounts
 pub mod Group
 pub mod Union
 pub mod GroupVerdict

@@ -31,7 +31,7 @@ join_slots (mine ∷ more) (theirs ∷ rest) = option_or mine theirs ∷ join_sl
 -- the packets that are kept of a group here, where it is open, or there
 abbrev pub join_group : Option Packets → Packets → Packets
 join_group None theirs = theirs
-join_group (Some mine) theirs = record { header = mine.header; slots = join_slots mine.slots theirs.slots }
+join_group (Some mine) theirs = record { header = mine.header; word = mine.word; slots = join_slots mine.slots theirs.slots }
 
 -- group by group
 unfoldable pub join_groups : List (ℕ × Packets) → List (ℕ × Packets) → List (ℕ × Packets)

@@ -7,12 +7,15 @@ use Rattle.stripe_plan.specs.declared.layer.LayerSize.{LayerSize}
 use Rattle.stripe_plan.specs.Layers.{count_of}
 use Rattle.stripe_plan.specs.Same.{same_table}
 use Rattle.packet_frame.specs.Frame.{Fields}
-use Rattle.packet_frame.specs.Refusals.{fields_of, first_fault}
-use Rattle.stripe_plan.specs.Sizes.{cost_of}
+use Rattle.packet_frame.specs.declared.format.Format.{Format}
+use Rattle.packet_frame.specs.declared.format.TheConstants.{FORMAT}
+use Rattle.packet_frame.specs.Refusals.{first_fault_in}
+use Rattle.packet_frame.specs.Planned.{planned_fields}
+use Rattle.stripe_plan.specs.Sizes.{cost_by}
 use Rattle.kept_sets.specs.declared.verdict.Verdict.{Verdict}
 use Rattle.kept_sets.specs.declared.verdict.Verdict.TheVariants.{Damaged, Foreign, Clash, Repeated, Full, Kept}
 use Rattle.kept_sets.specs.declared.verdict.LayerSet.{LayerSet}
-use Rattle.kept_sets.specs.KeptSet.{KeptSet, open_group, payload_of, count_kept, cost_kept, header_of, keep}
+use Rattle.kept_sets.specs.KeptSet.{KeptSet, open_group, payload_of, count_kept, cost_kept, header_of, keep_by}
 
 -- a kept frame tells another number of groups
 abbrev pub tells_other_count : KeptSet → Fields → Bool
@@ -34,8 +37,11 @@ abbrev pub opens : KeptSet → Fields → Bool
 opens set f = is_none (open_group set f.group)
 
 -- with the frame's group the open groups would cost more than the limit
+abbrev pub is_too_much_by : ℕ → KeptSet → Fields → Bool
+is_too_much_by word set f = opens set f && nat_lt set.limit (cost_kept set + cost_by word f.packets f.layers)
+
 abbrev pub is_too_much : KeptSet → Fields → Bool
-is_too_much set f = opens set f && nat_lt set.limit (cost_kept set + cost_of f.packets f.layers)
+is_too_much set f = is_too_much_by 2 set f
 
 -- the layers that are shown by `after` packets, and were not by `before`
 abbrev pub shown_between : List LayerSize → ℕ → ℕ → List ℕ
@@ -50,27 +56,39 @@ abbrev pub layer_set : List ℕ → LayerSet
 layer_set layers = record { bits = sum_by (λ j. 2 ^ j) layers }
 
 -- the verdict of a frame: the first that holds
-unfoldable pub frame_verdict : KeptSet → Fields → Verdict
-frame_verdict set f =
+unfoldable pub frame_verdict_by : ℕ → KeptSet → Fields → Verdict
+frame_verdict_by word set f =
     if not (bytes_eq f.session set.session) then Foreign
     else if clashes set f then Clash
     else if is_some (payload_of set f.group f.number) then Repeated
-    else if is_too_much set f then Full
+    else if is_too_much_by word set f then Full
     else Kept (layer_set (newly_shown set f))
 
--- the verdict of a datagram
-unfoldable pub verdict_of : KeptSet → List ℕ → Verdict
-verdict_of set bytes = if is_some (first_fault bytes) then Damaged else frame_verdict set (fields_of bytes)
+abbrev pub frame_verdict : KeptSet → Fields → Verdict
+frame_verdict set f = frame_verdict_by 2 set f
+
+-- the verdict of a datagram of a format
+unfoldable pub verdict_in : Format → KeptSet → List ℕ → Verdict
+verdict_in t set bytes = if is_some (first_fault_in t bytes) then Damaged else frame_verdict_by t.word set (planned_fields t bytes)
+
+abbrev pub verdict_of : KeptSet → List ℕ → Verdict
+verdict_of set bytes = verdict_in FORMAT set bytes
 
 abbrev pub is_kept : Verdict → Bool
 is_kept (Kept layers) = true
 is_kept _ = false
 
 -- the set after a datagram
-unfoldable pub after : KeptSet → List ℕ → KeptSet
-after set bytes = if is_kept (verdict_of set bytes) then keep set (fields_of bytes) else set
+unfoldable pub after_in : Format → KeptSet → List ℕ → KeptSet
+after_in t set bytes = if is_kept (verdict_in t set bytes) then keep_by t.word set (planned_fields t bytes) else set
+
+abbrev pub after : KeptSet → List ℕ → KeptSet
+after set bytes = after_in FORMAT set bytes
 
 -- the set after some datagrams
-unfoldable pub after_all : KeptSet → List (List ℕ) → KeptSet
-after_all set [] = set
-after_all set (bytes ∷ rest) = after_all (after set bytes) rest
+unfoldable pub after_all_in : Format → KeptSet → List (List ℕ) → KeptSet
+after_all_in t set [] = set
+after_all_in t set (bytes ∷ rest) = after_all_in t (after_in t set bytes) rest
+
+abbrev pub after_all : KeptSet → List (List ℕ) → KeptSet
+after_all set datagrams = after_all_in FORMAT set datagrams

@@ -1,15 +1,17 @@
 //! The verdict of a frame by what is kept of its group.
-ghost use Rattle.std.specs.Prelude.{◌≡◌, ◌+◌, ◌^◌, ◌<◌, ◌&&◌, nat_lt, nat_le, cond, length, not, ◌==◌, false};
+ghost use Rattle.std.specs.Prelude.{◌≡◌, ◌+◌, ◌^◌, ◌<◌, ◌≤◌, cond, length, not, ◌==◌, false};
 ghost use Rattle.std.specs.Option.{option_map_or};
-ghost use Rattle.stripe_plan.specs.Layers.{count_of};
+ghost use Rattle.kept_sets.specs.ByCounts.{is_between, shown_by};
 ghost use Rattle.packet_frame.specs.View.{view};
+ghost use Rattle.packet_set.specs.Packets.{layers_of, count_in};
 ghost use Rattle.kept_sets.specs.Verdicts.{layer_set, shown_between};
 ghost use Rattle.kept_sets.specs.GroupVerdict.{verdict_in};
 
 use crate::verdict::{LayerSet, Verdict};
 use packet_frame::Frame;
 use packet_set::PacketSet;
-use stripe_plan::{Table, count};
+use pet_base::MAX_LAYERS;
+use stripe_plan::{Table, counts};
 
 /// The verdict of a frame of the session whose group is open, and which tells the number of groups that was told. It
 /// takes no memory.
@@ -27,7 +29,7 @@ pub fn judge_in(packets: &PacketSet, frame: &Frame<'_>) -> Verdict
                 Verdict::Clash
             }
         }
-        None => Verdict::Kept(shown_next(&frame.header.table, packets.len())),
+        None => Verdict::Kept(shown_in_next(packets)),
     }
 }
 
@@ -35,22 +37,36 @@ pub fn judge_in(packets: &PacketSet, frame: &Frame<'_>) -> Verdict
 pub fn shown_next(table: &Table, before: u16) -> LayerSet
     ensures { result ≡ layer_set (shown_between table.now.layers before (before + 1)) }
 {
+    shown_by_next(&counts(table), before)
+}
+
+/// The layers of a group that are shown by one packet more than are kept of it, and were not by those.
+fn shown_in_next(packets: &PacketSet) -> LayerSet
+    ensures { result ≡ layer_set (shown_between (layers_of packets.now) (count_in packets.now) (count_in packets.now + 1)) }
+{
+    shown_by_next(packets.counts(), packets.len())
+}
+
+/// The layers that are shown by one packet more than `before`, and were not by those, where so many packets show each layer.
+fn shown_by_next(counts: &[u16], before: u16) -> LayerSet
+    requires { length counts.now ≤ MAX_LAYERS }
+    ensures { result ≡ layer_set (shown_by counts.now before (before + 1)) }
+{
     let mut bits = 0;
-    let layers = table.layers().len() as u8;
-    for layer in 0..layers {
-        bits = with_layer(bits, layer, needs_next(table, layer, before));
+    let held = u32::from(before);
+    for layer in 0..counts.len() as u8 {
+        let shown = is_shown_between(counts[usize::from(layer)], held, held + 1);
+        bits = with_layer(bits, layer, shown);
     }
     LayerSet { bits }
 }
 
-/// Whether a layer is shown by one packet more than `before`, and was not by those.
-fn needs_next(table: &Table, layer: u8, before: u16) -> bool
-    requires { layer < length table.now.layers }
-    ensures { result ≡ (nat_lt before (count_of table.now.layers layer) && nat_le
-        (count_of table.now.layers layer) (before + 1)) }
+/// Whether a layer that so many packets show is shown by `after` packets, and was not by `before`.
+pub(crate) fn is_shown_between(needed: u16, before: u32, after: u32) -> bool
+    ensures { result ≡ is_between before after needed }
 {
-    let needed = count(table, layer);
-    before < needed && u32::from(needed) <= u32::from(before) + 1
+    let needed = u32::from(needed);
+    before < needed && needed <= after
 }
 
 /// The bits of some layers below `layer`, with that of `layer` where it is wanted.

@@ -3,18 +3,15 @@ ghost use Rattle.std.specs.Prelude.{◌≡◌, cond};
 ghost use Rattle.kept_sets.specs.GroupLayers.{shown_in, whole_in};
 
 use packet_set::PacketSet;
-use stripe_plan::count;
 
 /// How many layers of a group are shown. It takes no memory.
 pub fn shown_layers(packets: &PacketSet) -> u32
     ensures { result ≡ shown_in packets.now }
 {
-    let table = &packets.header().table;
     let held = packets.len();
-    let layers = table.layers().len() as u8;
     let mut shown = 0;
-    for layer in 0..layers {
-        shown += one_if(count(table, layer) <= held);
+    for needed in packets.counts() {
+        shown += one_if(*needed <= held);
     }
     shown
 }

@@ -16,7 +16,7 @@ mod union;
 mod verdict;
 
 pub use clash::clash_in;
-pub use datagram::{group_of, number_of};
+pub use datagram::{group_of, named_group, named_number, number_of};
 pub use judge::{is_other_count, judge_in, shown_next};
 pub use layers::{one_if_whole, shown_layers};
 pub use shown::push_shown;

@@ -1,15 +1,14 @@
 //! The layers of a group that are shown by what another receiver has kept of it.
-ghost use Rattle.std.specs.Prelude.{◌≡◌, ◌<◌, ◌&&◌, nat_lt, nat_le, cond, [], ◌∷◌, ◌++◌, length, map, option_copied, OnOk, is_some, false};
+ghost use Rattle.std.specs.Prelude.{◌≡◌, ◌<◌, ◌≤◌, cond, [], ◌∷◌, ◌++◌, length, map, option_copied, OnOk, is_some, false};
 ghost use Rattle.std.specs.Option.{option_map_or};
 ghost use Rattle.packet_set.specs.Packets.{slot_at};
-ghost use Rattle.stripe_plan.specs.Layers.{count_of};
-ghost use Rattle.kept_sets.specs.Verdicts.{shown_between};
+ghost use Rattle.kept_sets.specs.ByCounts.{shown_by};
 ghost use Rattle.kept_sets.specs.Union.{new_numbers, is_new};
 ghost use Rattle.kept_sets.specs.GroupLayers.{count_in_open, shown_by_both};
 
+use crate::judge::is_shown_between;
 use packet_set::PacketSet;
-use pet_base::NoMemory;
-use stripe_plan::{Table, count};
+use pet_base::{MAX_LAYERS, NoMemory};
 
 /// Puts the layers of a group at the end that are shown by all that is kept of it here or there, and not by what is kept
 /// here.
@@ -24,7 +23,7 @@ pub fn push_shown(
 {
     let before = count_here(mine);
     let after = before + count_new(mine, theirs);
-    push_between(shown, group, &theirs.header().table, before, after)
+    push_between(shown, group, theirs.counts(), before, after)
 }
 
 /// How many packets are kept of a group.
@@ -71,32 +70,24 @@ fn has_number(mine: Option<&PacketSet>, number: u16) -> bool
     }
 }
 
-/// Puts the layers of a group at the end that are shown by `after` packets, and not by `before`.
+/// Puts the layers of a group at the end that are shown by `after` packets, and not by `before`, where so many packets show
+/// each layer.
 fn push_between(
     shown: &mut Vec<(u32, u8)>,
     group: u32,
-    table: &Table,
+    counts: &[u16],
     before: u32,
     after: u32,
 ) -> Result<(), NoMemory>
+    requires { length counts.now ≤ MAX_LAYERS }
     ensures { OnOk result (shown.new.items ≡ shown.old.items
-        ++ map (λ layer. (group, layer)) (shown_between table.now.layers before after)) }
+        ++ map (λ layer. (group, layer)) (shown_by counts.now before after)) }
 {
-    let layers = table.layers().len() as u8;
-    for layer in 0..layers {
-        push_if(shown, group, layer, is_between(table, layer, before, after))?;
+    for layer in 0..counts.len() as u8 {
+        let wanted = is_shown_between(counts[usize::from(layer)], before, after);
+        push_if(shown, group, layer, wanted)?;
     }
     Ok(())
-}
-
-/// Whether a layer is shown by `after` packets, and not by `before`.
-fn is_between(table: &Table, layer: u8, before: u32, after: u32) -> bool
-    requires { layer < length table.now.layers }
-    ensures { result ≡ (nat_lt before (count_of table.now.layers layer)
-        && nat_le (count_of table.now.layers layer) after) }
-{
-    let needed = u32::from(count(table, layer));
-    before < needed && needed <= after
 }
 
 /// Puts a layer of a group at the end where it is wanted.

@@ -1,5 +1,6 @@
 -- The records of the layers that were lent out.
 use Rattle.std.proofs.Common.{◌≡◌, ℕ, zero, suc, ◌*◌, ◌<◌, ◌≤◌, List, [], ◌∷◌, length, get_or, take, drop, map, All, Some, refl, ap, subst, arith}
+use Rattle.std.specs.Prelude.{min}
 use Rattle.std.proofs.lemmas.List.{length-take}
 use Rattle.std.proofs.lemmas.List.Sums.{sum_by-cons}
 use Rattle.std.proofs.lemmas.List.Elements.{All-head, All-tail}
@@ -7,7 +8,7 @@ use Rattle.pet_base.specs.declared.limits.TheConstants.{MAX_GROUP_BYTES}
 use Rattle.pet_field.specs.Field.{Coding}
 use Rattle.packet_set.specs.Packets.{Packets}
 use Rattle.stripe_plan.specs.declared.layer.LayerSize.{LayerSize}
-use Rattle.stripe_plan.specs.Layers.{words_before}
+use Rattle.stripe_plan.specs.Layers.{words_of, words_before}
 use Rattle.stripe_plan.specs.Sizes.{bytes_of}
 use Rattle.pet_encode.specs.Session.{length_of_layer, bytes_of_layer}
 use Rattle.pet_receive.specs.Arrivals.{Order, ReceiverState, HasKept, kept_set, numbers_of, layers_of}
@@ -16,10 +17,13 @@ use Rattle.met_packets.specs.LayersText.{IsLayer, AreRecords}
 use Rattle.met_packets.specs.Records.{records_text, AreLayersOf, AreShownText}
 use Rattle.met_packets.specs.declared.records.ShownLayer.{ShownLayer}
 
-length_below : (layers : List LayerSize) (j : ℕ) → length_of_layer layers j ≤ bytes_of layers
-length_below [] j = omega arith
-length_below (l ∷ layers) zero = omega (arith, sum_by-cons (λ (x : LayerSize). x.length) l layers)
-length_below (l ∷ layers) (suc j) = omega (arith, length_below layers j, sum_by-cons (λ (x : LayerSize). x.length) l layers)
+least : (a b : ℕ) → min a b ≤ a
+least a b = omega arith
+
+length_below : (width : ℕ) (layers : List LayerSize) (j : ℕ) → length_of_layer width layers j ≤ bytes_of layers
+length_below width [] j = omega arith
+length_below width (l ∷ layers) zero = omega (arith, least l.length (words_of l * width), sum_by-cons (λ (x : LayerSize). x.length) l layers)
+length_below width (l ∷ layers) (suc j) = omega (arith, length_below width layers j, sum_by-cons (λ (x : LayerSize). x.length) l layers)
 
 take_short : (n : ℕ) (xs : List ℕ) → length (take n xs) ≤ n
 take_short n xs = omega (arith, length-take n xs)
@@ -30,7 +34,7 @@ module _ {E : Type 0} (P : E → Type 0) (c : Coding E) where
   layer_short p numbers layer bytes few is =
       let m = is.shown.message in
       let long : length bytes ≡ length (bytes_of_layer c.width (layers_of p) m layer) = ap (λ (t : List ℕ). length t) is.shown.bytes_are in
-      omega (arith, long, take_short (length_of_layer (layers_of p) layer) (drop (words_before (layers_of p) layer * c.width) m), length_below (layers_of p) layer, few)
+      omega (arith, long, take_short (length_of_layer c.width (layers_of p) layer) (drop (words_before (layers_of p) layer * c.width) m), length_below c.width (layers_of p) layer, few)
 
   pub all_short : (r : ReceiverState E) (group : ℕ) (shown : List ShownLayer) → AreLayersOf P c r group shown → (order : Order) × HasKept P c r order
       → (p : Packets) × (open_group (kept_set r) group ≡ Some p) × (bytes_of (layers_of p) ≤ MAX_GROUP_BYTES) → All (λ e. length e.bytes.now < 4294967296) shown

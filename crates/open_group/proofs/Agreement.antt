@@ -23,7 +23,7 @@ use Rattle.open_group.specs.OpenGroup.{points_of, layers_of}
 use Rattle.open_group.specs.ShownBytes.{IsShownBytes, Agrees}
 use Rattle.open_group.proofs.Rows.{take_words, drop_words, words_front}
 use Rattle.open_group.proofs.Cuts.{cut_at, length-cut}
-use Rattle.open_group.specs.laws.Needs.{length_is, next_words, words_within}
+use Rattle.open_group.specs.laws.Needs.{length_is, bytes_short, next_words, words_within}
 
 -- ---- each word is in a stripe
 
@@ -96,13 +96,13 @@ stretch_bytes P c laws n first size bytes long fits room =
     sym (spellings_of_words P w c.spelt c.spelling laws size part part_long (All-take (λ b. b < 256) (size * w) rest (All-drop (λ b. b < 256) (first * w) bytes fits)))
     ∙ ap (flat_map c.spelling) (sym same)
 
-pub same_bytes : {E : Type 0} (P : E → Type 0) (c : Coding E) → 2 ≤ c.width → AreSpellings P c.width c.spelt c.spelling
+pub same_bytes : {E : Type 0} (P : E → Type 0) (c : Coding E) → AreSpellings P c.width c.spelt c.spelling
     → (layers : List LayerSize) (layer : ℕ) → layer < length layers → IsPlan (needs_of layers) 0 (plan_ends layers)
     → (message other : List ℕ) → IsMessage c.width layers message → IsMessage c.width layers other
     → ((j : ℕ) → j < length (plan_stripes layers) → Meets (words_before layers layer) (words_before layers (layer + 1)) (get_or (plan_stripes layers) j (0, 0))
     → get_or (stripes_in c layers message) j [] ≡ get_or (stripes_in c layers other) j [])
     → bytes_of_layer c.width layers message layer ≡ bytes_of_layer c.width layers other layer
-same_bytes P c wide laws layers layer l plan message other is is_other same =
+same_bytes P c laws layers layer l plan message other is is_other same =
     let w = c.width in
     let d : LayerSize = record { length = 0; need = 0 } in
     let n = length (needs_of layers) in
@@ -119,13 +119,9 @@ same_bytes P c wide laws layers layer l plan message other is is_other same =
     let stretch : take (size * w) (drop (first * w) message) ≡ take (size * w) (drop (first * w) other) =
     stretch_bytes P c laws n first size message is.whole is.bytes (omega (arith, next, top)) ∙ ap (flat_map c.spelling) words_same
     ∙ sym (stretch_bytes P c laws n first size other is_other.whole is_other.bytes (omega (arith, next, top))) in
-    let short : length_of_layer layers layer ≤ size * w =
-    omega (arith, length_is layers layer d l, even (get_or layers layer d), mul-le-mul_left size wide) in
-    sym (take-take (length_of_layer layers layer) (size * w) (drop (first * w) message) short) ∙ ap (take (length_of_layer layers layer)) stretch
-    ∙ take-take (length_of_layer layers layer) (size * w) (drop (first * w) other) short
-  where
-    even : (layer : LayerSize) → layer.length ≤ words_of layer * 2
-    even layer = omega arith
+    let bytes = length_of_layer w layers layer in
+    let short : bytes ≤ size * w = omega (arith, length_is w layers layer d l, bytes_short w (get_or layers layer d)) in
+    sym (take-take bytes (size * w) (drop (first * w) message) short) ∙ ap (take bytes) stretch ∙ take-take bytes (size * w) (drop (first * w) other) short
 
 -- ---- the stripes of a message that the payloads agree with
 
@@ -195,11 +191,11 @@ module _ {E : Type 0} (P : E → Type 0) (count : ℕ) (c : Coding E) (laws : Is
       ap length (cut_at layers row j l) ∙ length-take s.1 (drop s.0 row) ∙ ap (min s.1) rest ∙ sym (length-take s.1 (drop s.0 row')) ∙ sym (ap length (cut_at layers row' j l)) in
       only.only (get_or (stripes_in c layers message) j []) (same ∙ only.long) (stripe_is j l) (goes_through numbers j s.1 l kept agrees)
 
-pub agreed_bytes : {E : Type 0} (P : E → Type 0) (count : ℕ) (c : Coding E) → IsCoding P count c → 2 ≤ c.width → (p : Packets) (message : List ℕ)
+pub agreed_bytes : {E : Type 0} (P : E → Type 0) (count : ℕ) (c : Coding E) → IsCoding P count c → (p : Packets) (message : List ℕ)
     → IsMessage c.width (layers_of p) message → IsPlan (needs_of (layers_of p)) 0 (plan_ends (layers_of p)) → (numbers : List ℕ)
     → ((i : ℕ) → Contains numbers i → IsSome (slot_at p i) × P (c.point_of i)) → Agrees c p message
     → (layer : ℕ) (bytes : List ℕ) → layer < length (layers_of p) → IsShownBytes P c p numbers layer bytes → bytes ≡ bytes_of_layer c.width (layers_of p) message layer
-agreed_bytes P count c laws wide p message is plan numbers kept agrees layer bytes l shown =
+agreed_bytes P count c laws p message is plan numbers kept agrees layer bytes l shown =
     shown.bytes_are
-    ∙ same_bytes P c wide laws.spellings (layers_of p) layer l plan shown.message message shown.is_message is
+    ∙ same_bytes P c laws.spellings (layers_of p) layer l plan shown.message message shown.is_message is
     (λ j inside meets. sym (agreed_stripe P count c laws p message is numbers j shown.message inside kept agrees (shown.stripes j inside meets)))

@@ -6,7 +6,7 @@ use Rattle.pet_poly.specs.Rows.{words}
 use Rattle.interpolation.specs.Progressive.{Held, StandsFor, stripe_of, lengths_of}
 use Rattle.stripe_plan.specs.Layers.{plan_stripes}
 pub use Rattle.stripe_plan.specs.Layers.{stripe_lengths}
-pub use Rattle.packet_set.specs.Packets.{Packets, slot_at, count_in, layers_of, no_packets}
+pub use Rattle.packet_set.specs.Packets.{Packets, slot_at, count_in, layers_of, no_packets_of, payload_length}
 use Rattle.pet_encode.specs.Payload.{stripes_in}
 use Rattle.pet_encode.specs.Session.{IsMessage}
 

@@ -67,25 +67,25 @@ pub at_head : (t : Format) (bytes : List ℕ) (fault : FrameFault) → first_of 
 unfolding first_fault_in
 at_head t bytes fault head =
     let f = fields_in t bytes in
-    first_of-front (head_rows t bytes f) (layer_rows f.packets f.layers ++ end_rows t bytes f.layers) fault head
+    first_of-front (head_rows t bytes f) (layer_rows t f.packets f.layers ++ end_rows t bytes f.layers) fault head
 
 -- the refusal, where the head tells none
 pub behind_head : (t : Format) (bytes : List ℕ) (packets : ℕ) → packets ≡ (fields_in t bytes).packets → first_of (head_rows t bytes (fields_in t bytes)) ≡ None
-    → first_fault_in t bytes ≡ first_of (layer_rows packets (fields_in t bytes).layers ++ end_rows t bytes (fields_in t bytes).layers)
+    → first_fault_in t bytes ≡ first_of (layer_rows t packets (fields_in t bytes).layers ++ end_rows t bytes (fields_in t bytes).layers)
 unfolding first_fault_in
 behind_head t bytes packets p head =
     let f = fields_in t bytes in
-    first_of-rest (head_rows t bytes f) (layer_rows f.packets f.layers ++ end_rows t bytes f.layers) head
-    ∙ ap (λ (n : ℕ). first_of (layer_rows n f.layers ++ end_rows t bytes f.layers)) (sym p)
+    first_of-rest (head_rows t bytes f) (layer_rows t f.packets f.layers ++ end_rows t bytes f.layers) head
+    ∙ ap (λ (n : ℕ). first_of (layer_rows t n f.layers ++ end_rows t bytes f.layers)) (sym p)
 
 -- the refusal, where the head and the layers tell none
 pub at_end : (t : Format) (bytes : List ℕ) (packets : ℕ) → packets ≡ (fields_in t bytes).packets
-    → first_of (head_rows t bytes (fields_in t bytes)) ≡ None → first_of (layer_rows packets (fields_in t bytes).layers) ≡ None
+    → first_of (head_rows t bytes (fields_in t bytes)) ≡ None → first_of (layer_rows t packets (fields_in t bytes).layers) ≡ None
     → first_fault_in t bytes ≡ first_of (end_rows t bytes (fields_in t bytes).layers)
 at_end t bytes packets p head none =
     let f = fields_in t bytes in
     behind_head t bytes packets p head
-    ∙ first_of-rest (layer_rows packets f.layers) (end_rows t bytes f.layers) none
+    ∙ first_of-rest (layer_rows t packets f.layers) (end_rows t bytes f.layers) none
 
 -- the fields, one by one
 pub same_fields : (h : Head) (f : Fields) (layers : List LayerSize) (payload : List ℕ) → HasHead h f → layers ≡ f.layers → payload ≡ f.payload → fields_by h layers payload ≡ f

@@ -5,8 +5,8 @@ use Rattle.std.specs.List.{list_any}
 use Rattle.stripe_plan.specs.declared.layer.LayerSize.{LayerSize}
 use Rattle.stripe_plan.specs.declared.table.TableFault.{TableFault}
 use Rattle.stripe_plan.specs.declared.table.TableFault.TheVariants.{Packets, Layers, Need, Sum, Wide}
-use Rattle.pet_base.specs.declared.limits.TheConstants.{MAX_DATAGRAM, MAX_GROUP_BYTES}
-use Rattle.stripe_plan.specs.Sizes.{bytes_of, length_over}
+use Rattle.pet_base.specs.declared.limits.TheConstants.{MAX_DATAGRAM}
+use Rattle.stripe_plan.specs.Sizes.{bytes_of, length_over, planned}
 use Rattle.stripe_plan.specs.Faults.{fault_in}
 use Rattle.packet_frame.specs.declared.format.Format.{Format}
 use Rattle.packet_frame.specs.Format.{frame_length_in}
@@ -49,16 +49,16 @@ too_long true wide h = refl
 too_long false wide h = h
 
 pub table_refused : (t : Format) (bytes : List ℕ) (packets : ℕ) (layers : List LayerSize) (fault : TableFault) → 0 < packets → packets ≤ t.bounds.packets → 0 < length layers → length layers ≤ t.bounds.layers
-    → fault_in t.bounds packets layers ≡ Some fault → first_of (layer_rows packets layers ++ end_rows t bytes layers) ≡ Some (refusal_for fault)
+    → fault_in t.bounds packets layers ≡ Some fault → first_of (layer_rows t packets layers ++ end_rows t bytes layers) ≡ Some (refusal_for fault)
 unfolding chain
 table_refused t bytes packets layers fault p p' l l' h =
-    refused _ _ (list_any (λ layer. eqb layer.need 0 || ltb packets layer.need) layers) (ltb MAX_GROUP_BYTES (bytes_of layers)) (ltb MAX_DATAGRAM (length_over t.bounds.bare layers)) _ _ fault
-    (in_range packets t.bounds.packets p p') (in_range (length layers) t.bounds.layers l l') (too_long (not (eqb (length bytes) (frame_length_in t layers))) (ltb MAX_DATAGRAM (length_over t.bounds.bare layers))) h
+    refused _ _ (list_any (λ layer. eqb layer.need 0 || ltb packets layer.need) layers) (ltb t.bounds.bytes (bytes_of layers)) (ltb MAX_DATAGRAM (length_over t.bounds.bare (planned t.bounds layers))) _ _ fault
+    (in_range packets t.bounds.packets p p') (in_range (length layers) t.bounds.layers l l') (too_long (not (eqb (length bytes) (frame_length_in t layers))) (ltb MAX_DATAGRAM (length_over t.bounds.bare (planned t.bounds layers)))) h
 
-pub table_accepted : (t : Format) (packets : ℕ) (layers : List LayerSize) → fault_in t.bounds packets layers ≡ None → first_of (layer_rows packets layers) ≡ None
+pub table_accepted : (t : Format) (packets : ℕ) (layers : List LayerSize) → fault_in t.bounds packets layers ≡ None → first_of (layer_rows t packets layers) ≡ None
 unfolding chain
 table_accepted t packets layers h =
-    accepted (eqb packets 0 || ltb t.bounds.packets packets) (eqb (length layers) 0 || ltb t.bounds.layers (length layers)) (list_any (λ layer. eqb layer.need 0 || ltb packets layer.need) layers) (ltb MAX_GROUP_BYTES (bytes_of layers)) (ltb MAX_DATAGRAM (length_over t.bounds.bare layers)) h
+    accepted (eqb packets 0 || ltb t.bounds.packets packets) (eqb (length layers) 0 || ltb t.bounds.layers (length layers)) (list_any (λ layer. eqb layer.need 0 || ltb packets layer.need) layers) (ltb t.bounds.bytes (bytes_of layers)) (ltb MAX_DATAGRAM (length_over t.bounds.bare (planned t.bounds layers))) h
 
 -- the end, by the number of bytes and the tag
 pub end_unlike : (t : Format) (bytes : List ℕ) (layers : List LayerSize) → length bytes ≢ frame_length_in t layers → first_of (end_rows t bytes layers) ≡ Some Length
@@ -67,9 +67,9 @@ end_unlike t bytes layers h = rw (not_eq (length bytes) (frame_length_in t layer
     not_eq : (a b : ℕ) → a ≢ b → eqb a b ≡ false
     not_eq a b h = grind (arith, nat_tests, h)
 
-pub end_like : (t : Format) (bytes : List ℕ) (layers : List LayerSize) → length bytes ≡ frame_length_in t layers → length_over t.bounds.bare layers ≤ MAX_DATAGRAM
+pub end_like : (t : Format) (bytes : List ℕ) (layers : List LayerSize) → length bytes ≡ frame_length_in t layers → length_over t.bounds.bare (planned t.bounds layers) ≤ MAX_DATAGRAM
     → first_of (end_rows t bytes layers) ≡ cond (not (ends_in_tag t bytes)) (Some Tag) None
-end_like t bytes layers same narrow = rw (fits (length bytes) (frame_length_in t layers) MAX_DATAGRAM (length_over t.bounds.bare layers) same narrow) refl
+end_like t bytes layers same narrow = rw (fits (length bytes) (frame_length_in t layers) MAX_DATAGRAM (length_over t.bounds.bare (planned t.bounds layers)) same narrow) refl
   where
     fits : (size wanted most bound : ℕ) → size ≡ wanted → bound ≤ most → (not (eqb size wanted) || ltb most bound) ≡ false
     fits size wanted most bound p q = grind (arith, nat_tests)

@@ -4,7 +4,7 @@ use Rattle.std.specs.Prelude.{◌≡◌, ℕ, ◌+◌, ◌*◌, ◌<◌, ◌≤�
 use Rattle.pet_base.specs.declared.limits.TheConstants.{HEAD_LENGTH, LAYER_LENGTH}
 use Rattle.stripe_plan.specs.declared.layer.LayerSize.{LayerSize}
 use Rattle.stripe_plan.specs.Layers.{plan_ends}
-use Rattle.stripe_plan.specs.Sizes.{AreBounds}
+use Rattle.stripe_plan.specs.Sizes.{AreBounds, planned}
 use Rattle.packet_frame.specs.declared.format.Format.{Format}
 
 -- what is asked of a format
@@ -18,7 +18,7 @@ pub record IsFormat (t : Format) : Type 0 where
 
 -- the bytes of a payload: a word of so many bytes for each stripe of the plan
 abbrev pub payload_length_in : Format → List LayerSize → ℕ
-payload_length_in t layers = t.word * length (plan_ends layers)
+payload_length_in t layers = t.word * length (plan_ends (planned t.bounds layers))
 
 -- the bytes of a frame of so many layers that has no payload
 abbrev pub bare_length : Format → ℕ → ℕ

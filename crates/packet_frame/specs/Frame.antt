@@ -10,7 +10,7 @@ use Rattle.stripe_plan.specs.declared.layer.LayerSize.{LayerSize}
 use Rattle.stripe_plan.specs.Layers.{plan_ends}
 use Rattle.stripe_plan.specs.Sizes.{IsTableIn}
 use Rattle.packet_frame.specs.declared.format.Format.{Format}
-use Rattle.packet_frame.specs.declared.format.TheConstants.{FORMAT, OLD_FORMAT}
+use Rattle.packet_frame.specs.declared.format.TheConstants.{FORMAT, OLD_FORMAT, BYTE_FORMAT}
 use Rattle.packet_frame.specs.Format.{payload_length_in}
 
 -- what a frame holds
@@ -67,9 +67,20 @@ IsFrame f = IsFrameIn FORMAT f
 abbrev pub text : Fields → List ℕ
 text f = text_in FORMAT f
 
+-- the same fields, with a payload of `word` bytes for each stripe of the layers' plan
+abbrev pub IsFrameBy : ℕ → Fields → Type 0
+IsFrameBy word f = IsFrameIn (record FORMAT { word = word }) f
+
 -- the frames of the first version
 abbrev pub IsOldFrame : Fields → Type 0
 IsOldFrame f = IsFrameIn OLD_FORMAT f
 
 abbrev pub old_text : Fields → List ℕ
 old_text f = text_in OLD_FORMAT f
+
+-- the frames of the byte profile
+abbrev pub IsByteFrame : Fields → Type 0
+IsByteFrame f = IsFrameIn BYTE_FORMAT f
+
+abbrev pub byte_text : Fields → List ℕ
+byte_text f = text_in BYTE_FORMAT f

@@ -4,11 +4,11 @@ use Rattle.std.specs.Prelude.{ℕ, zero, suc, ◌+◌, ◌-◌, ◌*◌, Bool, n
 use Rattle.std.specs.List.{list_any}
 use Rattle.std.specs.Str.{bytes_eq}
 use Rattle.std.specs.Int.{Width, w16, w32, byte_len, from_be_bytes}
-use Rattle.pet_base.specs.declared.limits.TheConstants.{HEAD_LENGTH, LAYER_LENGTH, MAX_DATAGRAM, MAX_GROUP_BYTES, MAX_GROUPS}
+use Rattle.pet_base.specs.declared.limits.TheConstants.{HEAD_LENGTH, LAYER_LENGTH, MAX_DATAGRAM, MAX_GROUPS}
 use Rattle.stripe_plan.specs.declared.layer.LayerSize.{LayerSize}
-use Rattle.stripe_plan.specs.Sizes.{bytes_of, length_over}
+use Rattle.stripe_plan.specs.Sizes.{bytes_of, length_over, planned}
 use Rattle.packet_frame.specs.declared.format.Format.{Format}
-use Rattle.packet_frame.specs.declared.format.TheConstants.{FORMAT, OLD_FORMAT}
+use Rattle.packet_frame.specs.declared.format.TheConstants.{FORMAT, OLD_FORMAT, BYTE_FORMAT}
 use Rattle.packet_frame.specs.Format.{bare_length, frame_length_in}
 use Rattle.packet_frame.specs.Frame.{Fields, tag_of}
 use Rattle.packet_frame.specs.declared.fault.Field1.TheVariants.{Groups, Group, Packets, Number, Layers, Lengths, Need}
@@ -69,10 +69,10 @@ head_rows t bytes f =
 abbrev pub has_wrong_need : ℕ → List LayerSize → Bool
 has_wrong_need packets layers = list_any (λ layer. layer.need == 0 || nat_lt packets layer.need) layers
 
-abbrev pub layer_rows : ℕ → List LayerSize → List Row
-layer_rows packets layers =
+abbrev pub layer_rows : Format → ℕ → List LayerSize → List Row
+layer_rows t packets layers =
     (has_wrong_need packets layers, Range Need)
-    ∷ (nat_lt MAX_GROUP_BYTES (bytes_of layers), Range Lengths)
+    ∷ (nat_lt t.bounds.bytes (bytes_of layers), Range Lengths)
     ∷ []
 
 -- the last bytes are the tag of those before them
@@ -81,12 +81,12 @@ ends_in_tag t bytes = bytes_eq (drop (length bytes - t.tag) bytes) (tag_of t (ta
 
 abbrev pub end_rows : Format → List ℕ → List LayerSize → List Row
 end_rows t bytes layers =
-    (not (length bytes == frame_length_in t layers) || nat_lt MAX_DATAGRAM (length_over t.bounds.bare layers), Length)
+    (not (length bytes == frame_length_in t layers) || nat_lt MAX_DATAGRAM (length_over t.bounds.bare (planned t.bounds layers)), Length)
     ∷ (not (ends_in_tag t bytes), Tag)
     ∷ []
 
 abbrev pub rows : Format → List ℕ → Fields → List Row
-rows t bytes f = head_rows t bytes f ++ layer_rows f.packets f.layers ++ end_rows t bytes f.layers
+rows t bytes f = head_rows t bytes f ++ layer_rows t f.packets f.layers ++ end_rows t bytes f.layers
 
 -- the refusal of the bytes, or none
 unfoldable pub first_fault_in : Format → List ℕ → Option FrameFault
@@ -105,6 +105,13 @@ old_fields_of bytes = fields_in OLD_FORMAT bytes
 
 abbrev pub first_old_fault : List ℕ → Option FrameFault
 first_old_fault bytes = first_fault_in OLD_FORMAT bytes
+
+-- of the frames of the byte profile
+abbrev pub byte_fields_of : List ℕ → Fields
+byte_fields_of bytes = fields_in BYTE_FORMAT bytes
+
+abbrev pub first_byte_fault : List ℕ → Option FrameFault
+first_byte_fault bytes = first_fault_in BYTE_FORMAT bytes
 
 -- the bytes are accepted, and have these fields
 pub record ReadsAsIn (t : Format) (bytes : List ℕ) (f : Fields) : Type 0 where

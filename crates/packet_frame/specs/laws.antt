@@ -5,3 +5,4 @@ pub mod Spelled
 pub mod Written
 pub mod Again
 pub mod Laws
+pub mod PlannedLaws

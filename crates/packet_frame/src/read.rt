@@ -6,9 +6,8 @@ ghost use Rattle.packet_frame.specs.View.{view};
 
 use crate::fault::FrameFault;
 use crate::format::FORMAT;
-use crate::frame::{Frame, Header};
-use crate::text::read_text;
-use stripe_plan::Table;
+use crate::frame::Frame;
+use crate::planned::read_planned;
 
 /// Reads a frame, or answers the first refusal of its bytes. It takes no memory.
 pub fn read_frame(bytes: &[u8]) -> Result<Frame<'_>, FrameFault>
@@ -24,27 +23,5 @@ pub fn read_frame(bytes: &[u8]) -> Result<Frame<'_>, FrameFault>
     ensures read { (fields : Fields) → IsFrame fields → bytes.now ≡ text fields
         → IsOkAnd result (λ frame. view frame ≡ fields) }
 {
-    read_fields(bytes)
-}
-
-/// The same by its exact answer alone.
-fn read_fields(bytes: &[u8]) -> Result<Frame<'_>, FrameFault>
-    ensures refused { MatchResult result (λ _. first_fault bytes.now ≡ None)
-        (λ fault. first_fault bytes.now ≡ Some fault) }
-    ensures fields { IfOk result (λ frame. view frame ≡ fields_of bytes.now) }
-{
-    let parts = read_text(&FORMAT, bytes)?;
-    let head = parts.head;
-    let session = head.session;
-    let table = Table::known(head.packets, &parts.layers);
-    Ok(Frame {
-        header: Header {
-            session,
-            groups: head.groups,
-            group: head.group,
-            table,
-        },
-        number: head.number,
-        payload: parts.payload,
-    })
+    read_planned(&FORMAT, bytes)
 }

@@ -1,7 +1,7 @@
 //! The one reader of every format.
 ghost use Rattle.std.specs.Prelude.{◌≡◌, ◌≤◌, ◌<◌, ◌++◌, length, None, Some, MatchResult, OnOk, IfOk, IfErr};
 ghost use Rattle.stripe_plan.specs.Layers.{plan_ends};
-ghost use Rattle.stripe_plan.specs.Sizes.{IsTableIn};
+ghost use Rattle.stripe_plan.specs.Sizes.{IsTableIn, planned};
 ghost use Rattle.packet_frame.specs.Format.{IsFormat, bare_length};
 ghost use Rattle.packet_frame.specs.Reading.{HasHead, Tells, front_rows, range_rows, room_rows, refusal_for, fields_by};
 ghost use Rattle.packet_frame.specs.Refusals.{fields_in, count_of, first_fault_in, first_of, head_rows, layer_rows, end_rows};
@@ -123,15 +123,15 @@ fn read_layers(format: &Format, bytes: &[u8], count: u8, packets: u16) -> Result
     requires packets { (0 < packets) × (packets ≤ format.now.bounds.packets) }
     requires room { bare_length format.now count ≤ length bytes.now }
     ensures ok { IfOk result (λ sized. first_of
-        (layer_rows packets (fields_in format.now bytes.now).layers) ≡ None) }
+        (layer_rows format.now packets (fields_in format.now bytes.now).layers) ≡ None) }
     ensures layers { IfOk result (λ sized.
         sized.layers.items ≡ (fields_in format.now bytes.now).layers) }
     ensures table { IfOk result (λ sized.
         IsTableIn format.now.bounds packets sized.layers.items) }
     ensures stripes { IfOk result (λ sized.
-        sized.stripes ≡ length (plan_ends sized.layers.items)) }
+        sized.stripes ≡ length (plan_ends (planned format.now.bounds sized.layers.items))) }
     ensures err { IfErr result (λ fault. first_of
-        (layer_rows packets (fields_in format.now bytes.now).layers
+        (layer_rows format.now packets (fields_in format.now bytes.now).layers
         ++ end_rows format.now bytes.now (fields_in format.now bytes.now).layers) ≡ Some fault) }
 {
     let layers = layers_in(bytes, count);
@@ -161,7 +161,8 @@ fn check_end(format: &Format, bytes: &[u8], count: u8, stripes: u32) -> Result<(
     requires layers { count ≤ format.now.bounds.layers }
     requires table { IsTableIn format.now.bounds (fields_in format.now bytes.now).packets
         (fields_in format.now bytes.now).layers }
-    requires stripes { stripes ≡ length (plan_ends (fields_in format.now bytes.now).layers) }
+    requires stripes { stripes ≡ length (plan_ends (planned format.now.bounds
+        (fields_in format.now bytes.now).layers)) }
     requires room { bare_length format.now count ≤ length bytes.now }
     ensures { Tells result
         (end_rows format.now bytes.now (fields_in format.now bytes.now).layers) }

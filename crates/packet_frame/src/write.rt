@@ -1,6 +1,7 @@
 //! A frame to its bytes.
 ghost use Rattle.std.specs.Prelude.{◌≡◌, ℕ, ◌+◌, ◌-◌, ◌*◌, ◌<◌, ◌≤◌, List, [], ◌++◌, length, take, drop, OnOk, OnErr, vec_len, vec_capacity};
 ghost use Rattle.std.specs.List.{flat_map};
+ghost use Rattle.stripe_plan.specs.Sizes.{datagram_length_of};
 ghost use Rattle.packet_frame.specs.Format.{IsFormat};
 ghost use Rattle.packet_frame.specs.Frame.{IsFrame, IsFrameIn, text, text_in, text_before_payload, tag_of, layer_text, head_text, payload_length_of};
 ghost use Rattle.packet_frame.specs.Refusals.{ReadsAs};
@@ -11,11 +12,12 @@ ghost use Rattle.packet_frame.specs.declared.format.TheConstants.{FORMAT};
 use crate::format::{FORMAT, Format};
 use crate::frame::Header;
 use crate::parts::{HEAD, Head, LAYER};
+use crate::planned::begin_planned;
 use pet_base::{
     HEAD_LENGTH, LAYER_LENGTH, MAX_DATAGRAM, MAX_GROUPS, MAX_LAYERS, NoMemory, TAG_LENGTH,
 };
 use sha2::{Digest, Sha256};
-use stripe_plan::{LayerSize, stripes};
+use stripe_plan::LayerSize;
 
 /// Appends the text of a frame. The room is taken before the first byte.
 pub fn write_frame(
@@ -49,6 +51,15 @@ pub fn write_frame(
     write_text(&FORMAT, &head, layers, payload, into)
 }
 
+/// How many bytes the frame with this payload has, which has a word for each stripe of the plan.
+pub fn frame_length(header: &Header, payload: &[u8]) -> usize
+    requires { length payload.now ≡ payload_length_of header.now.table.layers }
+    ensures length { result ≡ datagram_length_of header.now.table.layers }
+    ensures narrow { result ≤ MAX_DATAGRAM }
+{
+    HEAD + LAYER * header.table.layers().len() + payload.len() + FORMAT.tag
+}
+
 /// Begins the text of a frame: appends all that is before its payload. The room for the whole text is taken before the
 /// first byte.
 pub fn begin_frame(header: &Header, number: u16, into: &mut Vec<u8>) -> Result<(), NoMemory>
@@ -66,15 +77,8 @@ pub fn begin_frame(header: &Header, number: u16, into: &mut Vec<u8>) -> Result<(
         → length payload ≡ payload_length_of header.now.table.layers
         → IsFrame (fields_with header.now number payload) }
 {
-    let head = Head {
-        session: header.session,
-        groups: header.groups,
-        group: header.group,
-        packets: header.table.packets(),
-        number,
-    };
-    let payload = 2 * stripes(&header.table) as usize;
-    begin_text(&FORMAT, &head, header.table.layers(), payload, into)
+    let _bounds = header.table.layers();
+    begin_planned(&FORMAT, header, number, into)
 }
 
 /// Ends the text of a frame that begins at `start`: appends its tag, for which there is room.
@@ -83,7 +87,7 @@ pub fn end_frame(start: usize, into: &mut Vec<u8>)
     requires room { vec_len into.old + TAG_LENGTH ≤ vec_capacity into.old }
     ensures { into.new.items ≡ into.old.items ++ tag_of FORMAT (drop start into.old.items) }
 {
-    append_tag(&FORMAT, start, into);
+    end_planned(&FORMAT, start, into);
 }
 
 /// Appends the text of a frame of a format. The room is taken before the first byte.
@@ -103,12 +107,12 @@ pub fn write_text(
     let start = into.len();
     begin_text(format, head, layers, payload.len(), into)?;
     append(payload, into);
-    append_tag(format, start, into);
+    end_planned(format, start, into);
     Ok(())
 }
 
 /// Appends all that is before a payload of so many bytes. The room for the whole text is taken before the first byte.
-fn begin_text(
+pub(crate) fn begin_text(
     format: &Format,
     head: &Head,
     layers: &[LayerSize],
@@ -162,13 +166,12 @@ fn append_layers(layers: &[LayerSize], into: &mut Vec<u8>)
     }
 }
 
-/// Appends the tag of the bytes from `start` on.
-fn append_tag(format: &Format, start: usize, into: &mut Vec<u8>)
+/// Ends the text of a frame of a format that begins at `start`: appends its tag, for which there is room.
+pub fn end_planned(format: &Format, start: usize, into: &mut Vec<u8>)
     requires format { IsFormat format.now }
     requires start { start ≤ vec_len into.old }
     requires room { vec_len into.old + format.now.tag ≤ vec_capacity into.old }
-    ensures items { into.new.items ≡ into.old.items
-        ++ tag_of format.now (drop start into.old.items) }
+    ensures { into.new.items ≡ into.old.items ++ tag_of format.now (drop start into.old.items) }
 {
     let digest = Sha256::digest(&into[start..]);
     append(&digest[..format.tag], into);

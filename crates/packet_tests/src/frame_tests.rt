@@ -6,7 +6,7 @@ use std::test::Fail;
 use stripe_plan::{LayerSize, Table, datagram_length};
 
 /// Packet 1 of 2 of the only group of a session: one layer of 3 bytes and need 1.
-const FRAME: [u8; 51] = [
+pub const FRAME: [u8; 51] = [
     b'P', b'E', b'T', b'2', 0, 1, 2, 3, 4, 5, 6, 7, 0, 0, 0, 1, 0, 0, 0, 0, 0, 2, 0, 1, 1, 0, 0, 0,
     3, 0, 1, 0xAB, 0xCD, 0xEF, 0, 0x3A, 0x1B, 0x65, 0x06, 0xD1, 0x75, 0x88, 0xD0, 0x26, 0x0F, 0x80,
     0xED, 0x45, 0xE0, 0x9D, 0xE1,
@@ -19,7 +19,7 @@ const OLD_FRAME: [u8; 43] = [
 ];
 
 /// The bytes and a tag.
-fn tagged(alloc: Global, bytes: &[u8], tag: &[u8]) -> Result<Vec<u8>, AllocError> {
+pub fn tagged(alloc: Global, bytes: &[u8], tag: &[u8]) -> Result<Vec<u8>, AllocError> {
     let mut frame = Vec::from_slice(alloc, bytes)?;
     frame.extend_from_slice(tag)?;
     Ok(frame)

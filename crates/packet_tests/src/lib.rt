@@ -10,6 +10,8 @@ mod group_fixtures;
 pub use group_fixtures::{MESSAGE, header_of};
 
 #[cfg(test)]
+mod byte_frame_tests;
+#[cfg(test)]
 mod encode_tests;
 #[cfg(test)]
 mod frame_tests;

@@ -12,4 +12,4 @@
 
 mod cost;
 
-pub use cost::group_cost;
+pub use cost::{group_cost, group_cost_by};

@@ -1,64 +1,43 @@
 //! The receiver of one session.
 ghost use Rattle.std.specs.Prelude.{◌≡◌, ◌≢◌, None, IfErr, map, ◌↔◌, ℕ, ◌+◌, ◌≤◌, false, true, List, [], ◌∷◌, ◌++◌, Some, IsSome, IsTrue, IfOk, IfSome, OnOk, OnErr, option_copied, option_map};
-ghost use Rattle.std.specs.Option.{option_or};
 ghost use Rattle.pet_base.specs.declared.limits.TheConstants.{MAX_PACKETS};
-ghost use Rattle.packet_frame.specs.Frame.{IsFrame};
 ghost use Rattle.packet_frame.specs.Refusals.{fields_of};
-ghost use Rattle.packet_frame.specs.View.{view};
 ghost use Rattle.packet_set.specs.Packets.{Packets};
 ghost use Rattle.interpolation.specs.Progressive.{step_bound};
 ghost use Rattle.pet_encode.specs.Session.{IsMessage, bytes_of_layer};
-ghost use Rattle.kept_sets.specs.KeptSet.{IsKeptSet, empty_set, open_group, payload_of, Keeps, count_kept, kept_in_all, keep, told_by, cost_kept};
-ghost use Rattle.kept_sets.specs.Verdicts.{verdict_of, frame_verdict, is_kept, opens, after};
+ghost use Rattle.kept_sets.specs.KeptSet.{IsKeptSet, empty_set, open_group, payload_of, Keeps, count_kept, kept_in_all, told_by};
+ghost use Rattle.kept_sets.specs.Verdicts.{verdict_of, is_kept, opens, after};
 ghost use Rattle.pet_receive.specs.Arrivals.{Order, HasKept, kept_set, numbers_of, layers_of, stripe_lengths};
 ghost use Rattle.pet_receive.specs.UnionSteps.{union_steps};
 ghost use Rattle.kept_sets.specs.Union.{union, absorb_fault, new_pairs, shown_by_union};
 ghost use Rattle.pet_receive.specs.ShownBytes.{IsShown, IsShownBytes, Agrees, IsComplete, shown_in_all};
 
-use crate::checks::{cost_with, find_clash, packets_in};
-use crate::joining::take_in;
-use crate::judge::judge_group;
-use crate::keeping::keep_frame;
-use crate::totals::{Count, total};
-use kept_sets::{Absorb, Verdict, is_other_count};
-use open_group::OpenGroup;
-use packet_frame::{Frame, Header, read_frame};
-use packet_set::PacketSet;
+use kept_sets::{Absorb, Verdict};
+use packet_frame::{FORMAT, Header};
+use packet_receiver::PacketReceiver;
 use pet_base::{NoMemory, Steps};
 use pet_rows::Rows;
 use std::alloc::Global;
-use std::collections::BTreeMap;
 use std::marker::Model;
 use std::sync::ledger::Ledger;
 
 /// What was kept of one session, and what it shows.
 #[derive(Drop)]
 pub struct Receiver<'f, F: Rows> {
-    /// Where the memory of open groups comes from.
-    alloc: Global,
-    /// The field of the words.
-    field: &'f F,
-    /// The session's number.
-    session: [u8; 8],
-    /// What the open groups may cost.
-    limit: u64,
-    /// The open groups by number.
-    groups: BTreeMap<u32, OpenGroup<'f, F>>,
-    /// How many groups the session has, where a packet is kept.
-    told: Option<u32>,
-    /// Packets times datagram length, summed over the open groups.
-    cost: u64,
+    /// The receiver of FORMAT, over a field whose elements have two bytes.
+    core: PacketReceiver<'f, F>,
 }
 
 impl<'f, F: Rows> Model for Receiver<'f, F> {
+    ghost use Rattle.std.specs.Prelude.{◌≡◌};
+    ghost use Rattle.packet_frame.specs.declared.format.TheConstants.{FORMAT};
     ghost use Rattle.pet_receive.specs.Arrivals.{ReceiverState};
-    ghost use Rattle.pet_receive.specs.Receiving.{IsReceiver};
 
     ghost Value = { ReceiverState F.Elem };
 
-    ghost view = { λ r. record { session = r.session; limit = r.limit; groups = r.groups.entries } };
+    ghost view = { λ r. r.core };
 
-    ghost invariant = { λ r. IsReceiver F.is_element F.COUNT F.coding (record { session = r.session; limit = r.limit; groups = r.groups.entries }) r.told r.cost };
+    ghost invariant = { λ r. (r.core.format ≡ FORMAT) × (F.coding.width ≡ 2) };
 }
 
 impl<'f, F: Rows> Receiver<'f, F> {
@@ -73,13 +52,7 @@ impl<'f, F: Rows> Receiver<'f, F> {
         ensures sound { IsKeptSet (kept_set result) }
     {
         Receiver {
-            alloc,
-            field: f,
-            session,
-            limit,
-            groups: BTreeMap::new(alloc),
-            told: None,
-            cost: 0,
+            core: PacketReceiver::new(alloc, f, FORMAT, session, limit),
         }
     }
 
@@ -107,14 +80,7 @@ impl<'f, F: Rows> Receiver<'f, F> {
             (stripe_lengths (fields_of datagram.now).layers)) }
         ensures sound { IsKeptSet (kept_set self.new) }
     {
-        match read_frame(datagram) {
-            Ok(frame) => self.take(&frame, steps),
-            Err(_) => {
-                // A field is touched, so that what the type promises of itself is known here.
-                let _ = &self.told;
-                Ok(Verdict::Damaged)
-            }
-        }
+        self.core.accept(datagram, steps)
     }
 
     /// Takes in all packets that the other receiver has kept, by group, then number, and answers the layers that are shown now
@@ -138,17 +104,7 @@ impl<'f, F: Rows> Receiver<'f, F> {
             + union_steps (kept_set self.old) (kept_set other.now)) }
         ensures sound { IsKeptSet (kept_set self.new) }
     {
-        let cost = self.fit(other)?;
-        let shown = take_in(
-            self.alloc,
-            self.field,
-            &mut self.groups,
-            &other.groups,
-            steps,
-        )?;
-        self.told = told_by_either(self.told, other.told);
-        self.cost = cost;
-        Ok(shown)
+        self.core.absorb(&other.core, steps)
     }
 
     /// The bytes of a layer of a group, where it is shown. It takes no memory.
@@ -159,60 +115,42 @@ impl<'f, F: Rows> Receiver<'f, F> {
         ensures agreed { (p : Packets) (message : List ℕ) → open_group (kept_set self.now) group ≡ Some p → IsMessage F.coding.width (layers_of p) message → Agrees F.coding p message
             → IfSome result (λ bytes. bytes.now ≡ bytes_of_layer F.coding.width (layers_of p) message layer) }
     {
-        match self.groups.get(&group) {
-            Some(open) => open.layer(layer),
-            None => None,
-        }
+        self.core.layer(group, layer)
     }
 
     /// Whether something is kept and every layer of every group of the session is shown. It takes no memory.
     pub fn complete(&self) -> bool
         ensures { IsTrue result ↔ IsComplete (kept_set self.now) }
     {
-        match self.told {
-            Some(groups) => total(Count::Whole, &self.groups) == groups,
-            None => false,
-        }
+        self.core.complete()
     }
 
     /// How many packets of a group are kept. It takes no memory.
     pub fn count(&self, group: u32) -> u16
         ensures { result ≡ count_kept (kept_set self.now) group }
     {
-        match self.packets(group) {
-            Some(packets) => packets.len(),
-            None => 0,
-        }
+        self.core.count(group)
     }
 
     /// Whether a packet of a group is kept. It takes no memory.
     pub fn has(&self, group: u32, number: u16) -> bool
         ensures { IsTrue result ↔ Keeps (kept_set self.now) group number }
     {
-        match self.packets(group) {
-            Some(packets) => packets.has(number),
-            None => false,
-        }
+        self.core.has(group, number)
     }
 
     /// The payload of a packet of a group, where it is kept. It takes no memory.
     pub fn packet(&self, group: u32, number: u16) -> Option<&[u8]>
         ensures { option_copied result ≡ payload_of (kept_set self.now) group number }
     {
-        match self.packets(group) {
-            Some(packets) => packets.payload(number),
-            None => None,
-        }
+        self.core.packet(group, number)
     }
 
     /// What the packets of a group share, where one is kept. It takes no memory.
     pub fn header(&self, group: u32) -> Option<&Header>
         ensures { option_copied result ≡ option_map (λ p. p.header) (open_group (kept_set self.now) group) }
     {
-        match self.packets(group) {
-            Some(packets) => Some(packets.header()),
-            None => None,
-        }
+        self.core.header(group)
     }
 
     /// How many groups the session has, where a packet is kept. It takes no memory.
@@ -220,138 +158,27 @@ impl<'f, F: Rows> Receiver<'f, F> {
         ensures value { result ≡ told_by (kept_set self.now) }
         ensures sound { IsKeptSet (kept_set self.now) }
     {
-        self.told
+        self.core.groups()
     }
 
     /// The session's number. It takes no memory.
     pub fn session(&self) -> [u8; 8]
         ensures { result ≡ (kept_set self.now).session }
     {
-        self.session
+        self.core.session()
     }
 
     /// How many packets are kept. It takes no memory.
     pub fn kept(&self) -> u32
         ensures { result ≡ kept_in_all (kept_set self.now) }
     {
-        // A field is touched, so that what the type promises of itself is known here.
-        let _ = &self.told;
-        total(Count::Packets, &self.groups)
+        self.core.kept()
     }
 
     /// How many layers are shown. It takes no memory.
     pub fn shown(&self) -> u32
         ensures { result ≡ shown_in_all (kept_set self.now) }
     {
-        // A field is touched, so that what the type promises of itself is known here.
-        let _ = &self.told;
-        total(Count::Shown, &self.groups)
-    }
-
-    /// The packets that are kept of a group, where it is open.
-    fn packets(&self, group: u32) -> Option<&PacketSet>
-        ensures { option_copied result ≡ open_group (kept_set self.now) group }
-    {
-        packets_in(&self.groups, group)
-    }
-
-    /// What the open groups cost with those of the other, or why the two cannot be joined.
-    fn fit(&self, other: &Receiver<'f, F>) -> Result<u64, Absorb>
-        ensures refused { IfErr result (λ fault. absorb_fault (kept_set self.now) (kept_set other.now) ≡ Some fault) }
-        ensures joined { OnOk result (absorb_fault (kept_set self.now) (kept_set other.now) ≡ None) }
-        ensures cost { IfOk result (λ cost. cost ≡ cost_kept (union (kept_set self.now) (kept_set other.now))) }
-    {
-        if self.session != other.session {
-            return Err(Absorb::OtherSession);
-        }
-        if let Some(clash) = find_clash(self.told, &self.groups, &other.groups) {
-            return Err(clash);
-        }
-        match cost_with(&self.groups, &other.groups, self.limit, self.cost) {
-            Ok(cost) => Ok(cost),
-            Err(group) => Err(Absorb::Full(group)),
-        }
-    }
-
-    /// Judges a frame, and keeps it where the verdict is `Kept`.
-    fn take<L: Ledger>(
-        &mut self,
-        frame: &Frame<'_>,
-        steps: &mut Steps<L>,
-    ) -> Result<Verdict, NoMemory>
-        requires frame { IsFrame (view frame.now) }
-        ensures verdict { IfOk result (λ v. v
-            ≡ frame_verdict (kept_set self.old) (view frame.now)) }
-        ensures kept { IfOk result (λ v. is_kept v ≡ true
-            → kept_set self.new ≡ keep (kept_set self.old) (view frame.now)) }
-        ensures unchanged { IfOk result (λ v. is_kept v ≡ false → (self.new ≡ self.old)
-            × (steps.new ≡ steps.old)) }
-        ensures memory { OnErr result ((self.new ≡ self.old) × (steps.new ≡ steps.old)
-            × (is_kept (frame_verdict (kept_set self.old) (view frame.now)) ≡ true)
-            × (opens (kept_set self.old) (view frame.now) ≡ true)) }
-        ensures order { IfOk result (λ v. is_kept v ≡ true → (order : Order) → HasKept F.is_element F.coding self.old order
-            → HasKept F.is_element F.coding self.new (order ++ ((frame.now.header.group, frame.now.number) ∷ []))) }
-        ensures cost { IfOk result (λ v. is_kept v ≡ true
-            → steps.new ≤ steps.old + step_bound
-            (count_kept (kept_set self.old) frame.now.header.group)
-            (stripe_lengths frame.now.header.table.layers)) }
-        ensures sound { IsKeptSet (kept_set self.new) }
-    {
-        match self.judge(frame) {
-            Verdict::Kept(shown) => {
-                self.keep(frame, steps)?;
-                Ok(Verdict::Kept(shown))
-            }
-            refused => Ok(refused),
-        }
-    }
-
-    /// The verdict of a frame.
-    fn judge(&self, frame: &Frame<'_>) -> Verdict
-        ensures verdict { result ≡ frame_verdict (kept_set self.now) (view frame.now) }
-        ensures sound { IsKeptSet (kept_set self.now) }
-    {
-        if frame.header.session != self.session {
-            return Verdict::Foreign;
-        }
-        if is_other_count(self.told, frame.header.groups) {
-            return Verdict::Clash;
-        }
-        judge_group(
-            packets_in(&self.groups, frame.header.group),
-            frame,
-            self.limit,
-            self.cost,
-        )
-    }
-
-    /// Keeps a frame whose verdict is `Kept`.
-    fn keep<L: Ledger>(&mut self, frame: &Frame<'_>, steps: &mut Steps<L>) -> Result<(), NoMemory>
-        requires frame { IsFrame (view frame.now) }
-        requires kept { is_kept (frame_verdict (kept_set self.old) (view frame.now)) ≡ true }
-        ensures kept { OnOk result (kept_set self.new ≡ keep (kept_set self.old) (view frame.now)) }
-        ensures err { OnErr result ((self.new ≡ self.old) × (steps.new ≡ steps.old)
-            × (opens (kept_set self.old) (view frame.now) ≡ true)) }
-        ensures order { OnOk result ((order : Order) → HasKept F.is_element F.coding self.old order
-            → HasKept F.is_element F.coding self.new (order ++ ((frame.now.header.group, frame.now.number) ∷ []))) }
-        ensures cost { OnOk result (steps.new
-            ≤ steps.old + step_bound (count_kept (kept_set self.old) frame.now.header.group)
-            (stripe_lengths frame.now.header.table.layers)) }
-        ensures sound { IsKeptSet (kept_set self.new) }
-    {
-        let more = keep_frame(self.alloc, self.field, &mut self.groups, frame, steps)?;
-        self.cost += more;
-        self.told = Some(frame.header.groups);
-        Ok(())
-    }
-}
-
-/// The number of groups that was told here, or else there.
-fn told_by_either(here: Option<u32>, there: Option<u32>) -> Option<u32>
-    ensures { result ≡ option_or here there }
-{
-    match here {
-        Some(count) => Some(count),
-        None => there,
+        self.core.shown()
     }
 }

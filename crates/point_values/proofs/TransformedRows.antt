@@ -3,11 +3,10 @@ use Rattle.std.proofs.Common.{◌≡◌, ℕ, zero, suc, ◌+◌, ◌*◌, ◌/�
 use Rattle.std.proofs.lemmas.Bool.{cases_lt}
 use Rattle.std.proofs.lemmas.Nat.{pow-add, div-add-mod', div_below, le-div, mod_below}
 use Rattle.std.proofs.lemmas.List.{ext_get_or, get_or-take, get_or-drop, get_or-map, get_or_past, get_or-replicate, length-take-le, length-drop, length-map, length-replicate}
-use Rattle.std.proofs.lemmas.List.Elements.{All-nil, All-head, All-tail, All-append}
+use Rattle.std.proofs.lemmas.List.Elements.{All-nil, All-head, All-tail, All-append, All-from_get_or}
 use Rattle.additive_fft.proofs.Counting.{butterflies_are}
 use Rattle.additive_fft.specs.Steps.{butterflies}
-use Rattle.pet_field.specs.Gf16.{gf16}
-use Rattle.pet_field.specs.laws.Gf16Laws.{gf16_field}
+use Rattle.pet_field.specs.Field.{Coding, IsCoding}
 use Rattle.pet_poly.specs.Value.{value}
 use Rattle.pet_rows.specs.declared.blocks.Block.{Block}
 use Rattle.pet_rows.specs.Blocks.{columns_of, lengths_of}
@@ -75,54 +74,78 @@ stripe_short d size bs laid h c l =
     rw same (lengths_short size bs h c 0 (omega (arith, ap length (column_lengths d bs laid), length-map (columns_of d bs laid) length)))
 
 -- rows place by place
-pub rows_are : (w count : ℕ) (row : ℕ → List ℕ) (items : List ℕ) → length items ≡ count * w → ((p : ℕ) → p < count → length (row p) ≡ w)
-    → ((p c : ℕ) → p < count → c < w → get_or items (p * w + c) 0 ≡ get_or (row p) c 0) → HasRows w count row items
-rows_are w count row items long wide is =
+pub rows_are : {E : Type 0} (d : E) (w count : ℕ) (row : ℕ → List E) (items : List E) → length items ≡ count * w → ((p : ℕ) → p < count → length (row p) ≡ w)
+    → ((p c : ℕ) → p < count → c < w → get_or items (p * w + c) d ≡ get_or (row p) c d) → HasRows w count row items
+rows_are {E = E} d w count row items long wide is =
     record {
       long = long;
       each =
           λ p l.
-          let here : List ℕ = take w (drop (p * w) items) in
+          let here : List E = take w (drop (p * w) items) in
           let here_long : length here ≡ w = length-take-le w (drop (p * w) items) (omega (arith, length-drop (p * w) items, row_within p count w l, long)) in
-          ext_get_or 0 here (row p) (here_long ∙ sym (wide p l))
+          ext_get_or d here (row p) (here_long ∙ sym (wide p l))
           (λ c m.
           let k : c < w = omega arith in
-          get_or-take w (drop (p * w) items) c 0 k ∙ get_or-drop (p * w) items c 0 ∙ is p c l k);
+          get_or-take w (drop (p * w) items) c d k ∙ get_or-drop (p * w) items c d ∙ is p c l k);
     }
 
 -- the values of stripes side by side
-pub values_are : (w size first count : ℕ) (columns : List (List ℕ)) (old items : List ℕ) → w ≡ length columns → AreSideBySide 0 size columns old
-    → ((c : ℕ) → c < length columns → length (get_or columns c []) ≤ size) → first + count ≤ 65536 → length items ≡ count * w
-    → ((p c : ℕ) → p < count → c < w → get_or items (p * w + c) 0 ≡ value gf16 (column 0 w size c old) (first + p))
-    → HasRows w count (λ p. map (λ s. value gf16 s (first + p)) columns) items
-values_are w size first count columns old items wide h short few long is =
-    rows_are w count (λ p. map (λ s. value gf16 s (first + p)) columns) items long (λ p l. length-map columns (λ s. value gf16 s (first + p)) ∙ sym wide)
-    (λ p c l m.
-    is p c l m ∙ ap (λ k. value gf16 (column 0 k size c old) (first + p)) wide
-    ∙ value_is_stripe (λ a. a < 65536) gf16 gf16_field size c columns old (first + p) h (omega arith) (short c (omega arith)) (omega arith)
-    ∙ sym (get_or-map (λ s. value gf16 s (first + p)) columns c [] 0 (omega arith)))
+module _ {E : Type 0} (P : E → Type 0) (points : ℕ) (f : Coding E) (laws : IsCoding P points f) where
+  abbrev at : ℕ → List E → E
+  at n s = value f.ops s (f.point_of n)
 
--- rows past the longest stripe are zero
-pub side_zeros : (w size known : ℕ) (columns : List (List ℕ)) (rows : List ℕ) → w ≡ length columns → AreSideBySide 0 size columns rows
-    → ((c : ℕ) → c < length columns → length (get_or columns c []) ≤ known) → (i : ℕ) → known * w ≤ i → get_or rows i 0 ≡ 0
-side_zeros w size known columns rows wide h short i l =
+  pub values_are : (w size first count : ℕ) (columns : List (List E)) (old items : List E) → w ≡ length columns → AreSideBySide f.ops.nought size columns old
+      → ((c : ℕ) → c < length columns → length (get_or columns c []) ≤ size) → first + count ≤ points → length items ≡ count * w
+      → ((p c : ℕ) → p < count → c < w → get_or items (p * w + c) f.ops.nought ≡ at (first + p) (column f.ops.nought w size c old))
+      → HasRows w count (λ p. map (at (first + p)) columns) items
+  values_are w size first count columns old items wide h short few long is =
+      rows_are f.ops.nought w count (λ p. map (at (first + p)) columns) items long (λ p l. length-map columns (at (first + p)) ∙ sym wide)
+      (λ p c l m.
+      is p c l m ∙ ap (λ k. at (first + p) (column f.ops.nought k size c old)) wide
+      ∙ value_is_stripe P f.ops laws.field size c columns old (f.point_of (first + p)) h (omega arith) (short c (omega arith)) (laws.points.point_is (first + p) (omega arith))
+      ∙ sym (get_or-map (at (first + p)) columns c [] f.ops.nought (omega arith)))
+
+some_column : (n size i : ℕ) → i < size * n → 0 < n
+some_column zero size i l = absurd (omega arith)
+some_column (suc n) size i l = omega arith
+
+-- each place of stripes side by side
+side_at : {E : Type 0} (d : E) (size : ℕ) (columns : List (List E)) (rows : List E) → AreSideBySide d size columns rows → (i : ℕ) → i < length rows
+    → (i % length columns < length columns) × (get_or rows i d ≡ get_or (get_or columns (i % length columns) []) (i / length columns) d)
+side_at d size columns rows h i l =
+    let n = length columns in
+    let inside : i < size * n = omega (arith, h.long) in
+    let some : 0 < n = some_column n size i inside in
+    let c : i % n < n = mod_below i n some in
+    (c, ap (λ k. get_or rows k d) (sym (div-add-mod' i n)) ∙ h.each (i / n) (i % n) (div_below i n size some inside) c)
+
+-- rows past the longest stripe are all `d`
+pub side_zeros : {E : Type 0} (d : E) (w size known : ℕ) (columns : List (List E)) (rows : List E) → w ≡ length columns → AreSideBySide d size columns rows
+    → ((c : ℕ) → c < length columns → length (get_or columns c []) ≤ known) → (i : ℕ) → known * w ≤ i → get_or rows i d ≡ d
+side_zeros d w size known columns rows wide h short i l =
     elim (cases_lt i (length rows)) [
       | inl s ↦
           let n = length columns in
-          let inside : i < size * n = omega (arith, h.long) in
-          let some : 0 < n = some_column n size i inside in
-          let p : i / n < size = div_below i n size some inside in
-          let c : i % n < n = mod_below i n some in
-          let past : known ≤ i / n = le-div known i n some (omega (arith, ap (λ t. known * t) wide)) in
-          ap (λ k. get_or rows k 0) (sym (div-add-mod' i n)) ∙ h.each (i / n) (i % n) p c
-          ∙ get_or_past (get_or columns (i % n) []) (i / n) 0 (omega (arith, short (i % n) c))
-      | inr s ↦ get_or_past rows i 0 s
+          let at = side_at d size columns rows h i s in
+          let past : known ≤ i / n = le-div known i n (omega (arith, at.0)) (omega (arith, ap (λ t. known * t) wide)) in
+          at.1 ∙ get_or_past (get_or columns (i % n) []) (i / n) d (omega (arith, short (i % n) at.0))
+      | inr s ↦ get_or_past rows i d s
     ]
-  where
-    some_column : (n size i : ℕ) → i < size * n → 0 < n
-    some_column zero size i l = absurd (omega arith)
-    some_column (suc n) size i l = omega arith
+
+-- they are elements, as those of the stripes are
+pub side_elements : {E : Type 0} (P : E → Type 0) (d : E) (size : ℕ) (columns : List (List E)) (rows : List E) → P d → All (All P) columns → AreSideBySide d size columns rows → All P rows
+side_elements P d size columns rows one all h =
+    All-from_get_or P rows d
+    (λ i l.
+    let stripe = get_or columns (i % length columns) [] in
+    let p = i / length columns in
+    let at = side_at d size columns rows h i l in
+    subst P (sym at.1)
+    (elim (cases_lt p (length stripe)) [
+      | inl m ↦ all (i % length columns) [] at.0 p d m
+      | inr m ↦ subst P (sym (get_or_past stripe p d m)) one
+    ]))
 
 -- what is known of stripes side by side holds of equal rows
-pub side_is : (size s : ℕ) (columns : List (List ℕ)) (old kept : List ℕ) → s ≡ size → old ≡ kept → AreSideBySide 0 s columns kept → AreSideBySide 0 size columns old
-side_is size s columns old kept e f h = subst (λ t. AreSideBySide 0 t columns old) e (subst (λ xs. AreSideBySide 0 s columns xs) (sym f) h)
+pub side_is : {E : Type 0} (d : E) (size s : ℕ) (columns : List (List E)) (old kept : List E) → s ≡ size → old ≡ kept → AreSideBySide d s columns kept → AreSideBySide d size columns old
+side_is d size s columns old kept e f h = subst (λ t. AreSideBySide d t columns old) e (subst (λ xs. AreSideBySide d s columns xs) (sym f) h)

@@ -1,15 +1,13 @@
 //! The values of all stripes at many points: a row for each point.
 ghost use Rattle.std.specs.Prelude.{◌≡◌, ℕ, ◌+◌, ◌*◌, ◌<◌, ◌≤◌, ◌^◌, length, map, All, IfOk};
-ghost use Rattle.pet_field.specs.Gf16.{gf16};
 ghost use Rattle.pet_poly.specs.Value.{value};
 ghost use Rattle.pet_rows.specs.Blocks.{columns_of, size_of, width_of};
 ghost use Rattle.point_values.specs.Matrix.{HasRows};
 
 use crate::transformed::fill_transformed;
+use additive_fft::Subspaces;
 use pet_base::{MAX_PACKETS, NoMemory, Steps};
-use pet_field::Gf16Plain;
 use pet_rows::{Block, MAX_WIDTH, Rows, block_values};
-use pet_tables::Gf16Tables;
 use std::alloc::Global;
 use std::sync::ledger::Ledger;
 
@@ -45,22 +43,20 @@ pub trait AllValues: Rows {
     }
 }
 
-impl AllValues for Gf16Plain {}
-
-/// By the additive fast Fourier transform where that makes no more products, its buffers are small and there is memory for
-/// them, and else point after point.
-impl AllValues for Gf16Tables {
+/// A field that has the constants of the transform: by the additive fast Fourier transform where that makes no more products,
+/// its buffers are small and there is memory for them, and else point after point.
+impl<F: Subspaces + Rows> AllValues for F {
     fn value_rows<L: Ledger>(
         &self,
         alloc: Global,
         blocks: &[Block],
-        laid: &[u16],
+        laid: &[F::Elem],
         stripes: usize,
         first: usize,
         count: usize,
         steps: &mut Steps<L>,
-    ) -> Result<Vec<u16>, NoMemory> {
-        let mut values = vec![in alloc; 0u16; count * stripes]?;
+    ) -> Result<Vec<F::Elem>, NoMemory> {
+        let mut values = vec![in alloc; self.zero(); count * stripes]?;
         fill_values(
             self,
             alloc,
@@ -77,24 +73,27 @@ impl AllValues for Gf16Tables {
 }
 
 /// Writes the values of all stripes at these points into the rows, by a transform or point after point.
-fn fill_values<L: Ledger>(
-    f: &Gf16Tables,
+fn fill_values<F: Subspaces + Rows, L: Ledger>(
+    f: &F,
     alloc: Global,
     blocks: &[Block],
-    laid: &[u16],
+    laid: &[F::Elem],
     stripes: usize,
     first: usize,
     count: usize,
-    into: &mut [u16],
+    into: &mut [F::Elem],
     steps: &mut Steps<L>,
 )
     requires narrow { All (λ b. b.width ≤ MAX_WIDTH) blocks.now }
     requires whole { length laid.now ≡ size_of blocks.now }
     requires stripes { stripes ≡ width_of blocks.now }
+    requires elements { All F.is_element laid.now }
+    requires points { first + count ≤ F.COUNT }
     requires few { first + count ≤ MAX_PACKETS }
     requires room { length into.old ≡ count * stripes }
     ensures rows { HasRows stripes count
-        (λ p. map (λ s. value gf16 s (first + p)) (columns_of 0 blocks.now laid.now)) into.new }
+        (λ p. map (λ s. value F.coding.ops s (F.coding.point_of (first + p)))
+        (columns_of F.coding.ops.nought blocks.now laid.now)) into.new }
     ensures cost { steps.new ≤ steps.old + count * length laid.now }
 {
     if !fill_transformed(f, alloc, blocks, laid, stripes, first, count, into, steps) {

@@ -1,15 +1,12 @@
 //! The values of the columns of rows at the points of a range of numbers: one conversion, and then coset after coset.
-ghost use Rattle.std.specs.Prelude.{◌≡◌, ℕ, ◌+◌, ◌-◌, ◌*◌, ◌<◌, ◌≤◌, ◌^◌, length, slice_index};
+ghost use Rattle.std.specs.Prelude.{◌≡◌, ℕ, ◌+◌, ◌-◌, ◌*◌, ◌<◌, ◌≤◌, ◌^◌, length, slice_index_or, All};
 ghost use Rattle.additive_fft.specs.Basis.{value_in_basis};
-ghost use Rattle.additive_fft.specs.Constants.{inverse};
 ghost use Rattle.additive_fft.specs.Steps.{butterflies};
-ghost use Rattle.pet_field.specs.Gf16.{gf16};
 ghost use Rattle.pet_poly.specs.Value.{value};
 ghost use Rattle.pet_rows.specs.Columns.{column};
 
-use additive_fft::{convert, values_at_coset};
+use additive_fft::{Subspaces, convert, values_at_coset};
 use pet_base::{MAX_PACKETS, Steps};
-use pet_tables::Gf16Tables;
 use std::sync::ledger::Ledger;
 
 /// The highest level of a transform: it has 4,096 points, as many as a group has packets at most.
@@ -38,10 +35,10 @@ pub(crate) fn coset_of(number: usize, level: u32) -> u16
 /// Takes each column of 2^level rows, as the coefficients of a polynomial, to its values at the points of the numbers `first`
 /// to `first + count - 1`, which lie in the cosets `from` to `last`: these go into `into`, a row for each number. The rows from
 /// `known` on are zero. Where there are several cosets, `spare` is as long as the rows.
-pub(crate) fn transform<L: Ledger>(
-    f: &Gf16Tables,
-    rows: &mut [u16],
-    spare: &mut [u16],
+pub(crate) fn transform<F: Subspaces, L: Ledger>(
+    f: &F,
+    rows: &mut [F::Elem],
+    spare: &mut [F::Elem],
     stripes: usize,
     level: u32,
     known: usize,
@@ -49,13 +46,16 @@ pub(crate) fn transform<L: Ledger>(
     last: u16,
     first: usize,
     count: usize,
-    into: &mut [u16],
+    into: &mut [F::Elem],
     steps: &mut Steps<L>,
 )
     requires level { level ≤ MAX_LEVEL }
+    requires below { level < F.LEVELS }
+    requires elements { All F.is_element rows.old }
     requires size { length rows.old ≡ 2 ^ level * stripes }
     requires known { known ≤ 2 ^ level }
-    requires zeros { (i : ℕ) → known * stripes ≤ i → slice_index rows.old i ≡ 0 }
+    requires zeros { (i : ℕ) → known * stripes ≤ i → slice_index_or rows.old i F.coding.ops.nought
+        ≡ F.coding.ops.nought }
     requires spare { from < last → length spare.old ≡ 2 ^ level * stripes }
     requires order { from ≤ last }
     requires begins { from * 2 ^ level ≤ first }
@@ -63,9 +63,12 @@ pub(crate) fn transform<L: Ledger>(
     requires some { last * 2 ^ level < first + count }
     requires ends { first + count ≤ last * 2 ^ level + 2 ^ level }
     requires few { first + count ≤ MAX_PACKETS }
+    requires points { first + count ≤ F.COUNT }
     requires room { length into.old ≡ count * stripes }
-    ensures values { (p c : ℕ) → p < count → c < stripes → slice_index into.new (p * stripes + c)
-        ≡ value gf16 (column 0 stripes (2 ^ level) c rows.old) (first + p) }
+    ensures values { (p c : ℕ) → p < count → c < stripes
+        → slice_index_or into.new (p * stripes + c) F.coding.ops.nought
+        ≡ value F.coding.ops (column F.coding.ops.nought stripes (2 ^ level) c rows.old)
+        (F.coding.point_of (first + p)) }
     ensures cost { steps.new ≤ steps.old + level * (known * stripes) + 2 ^ (level + 1)
         + (last - from + 1) * (butterflies level * stripes + 2 ^ (level + 1)) }
 {
@@ -77,20 +80,22 @@ pub(crate) fn transform<L: Ledger>(
 
 /// Writes the values of each column, as coefficients in the basis of the subspaces, coset after coset. The last coset is made
 /// of the rows themselves, each before it of a copy.
-fn fill_cosets<L: Ledger>(
-    f: &Gf16Tables,
-    rows: &mut [u16],
-    spare: &mut [u16],
+fn fill_cosets<F: Subspaces, L: Ledger>(
+    f: &F,
+    rows: &mut [F::Elem],
+    spare: &mut [F::Elem],
     stripes: usize,
     level: u32,
     from: u16,
     last: u16,
     first: usize,
     count: usize,
-    into: &mut [u16],
+    into: &mut [F::Elem],
     steps: &mut Steps<L>,
 )
     requires level { level ≤ MAX_LEVEL }
+    requires below { level < F.LEVELS }
+    requires elements { All F.is_element rows.old }
     requires size { length rows.old ≡ 2 ^ level * stripes }
     requires spare { from < last → length spare.old ≡ 2 ^ level * stripes }
     requires order { from ≤ last }
@@ -99,9 +104,12 @@ fn fill_cosets<L: Ledger>(
     requires some { last * 2 ^ level < first + count }
     requires ends { first + count ≤ last * 2 ^ level + 2 ^ level }
     requires few { first + count ≤ MAX_PACKETS }
+    requires points { first + count ≤ F.COUNT }
     requires room { length into.old ≡ count * stripes }
-    ensures values { (p c : ℕ) → p < count → c < stripes → slice_index into.new (p * stripes + c)
-        ≡ value_in_basis gf16 inverse level (column 0 stripes (2 ^ level) c rows.old) (first + p) }
+    ensures values { (p c : ℕ) → p < count → c < stripes
+        → slice_index_or into.new (p * stripes + c) F.coding.ops.nought
+        ≡ value_in_basis F.coding.ops F.inverse level
+        (column F.coding.ops.nought stripes (2 ^ level) c rows.old) (F.coding.point_of (first + p)) }
     ensures cost { steps.new ≤ steps.old
         + (last - from + 1) * (butterflies level * stripes + 2 ^ (level + 1)) }
 {
@@ -113,29 +121,34 @@ fn fill_cosets<L: Ledger>(
 }
 
 /// Writes the values of each column at those of the numbers `first` to `first + count - 1` that lie in a coset.
-fn fill_coset<L: Ledger>(
-    f: &Gf16Tables,
-    rows: &mut [u16],
+fn fill_coset<F: Subspaces, L: Ledger>(
+    f: &F,
+    rows: &mut [F::Elem],
     stripes: usize,
     level: u32,
     coset: u16,
     first: usize,
     count: usize,
-    into: &mut [u16],
+    into: &mut [F::Elem],
     steps: &mut Steps<L>,
 )
     requires level { level ≤ MAX_LEVEL }
+    requires below { level < F.LEVELS }
+    requires elements { All F.is_element rows.old }
     requires size { length rows.old ≡ 2 ^ level * stripes }
     requires some { coset * 2 ^ level < first + count }
     requires near { first < coset * 2 ^ level + 2 ^ level }
     requires few { first + count ≤ MAX_PACKETS }
+    requires points { first + count ≤ F.COUNT }
     requires room { length into.old ≡ count * stripes }
     ensures values { (p c : ℕ) → p < count → coset * 2 ^ level ≤ first + p
         → first + p < coset * 2 ^ level + 2 ^ level → c < stripes
-        → slice_index into.new (p * stripes + c)
-        ≡ value_in_basis gf16 inverse level (column 0 stripes (2 ^ level) c rows.old) (first + p) }
+        → slice_index_or into.new (p * stripes + c) F.coding.ops.nought
+        ≡ value_in_basis F.coding.ops F.inverse level
+        (column F.coding.ops.nought stripes (2 ^ level) c rows.old) (F.coding.point_of (first + p)) }
     ensures before { (p c : ℕ) → p < count → first + p < coset * 2 ^ level → c < stripes
-        → slice_index into.new (p * stripes + c) ≡ slice_index into.old (p * stripes + c) }
+        → slice_index_or into.new (p * stripes + c) F.coding.ops.nought
+        ≡ slice_index_or into.old (p * stripes + c) F.coding.ops.nought }
     ensures cost { steps.new ≤ steps.old + (butterflies level * stripes + 2 ^ (level + 1)) }
 {
     let size = size_at(level);
@@ -148,13 +161,21 @@ fn fill_coset<L: Ledger>(
 }
 
 /// Writes `count` rows of a width, from row `from` on, over those from row `to` on.
-fn copy_rows(rows: &[u16], width: usize, from: usize, into: &mut [u16], to: usize, count: usize)
+fn copy_rows<E: Copy>(
+    rows: &[E],
+    width: usize,
+    from: usize,
+    into: &mut [E],
+    to: usize,
+    count: usize,
+)
     requires source { (from + count) * width ≤ length rows.now }
     requires target { (to + count) * width ≤ length into.old }
-    ensures copied { (p c : ℕ) → p < count → c < width
-        → slice_index into.new ((to + p) * width + c)
-        ≡ slice_index rows.now ((from + p) * width + c) }
-    ensures before { (i : ℕ) → i < to * width → slice_index into.new i ≡ slice_index into.old i }
+    ensures copied { (d : E) (p c : ℕ) → p < count → c < width
+        → slice_index_or into.new ((to + p) * width + c) d
+        ≡ slice_index_or rows.now ((from + p) * width + c) d }
+    ensures before { (d : E) (i : ℕ) → i < to * width
+        → slice_index_or into.new i d ≡ slice_index_or into.old i d }
 {
     let start = from * width;
     let place = to * width;

@@ -1,38 +1,38 @@
-//! The values of all stripes at many points by the additive fast Fourier transform, over the field of 65,536 elements.
-ghost use Rattle.std.specs.Prelude.{◌≡◌, ℕ, ◌+◌, ◌*◌, ◌<◌, ◌≤◌, ◌^◌, length, map, All, IfOk, vec_len, true, false};
+//! The values of all stripes at many points by the additive fast Fourier transform, over any field that has its constants.
+ghost use Rattle.std.specs.Prelude.{◌≡◌, ℕ, ◌+◌, ◌*◌, ◌<◌, ◌≤◌, ◌^◌, length, map, All, IfOk, IfSome, vec_len, true, false};
 ghost use Rattle.additive_fft.specs.Steps.{butterflies};
-ghost use Rattle.pet_field.specs.Gf16.{gf16};
 ghost use Rattle.pet_poly.specs.Value.{value};
 ghost use Rattle.pet_rows.specs.Blocks.{columns_of, size_of, width_of};
 ghost use Rattle.point_values.specs.Matrix.{HasRows};
 
 use crate::cosets::{MAX_LEVEL, coset_of, size_at, transform};
 use crate::wide::side_by_side;
+use additive_fft::Subspaces;
 use pet_base::{MAX_PACKETS, Steps};
 use pet_rows::Block;
-use pet_tables::Gf16Tables;
 use std::alloc::{AllocError, Global};
 use std::sync::ledger::Ledger;
 
-/// The most words of the buffers of a transform: 16 MB.
+/// The most words of the buffers of a transform: 16 MB, where a word has two bytes.
 const MAX_WIDE: usize = 8_388_608;
 
 /// The most words of one buffer for each word of the stripes.
 const MAX_PADDING: usize = 4;
 
-/// The least level of a transform of at least so many rows, or else the highest.
-fn level_of(rows: usize) -> u32
-    ensures few { result ≤ MAX_LEVEL }
-    ensures enough { rows ≤ MAX_PACKETS → rows ≤ 2 ^ result }
+/// The least of so many levels that has at least so many rows, if there is one that is not above `MAX_LEVEL`.
+fn level_of(rows: usize, levels: u32) -> Option<u32>
+    ensures below { IfSome result (λ level. level < levels) }
+    ensures few { IfSome result (λ level. level ≤ MAX_LEVEL) }
+    ensures enough { IfSome result (λ level. rows ≤ 2 ^ level) }
 {
     let mut size = 1;
-    for level in 0..MAX_LEVEL {
+    for level in 0..levels.min(MAX_LEVEL + 1) {
         if rows <= size {
-            return level;
+            return Some(level);
         }
         size *= 2;
     }
-    MAX_LEVEL
+    None
 }
 
 /// The most elements that a stripe has.
@@ -82,50 +82,60 @@ fn is_taken(
 }
 
 /// Room for one coset more than the first, if there are several.
-fn room_for(alloc: Global, several: bool, words: usize) -> Result<Vec<u16>, AllocError>
+fn room_for<E: Copy>(
+    alloc: Global,
+    several: bool,
+    words: usize,
+    zero: E,
+) -> Result<Vec<E>, AllocError>
     ensures { IfOk result (λ v. several ≡ true → vec_len v ≡ words) }
 {
     let room = if several { words } else { 0 };
-    vec![in alloc; 0u16; room]
+    vec![in alloc; zero; room]
 }
 
 /// Writes the values of all stripes at the points of the numbers `first` to `first + count - 1`, a row for each number, if a
 /// transform is taken and there is memory for its buffers. Answers whether it did.
-pub(crate) fn fill_transformed<L: Ledger>(
-    f: &Gf16Tables,
+pub(crate) fn fill_transformed<F: Subspaces, L: Ledger>(
+    f: &F,
     alloc: Global,
     blocks: &[Block],
-    laid: &[u16],
+    laid: &[F::Elem],
     stripes: usize,
     first: usize,
     count: usize,
-    into: &mut [u16],
+    into: &mut [F::Elem],
     steps: &mut Steps<L>,
 ) -> bool
     requires whole { length laid.now ≡ size_of blocks.now }
     requires stripes { stripes ≡ width_of blocks.now }
+    requires elements { All F.is_element laid.now }
+    requires points { first + count ≤ F.COUNT }
     requires few { first + count ≤ MAX_PACKETS }
     requires room { length into.old ≡ count * stripes }
     ensures rows { result ≡ true → HasRows stripes count
-        (λ p. map (λ s. value gf16 s (first + p)) (columns_of 0 blocks.now laid.now)) into.new }
+        (λ p. map (λ s. value F.coding.ops s (F.coding.point_of (first + p)))
+        (columns_of F.coding.ops.nought blocks.now laid.now)) into.new }
     ensures cost { steps.new ≤ steps.old + count * length laid.now }
     ensures none { result ≡ false → steps.new ≡ steps.old }
 {
-    let most = longest(blocks);
-    let level = level_of(most);
-    let size = size_at(level);
-    if count == 0 || most > size {
+    if count == 0 {
         return false;
     }
+    let most = longest(blocks);
+    let Some(level) = level_of(most, F::LEVELS) else {
+        return false;
+    };
+    let size = size_at(level);
     let from = coset_of(first, level);
     let last = coset_of(first + count - 1, level);
     if !is_taken(level, most, stripes, last - from, count, laid.len()) {
         return false;
     }
-    let Ok(mut rows) = side_by_side(alloc, blocks, laid, stripes, size) else {
+    let Ok(mut rows) = side_by_side(alloc, f, blocks, laid, stripes, size) else {
         return false;
     };
-    let Ok(mut spare) = room_for(alloc, from < last, size * stripes) else {
+    let Ok(mut spare) = room_for(alloc, from < last, size * stripes, f.zero()) else {
         return false;
     };
     transform(

@@ -1,30 +1,64 @@
 //! The stripes of blocks side by side, in rows as wide as there are stripes.
-ghost use Rattle.std.specs.Prelude.{◌≡◌, ℕ, ◌+◌, ◌*◌, ◌<◌, ◌≤◌, ◌^◌, length, All, IfOk, slice_index_or};
+ghost use Rattle.std.specs.Prelude.{◌≡◌, ℕ, ◌+◌, ◌*◌, ◌<◌, ◌≤◌, ◌^◌, length, replicate, All, IfOk, slice_index_or, vec_len};
 ghost use Rattle.pet_rows.specs.Blocks.{columns_of, size_of, width_of};
 ghost use Rattle.point_values.specs.Wide.{AreSideBySide};
 
 use pet_base::NoMemory;
+use pet_field::Field;
 use pet_rows::Block;
 use std::alloc::Global;
 
+/// How many copies of an element are made one by one.
+const AT_ONCE: usize = 512;
+
 /// The stripes that the blocks keep, of which there are `stripes`, side by side in `size` rows: column c is stripe c and then
 /// zeros. It fails only for want of memory.
-pub fn side_by_side(
+pub fn side_by_side<F: Field>(
     alloc: Global,
+    f: &F,
     blocks: &[Block],
-    laid: &[u16],
+    laid: &[F::Elem],
     stripes: usize,
     size: usize,
-) -> Result<Vec<u16>, NoMemory>
+) -> Result<Vec<F::Elem>, NoMemory>
     requires whole { length laid.now ≡ size_of blocks.now }
     requires stripes { stripes ≡ width_of blocks.now }
     requires short { All (λ b. b.length ≤ size) blocks.now }
     requires room { size * stripes < 2 ^ 64 }
-    ensures { IfOk result (λ rows. AreSideBySide 0 size (columns_of 0 blocks.now laid.now) rows.items) }
+    ensures { IfOk result (λ rows. AreSideBySide F.coding.ops.nought size
+        (columns_of F.coding.ops.nought blocks.now laid.now) rows.items) }
 {
-    let mut rows = vec![in alloc; 0u16; size * stripes]?;
-    place_blocks(blocks, laid, stripes, size, 0, &mut rows);
+    let mut rows = repeated(alloc, f.zero(), size * stripes)?;
+    place_blocks(blocks, laid, stripes, size, f.zero(), &mut rows);
     Ok(rows)
+}
+
+/// One element, so many times. A clone of it need not be that element, so it is copied, and then many at once.
+fn repeated<E: Copy>(alloc: Global, element: E, count: usize) -> Result<Vec<E>, NoMemory>
+    ensures items { IfOk result (λ row. row.items ≡ replicate count element) }
+    ensures len { IfOk result (λ row. vec_len row ≡ count) }
+{
+    let some = few_of(alloc, element, count.min(AT_ONCE))?;
+    let mut row = Vec::with_capacity(alloc, count)?;
+    let mut done = 0;
+    while done < count {
+        let more = (count - done).min(some.len());
+        row.extend_from_slice(&some[..more])?;
+        done += more;
+    }
+    Ok(row)
+}
+
+/// One element, so many times, copy after copy.
+fn few_of<E: Copy>(alloc: Global, element: E, count: usize) -> Result<Vec<E>, NoMemory>
+    ensures items { IfOk result (λ row. row.items ≡ replicate count element) }
+    ensures len { IfOk result (λ row. vec_len row ≡ count) }
+{
+    let mut row = Vec::with_capacity(alloc, count)?;
+    for _ in 0..count {
+        row.push(element)?;
+    }
+    Ok(row)
 }
 
 /// Writes the stripes of the blocks into the columns of `size` rows of `stripes` elements, where `zero` stands.

@@ -8,14 +8,14 @@ use Rattle.std.proofs.lemmas.Option.{MatchOption-at_some, same_Some}
 use Rattle.std.proofs.lemmas.List.FromFn.{map-range_with_len_more}
 use Rattle.pet_field.specs.Field.{Coding}
 use Rattle.stripe_plan.specs.declared.layer.LayerSize.{LayerSize}
-use Rattle.stripe_plan.specs.Layers.{needs_of, words_before}
+use Rattle.stripe_plan.specs.Layers.{words_before}
 use Rattle.packet_frame.specs.declared.frame.Header.{Header}
 use Rattle.packet_set.specs.Packets.{Packets}
 use Rattle.pet_encode.specs.Session.{length_of_layer}
 use Rattle.pet_receive.specs.Arrivals.{layers_of}
 use Rattle.kept_sets.specs.KeptSet.{KeptSet, open_group}
 use Rattle.pet_receive.specs.ShownBytes.{IsShown, IsShownIn, IsShownBytes}
-use Rattle.open_group.specs.laws.Needs.{layer_inside, length_is}
+use Rattle.open_group.specs.laws.Needs.{layer_inside, length_is, length_all}
 use Rattle.reassemble.specs.declared.leading.ShownLayer.{ShownLayer}
 use Rattle.reassemble.specs.Leading.{AreShownBytes, lengths_in}
 use Rattle.reassemble.specs.Taking.{bytes_each, first_of}
@@ -46,11 +46,11 @@ module _ {E : Type 0} (P : E → Type 0) (c : Coding E) where
       let layers : List LayerSize = layers_of p in
       let d : LayerSize = record { length = 0; need = 0 } in
       let start : ℕ = words_before layers layer * c.width in
-      let size : length_of_layer layers layer ≡ (get_or layers layer d).length = length_is layers layer d lt in
-      let inside : start + (get_or layers layer d).length ≤ length (needs_of layers) * c.width = layer_inside c.width layers layer d wide lt in
-      let room : length_of_layer layers layer ≤ length (drop start s.message) = omega (arith, size, inside, s.is_message.whole, length-drop start s.message) in
+      let size : length_of_layer c.width layers layer ≡ (get_or layers layer d).length = length_all c.width layers layer d wide lt in
+      let inside = layer_inside c.width layers layer d lt in
+      let room : length_of_layer c.width layers layer ≤ length (drop start s.message) = omega (arith, length_is c.width layers layer d lt, inside, s.is_message.whole, length-drop start s.message) in
       ap length s.bytes_are
-      ∙ (length-take-le (length_of_layer layers layer) (drop start s.message) room ∙ (size ∙ sym (get_or-map (λ (l : LayerSize). l.length) layers layer d 0 lt)))
+      ∙ (length-take-le (length_of_layer c.width layers layer) (drop start s.message) room ∙ (size ∙ sym (get_or-map (λ (l : LayerSize). l.length) layers layer d 0 lt)))
 
 pub shown_in : (set : KeptSet) (group layer : ℕ) (p : Packets) → open_group set group ≡ Some p → IsShown set group layer → IsShownIn p layer
 shown_in set group layer p opened shown = MatchOption-at_some ⊥ (λ (q : Packets). IsShownIn q layer) p opened shown

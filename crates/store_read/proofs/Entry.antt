@@ -13,7 +13,7 @@ use Rattle.kept_sets.specs.declared.verdict.Verdict.{Verdict}
 use Rattle.kept_sets.specs.declared.verdict.Verdict.TheVariants.{Damaged, Foreign, Clash, Repeated, Full, Kept}
 use Rattle.kept_sets.specs.declared.verdict.LayerSet.{LayerSet}
 use Rattle.kept_sets.specs.KeptSet.{KeptSet, IsKeptSet, open_group, payload_of, count_kept, keep}
-use Rattle.kept_sets.specs.Verdicts.{verdict_of, frame_verdict, is_kept, after, clashes, is_too_much, layer_set, newly_shown}
+use Rattle.kept_sets.specs.Verdicts.{verdict_in, verdict_of, frame_verdict_by, frame_verdict, is_kept, after, clashes, is_too_much, layer_set, newly_shown}
 use Rattle.pet_receive.specs.Arrivals.{Order, ReceiverState, HasKept, kept_set, stripe_lengths}
 use Rattle.kept_sets.specs.Union.{frames_in}
 use Rattle.kept_sets.specs.Group.{group_in, number_in}
@@ -51,7 +51,7 @@ next_is None f = refl
 next_is (Some last) f = refl
 
 by_frame : (set : KeptSet) (last : Last) (f : Fields) → EndsIn set last → fault_by (frame_verdict set f) (is_next last f.group f.number) ≡ frame_fault set last f
-unfolding frame_verdict
+unfolding frame_verdict_by
 by_frame set last f up =
     ap (fault_by (frame_verdict set f)) (next_is last f)
     ∙ by_tests (bytes_eq f.session set.session) (clashes set f) (is_some (payload_of set f.group f.number)) (is_too_much set f) (is_above last f) (layer_set (newly_shown set f))
@@ -64,7 +64,7 @@ by_read false v above fault e = e
 -- the refusal of an entry follows from its verdict and its order
 pub fault_is : (set : KeptSet) (last : Last) (bytes : List ℕ) (v : Verdict) (group number : ℕ) → EndsIn set last → v ≡ verdict_of set bytes → group ≡ (frame_of bytes).group → number ≡ (frame_of bytes).number
     → fault_by v (is_next last group number) ≡ fault_of set last bytes
-unfolding verdict_of frame_of fault_of
+unfolding verdict_in frame_of fault_of
 fault_is set last bytes v group number up is here there =
     ap (λ (x : Verdict). fault_by x (is_next last group number)) is
     ∙ ap (λ (g : ℕ). fault_by (verdict_of set bytes) (is_next last g number)) here ∙ ap (λ (n : ℕ). fault_by (verdict_of set bytes) (is_next last (fields_of bytes).group n)) there
@@ -84,7 +84,7 @@ damaged_by true v fault other e = refl
 damaged_by false v fault other e = absurd (other e)
 
 pub damaged_is : (set : KeptSet) (last : Last) (bytes : List ℕ) → verdict_of set bytes ≡ Damaged → fault_of set last bytes ≡ Some kind.Frame
-unfolding verdict_of frame_verdict fault_of
+unfolding verdict_in frame_verdict_by fault_of
 damaged_is set last bytes e =
     let f = fields_of bytes in
     damaged_by (is_some (first_fault bytes)) (frame_verdict set f) (frame_fault set last f) (frame_not_damaged (bytes_eq f.session set.session) (clashes set f) (is_some (payload_of set f.group f.number)) (is_too_much set f) (layer_set (newly_shown set f))) e

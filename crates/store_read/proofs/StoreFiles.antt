@@ -1,15 +1,13 @@
 -- The store in a file, by what was read of it.
-use Rattle.std.specs.Prelude.{nat_lt, if◌then◌else◌, option_map, OnOk, OnErr, IfSome}
-use Rattle.std.proofs.Common.{◌≡◌, ◌≢◌, ◌⊎◌, ℕ, ◌<◌, ◌≤◌, Bool, List, [], ◌∷◌, ◌++◌, length, take, Option, None, Some, Result, Ok, Err, sym, ap, ◌∙◌, arith, inl, inr}
+use Rattle.std.specs.Prelude.{nat_lt, if◌then◌else◌, IfSome}
+use Rattle.std.proofs.Common.{◌≡◌, ◌≢◌, ℕ, ◌<◌, ◌≤◌, Bool, List, [], ◌++◌, length, Option, None, Some, Result, Err, sym, ap, ◌∙◌, arith, inl, inr}
 use Rattle.std.proofs.lemmas.Bool.{cases_lt}
 use Rattle.std.proofs.lemmas.List.{append-nil, length-append}
 use Rattle.pet_base.specs.declared.limits.TheConstants.{MAX_SESSION, MAX_STORE}
 use Rattle.pet_base.specs.declared.faults.Stop.{Stop}
 use Rattle.pet_base.specs.declared.faults.Stop.TheVariants as place
-use Rattle.pet_base.specs.Seen.{Seen, Files, HadFault, Names, Grows, with_file}
+use Rattle.pet_base.specs.Seen.{Seen, Files, HadFault}
 use Rattle.command_files.specs.Inputs.{IsFrontOf, IsRead, Licensed}
-use Rattle.command_files.specs.Wrote.{File, Wrote}
-use Rattle.command_files.specs.laws.WroteLaws.{Wrote-file, Wrote-front}
 use Rattle.kept_sets.specs.KeptSet.{KeptSet}
 use Rattle.store_text.specs.Refusals.{read_text}
 use Rattle.store_text.specs.declared.fault.StoreKind.TheVariants.{Cut}

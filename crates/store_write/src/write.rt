@@ -13,13 +13,12 @@ ghost use Rattle.kept_sets.specs.Union.{frames_in, frames_in_group};
 ghost use Rattle.kept_sets.specs.laws.FramesLaws.{frames_of, frame_at};
 ghost use Rattle.store_text.specs.Store.{store_text};
 
-use packet_frame::{FORMAT, Header, write_frame};
+use packet_frame::{FORMAT, Header, frame_length, write_frame};
 use pet_base::NoMemory;
 use pet_receive::Receiver;
 use pet_rows::Rows;
 use sha2::{Digest, Sha256};
 use store_text::MARK;
-use stripe_plan::datagram_length;
 
 /// Appends the store of all packets that the receiver has kept, by group, then number. `into` is as before where no memory
 /// is found.
@@ -146,7 +145,7 @@ fn append_entry(
         ≡ into.old.items ++ entry_text (text (fields_with header.now number payload.now))) }
     ensures front { take (length into.old.items) into.new.items ≡ into.old.items }
 {
-    let length = datagram_length(&header.table) as u16;
+    let length = frame_length(header, payload) as u16;
     into.extend_from_slice(&length.to_be_bytes())?;
     write_frame(header, number, payload, into)
 }

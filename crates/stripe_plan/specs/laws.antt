@@ -1,2 +1,4 @@
 pub mod StripeLaws
 pub mod SameLaws
+pub mod ByteLaws
+pub mod CountLaws

@@ -15,7 +15,7 @@ pub struct LayerSize {
 }
 
 /// How many words a layer has.
-pub(crate) fn layer_words(layer: &LayerSize) -> u32
+pub fn layer_words(layer: &LayerSize) -> u32
     ensures { result ≡ words_of layer.now }
 {
     layer.length.div_ceil(2)

@@ -19,15 +19,15 @@ use std::marker::Model;
 /// Why there is no such table.
 #[derive(Clone, Copy, Debug, PartialEq, Eq)]
 pub enum TableFault {
-    /// No packets, or more than the bounds allow: 4,096 in a `Table` and in an `OldTable`.
+    /// No packets, or more than the bounds allow: 4,096 in a `Table` and in an `OldTable`, 255 in a `ByteTable`.
     Packets,
-    /// No layers, or more than the bounds allow: 32 in a `Table` and in an `OldTable`.
+    /// No layers, or more than the bounds allow: 32 in each of the three tables.
     Layers,
     /// A need of 0, or above the number of packets.
     Need,
-    /// Layers of more than 4,194,304 bytes in all.
+    /// More bytes in all layers than the bounds allow: 4,194,304 in a `Table` and in an `OldTable`, 2,097,152 in a `ByteTable`.
     Sum,
-    /// A datagram of more than 65,000 bytes.
+    /// A datagram of more than 65,000 bytes, where each stripe has two.
     Wide,
 }
 

@@ -10,6 +10,8 @@ mod fixtures;
 pub use fixtures::{is_example, is_table, layer, layers_of};
 
 #[cfg(test)]
+mod byte_tests;
+#[cfg(test)]
 mod cert_tests;
 #[cfg(test)]
 mod plan_tests;

@@ -13,9 +13,9 @@ use Rattle.packet_frame.specs.laws.Laws.{reads_frames}
 use Rattle.packet_set.specs.Packets.{Packets, count_in}
 use Rattle.pet_field.specs.Field.{Coding}
 use Rattle.pet_receive.specs.Arrivals.{Order, layers_of}
-use Rattle.kept_sets.specs.KeptSet.{KeptSet, IsKeptSet, keep, open_group, group_with, count_kept}
+use Rattle.kept_sets.specs.KeptSet.{KeptSet, IsKeptSet, keep, keep_by, open_group, group_with, count_kept}
 use Rattle.pet_receive.specs.ShownBytes.{IsShown, IsShownIn}
-use Rattle.kept_sets.specs.Verdicts.{verdict_of, is_kept, newly_shown, after, after_all}
+use Rattle.kept_sets.specs.Verdicts.{verdict_of, is_kept, newly_shown, after, after_in, after_all, after_all_in}
 use Rattle.kept_sets.specs.laws.KeptSetLaws.{IsKeepable, keepable, open_here, open_other, header_with, count_with, verdict_read, after_kept, after_other, after_sound, empty_sound}
 use Rattle.kept_sets.specs.laws.LayerSetLaws.{filter_more, newly_shown-is}
 use Rattle.met_packets.specs.Kept.{nothing_of, kept_of}
@@ -255,14 +255,14 @@ module _ {E : Type 0} (P : E → Type 0) (c : Coding E) where
   stays false set d group layer sound out shown = subst (λ (x : KeptSet). IsShown x group layer) (sym (after_other set d out)) shown
 
   stays_all : (read : List (List ℕ)) (set : KeptSet) (group layer : ℕ) → IsKeptSet set → IsShown set group layer → IsShown (after_all set read) group layer
-  unfolding after_all
+  unfolding after_all_in
   stays_all [] set group layer sound shown = shown
   stays_all (d ∷ read) set group layer sound shown =
       stays_all read (after set d) group layer (after_sound set d sound (reads_frames d)) (stays (is_kept (verdict_of set d)) set d group layer sound refl shown)
 
   -- all of them
   names_all : (read : List (List ℕ)) (set : KeptSet) (order : Order) (arrival : ℕ) (text : List ℕ) → IsKeptSet set → IsLayersText P c set order arrival read text → NamesMore set (after_all set read) text
-  unfolding IsLayersText after_all
+  unfolding IsLayersText after_all_in
   names_all [] set order arrival text sound is = record {
     names = [];
     text_of = is;
@@ -295,7 +295,7 @@ module _ {E : Type 0} (P : E → Type 0) (c : Coding E) where
 
 -- what is kept is a kept set
 sound_all : (read : List (List ℕ)) (set : KeptSet) → IsKeptSet set → IsKeptSet (after_all set read)
-unfolding after_all
+unfolding after_all_in
 sound_all [] set sound = sound
 sound_all (d ∷ read) set sound = sound_all read (after set d) (after_sound set d sound (reads_frames d))
 
@@ -304,7 +304,7 @@ kept_sound session read = sound_all read (nothing_of session) (empty_sound sessi
 
 -- and it is of the session
 session_after : (set : KeptSet) (d : List ℕ) → (after set d).session ≡ set.session
-unfolding after keep
+unfolding after_in keep_by
 session_after set d = by (is_kept (verdict_of set d))
   where
     by : (b : Bool) → (cond b (keep set (fields_of d)) set).session ≡ set.session
@@ -312,7 +312,7 @@ session_after set d = by (is_kept (verdict_of set d))
     by false = refl
 
 session_all : (read : List (List ℕ)) (set : KeptSet) → (after_all set read).session ≡ set.session
-unfolding after_all
+unfolding after_all_in
 session_all [] set = refl
 session_all (d ∷ read) set = session_all read (after set d) ∙ session_after set d
 

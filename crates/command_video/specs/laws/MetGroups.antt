@@ -202,5 +202,5 @@ module _ (s : Session) (pairs : List Pair) (set : KeptSet) (is_session : IsSessi
       let long : length (layers_of p) ≡ length g.layers = ap (λ (l : List LayerSize). length l) known.layers in
       let kept : (i : ℕ) → Contains (numbers_in set group) i → IsSome (slot_at p i) × (i < 65536) =
       λ i there. All-contains (IsKeptAt p) (numbers_in set group) i (numbers_kept group g at p here) there in
-      agreed_bytes (λ a. a < 65536) 65536 gf16_coding gf16_lawful (omega arith) p g.message message plan (numbers_in set group) kept (agrees gf16_coding s is.met group g p known.has) layer bytes (omega (arith, inside, long)) shown
+      agreed_bytes (λ a. a < 65536) 65536 gf16_coding gf16_lawful p g.message message plan (numbers_in set group) kept (agrees gf16_coding s is.met group g p known.has) layer bytes (omega (arith, inside, long)) shown
       ∙ ap (λ (l : List LayerSize). bytes_of_layer 2 l g.message layer) known.layers

@@ -18,7 +18,7 @@ use Rattle.packet_frame.specs.Frame.{Fields, IsFrame}
 use Rattle.packet_frame.specs.View.{fields_with}
 use Rattle.packet_frame.specs.declared.frame.Header.{Header}
 use Rattle.packet_set.specs.Packets.{Packets, slot_at, with_packet, no_packets}
-use Rattle.kept_sets.specs.KeptSet.{KeptSet, IsKeptSet, open_group, group_with, header_of, keep}
+use Rattle.kept_sets.specs.KeptSet.{KeptSet, IsKeptSet, open_group, group_with, header_of, keep, keep_by}
 use Rattle.kept_sets.specs.Union.{frames_in_group, frames_in}
 use Rattle.kept_sets.specs.laws.EntryLaws.{cmp_says_less}
 use Rattle.kept_sets.specs.laws.KeptSetLaws.{IsKeepable, open_here, slot_inside, header_with, none_in}
@@ -160,7 +160,7 @@ no_frames f (Some p) = refl
 module _ (set : KeptSet) (sound : IsKeptSet set) (f : Fields) (frame : IsFrame f) (k : IsKeepable set f) (above : IsAbove set f) where
   -- it comes after them
   pub frames_more : frames_in (keep set f) ≡ frames_in set ++ (f ∷ [])
-  unfolding keep
+  unfolding keep_by
   frames_more =
       let there = packets_there set f in
       let whole : fields_with there.header f.number f.payload ≡ f = ap (λ h. fields_with h f.number f.payload) (header_with set sound f frame k) in
@@ -169,7 +169,7 @@ module _ (set : KeptSet) (sound : IsKeptSet set) (f : Fields) (frame : IsFrame f
       (more ∙ ap (λ g. frames_in_group there ++ (g ∷ [])) whole ∙ ap (λ t. t ++ (f ∷ [])) (no_frames f (open_group set f.group)))
 
   keys_after : (most : ℕ) → f.group ≤ most → All (λ x. x ≤ most) (keys_of (keep set f).groups)
-  unfolding keep
+  unfolding keep_by
   keys_after most le = All-keys-insert_entry nat_cmp f.group (group_with set f) (λ x. x ≤ most) set.groups (λ i d lt. let at = above.keys i d lt in omega (arith, at, le)) le
 
   none_after : (i : ℕ) → f.number < i → slot_at (group_with set f) i ≡ None

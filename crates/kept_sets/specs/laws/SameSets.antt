@@ -75,7 +75,9 @@ module _ (a b : KeptSet) (kept : IsKeptSet a) (other : IsKeptSet b) (same : (gro
   open_by group (Some p) (Some q) o u h =
       let header = headers group p q o u in
       let long : length p.slots ≡ length q.slots = (kept.groups group p o).slots ∙ ap (λ (t : Header). t.table.packets) header ∙ sym (other.groups group q u).slots in
-      let one : p ≡ q = ap₂ (λ (t : Header) xs. record { header = t; slots = xs }) header (same_slots p.slots q.slots long h) in
+      let word = (kept.groups group p o).word_is ∙ sym (other.groups group q u).word_is in
+      let slots = same_slots p.slots q.slots long h in
+      let one : p ≡ q = λ i. record { header = header i; word = word i; slots = slots i } in
       ap Some one
 
   pub same_open : (group : ℕ) → open_group a group ≡ open_group b group

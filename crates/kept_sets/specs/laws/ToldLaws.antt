@@ -8,7 +8,7 @@ use Rattle.std.specs.Map.{lookup, keys_of}
 use Rattle.std.specs.BTreeMap.{is_at}
 use Rattle.std.proofs.lemmas.List.Sums.{sum_by-cons}
 use Rattle.packet_set.specs.Packets.{Packets}
-use Rattle.kept_sets.specs.KeptSet.{KeptSet, IsKeptSet, open_group, told_by}
+use Rattle.kept_sets.specs.KeptSet.{KeptSet, IsKeptSetBy, open_group, told_by}
 use Rattle.kept_sets.specs.laws.EntryLaws.{all_found}
 
 -- where some are there, one of them
@@ -19,7 +19,7 @@ first_some {A} (None ∷ xs) l =
     let rest = first_some xs (omega (arith, sum_by-cons (λ (t : Option A). cond (is_some t) 1 0) None xs)) in
     (suc rest.0, rest.1, rest.2)
 
-first_tells : (set : KeptSet) → IsKeptSet set → (group : ℕ) (p : Packets) → open_group set group ≡ Some p → (es : List (ℕ × Packets)) → set.groups ≡ es
+first_tells : {word : ℕ} (set : KeptSet) → IsKeptSetBy word set → (group : ℕ) (p : Packets) → open_group set group ≡ Some p → (es : List (ℕ × Packets)) → set.groups ≡ es
     → option_map (λ e. e.1.header.groups) (slice_get es 0) ≡ Some p.header.groups
 first_tells set sound group p opened [] is = let no : None ≡ Some p = sym (ap (lookup (is_at (nat_cmp group))) is) ∙ opened in absurd (cc)
 first_tells set sound group p opened (e ∷ es) is =
@@ -28,7 +28,7 @@ first_tells set sound group p opened (e ∷ es) is =
     ap Some (sound.one_count e.0 group e.1 p first opened)
 
 -- an open group tells the number of groups
-pub open_tells : (set : KeptSet) → IsKeptSet set → (group : ℕ) (p : Packets) → open_group set group ≡ Some p → told_by set ≡ Some p.header.groups
+pub open_tells : {word : ℕ} (set : KeptSet) → IsKeptSetBy word set → (group : ℕ) (p : Packets) → open_group set group ≡ Some p → told_by set ≡ Some p.header.groups
 open_tells set sound group p opened = first_tells set sound group p opened set.groups refl
 
 -- where none is told, no group is open

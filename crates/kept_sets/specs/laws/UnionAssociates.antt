@@ -31,7 +31,7 @@ open_associates : (o u v : Option Packets) → join_open (join_open o u) v ≡ j
 open_associates o u None = refl
 open_associates o None (Some r) = refl
 open_associates None (Some q) (Some r) = refl
-open_associates (Some p) (Some q) (Some r) = ap (λ xs. Some (record { header = p.header; slots = xs })) (slots_associate p.slots q.slots r.slots)
+open_associates (Some p) (Some q) (Some r) = ap (λ xs. Some (record { header = p.header; word = p.word; slots = xs })) (slots_associate p.slots q.slots r.slots)
 
 pub union_associates : (a b c : KeptSet) → Rises a.groups → Rises b.groups → Rises c.groups → union (union a b) c ≡ union a (union b c)
 union_associates a b c s t u =
@@ -137,8 +137,16 @@ module _ (a b c : KeptSet) (kept : IsKeptSet a) (other : IsKeptSet b) (third : I
   header_by g p r o (inl x) = one_header a b kept other agrees_ab g p x.packets o x.opened ∙ sym x.header
   header_by g p r o (inr x) = one_header a c kept third agrees_ac g p x.packets o x.opened ∙ sym x.header
 
+  word_by : (g : ℕ) (p r : Packets) → open_group a g ≡ Some p → IsFrom b c other third agrees_bc g r b ⊎ IsFrom b c other third agrees_bc g r c → p.word ≡ r.word
+  word_by g p r o (inl x) = (kept.groups g p o).word_is ∙ sym (x.word ∙ (other.groups g x.packets x.opened).word_is)
+  word_by g p r o (inr x) = (kept.groups g p o).word_is ∙ sym (x.word ∙ (third.groups g x.packets x.opened).word_is)
+
   rest_alike : AreAlike a (union b c)
-  rest_alike = record { header = λ g p r o v. header_by g p r o (open_from b c other third agrees_bc g r v); payload = agrees_rest.payload }
+  rest_alike = record {
+    header = λ g p r o v. header_by g p r o (open_from b c other third agrees_bc g r v);
+    word = λ g p r o v. word_by g p r o (open_from b c other third agrees_bc g r v);
+    payload = agrees_rest.payload;
+  }
 
   one_way : union (union a b) c ≡ union a (union b c)
   one_way = union_associates a b c kept.rising other.rising third.rising

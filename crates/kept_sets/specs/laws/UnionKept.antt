@@ -48,6 +48,7 @@ module _ (a b : KeptSet) (kept : IsKeptSet a) (other : IsKeptSet b) (agrees : Ag
         record {
           same_session = g.same_session;
           same_group = g.same_group;
+          word_is = g.word_is;
           slots = length_join p.slots q.slots same_length ∙ g.slots;
           some = omega (arith, count_join (Some p) q, g.some);
           frames = λ number payload e. frames_by number payload (slot_at p number) refl (sym (slot_join p.slots q.slots number) ∙ e);
@@ -64,12 +65,13 @@ module _ (a b : KeptSet) (kept : IsKeptSet a) (other : IsKeptSet b) (agrees : Ag
     pub packets : Packets
     pub opened : open_group set group ≡ Some packets
     pub header : r.header ≡ packets.header
+    pub word : r.word ≡ packets.word
 
   from_by : (group : ℕ) (r : Packets) (o u : Option Packets) → open_group a group ≡ o → open_group b group ≡ u → join_open o u ≡ Some r → IsFrom group r a ⊎ IsFrom group r b
   from_by group r None None o u e = absurd (cc)
-  from_by group r (Some p) None o u e = inl (record { packets = r; opened = o ∙ e; header = refl })
-  from_by group r None (Some q) o u e = inr (record { packets = r; opened = u ∙ e; header = refl })
-  from_by group r (Some p) (Some q) o u e = inl (record { packets = p; opened = o; header = ap (λ (t : Packets). t.header) (sym (same_Some (join_group (Some p) q) r e)) })
+  from_by group r (Some p) None o u e = inl (record { packets = r; opened = o ∙ e; header = refl; word = refl })
+  from_by group r None (Some q) o u e = inr (record { packets = r; opened = u ∙ e; header = refl; word = refl })
+  from_by group r (Some p) (Some q) o u e = inl (record { packets = p; opened = o; header = ap (λ (t : Packets). t.header) (sym (same_Some (join_group (Some p) q) r e)); word = ap (λ (t : Packets). t.word) (sym (same_Some (join_group (Some p) q) r e)) })
 
   pub open_from : (group : ℕ) (r : Packets) → open_group (union a b) group ≡ Some r → IsFrom group r a ⊎ IsFrom group r b
   open_from group r opened = from_by group r (open_group a group) (open_group b group) refl refl (sym (union_open a b group other.rising) ∙ opened)

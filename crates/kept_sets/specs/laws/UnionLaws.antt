@@ -2,7 +2,6 @@
 use Rattle.std.proofs.Common.{◌≡◌, ℕ, ◌≤◌, List, [], ◌∷◌, suc, get_or, Option, None, Some, refl, sym, ap, ap₂, ◌∙◌, subst}
 use Rattle.std.specs.Option.{option_or}
 use Rattle.std.proofs.lemmas.Option.{same_Some}
-use Rattle.packet_frame.specs.declared.frame.Header.{Header}
 use Rattle.packet_set.specs.Packets.{Packets, slot_at}
 use Rattle.kept_sets.specs.KeptSet.{KeptSet, IsKeptSet, empty_set, open_group, cost_kept}
 use Rattle.kept_sets.specs.Union.{join_slots, join_group, join_groups, union, absorb_fault}
@@ -17,10 +16,15 @@ use Rattle.kept_sets.specs.laws.SameSets.{same_groups, same_parts}
 -- what two sets, which need not be kept sets, must share for their union to commute
 pub record AreAlike (a b : KeptSet) : Type 0 where
   pub header : (group : ℕ) (p q : Packets) → open_group a group ≡ Some p → open_group b group ≡ Some q → p.header ≡ q.header
+  pub word : (group : ℕ) (p q : Packets) → open_group a group ≡ Some p → open_group b group ≡ Some q → p.word ≡ q.word
   pub payload : (group : ℕ) (p q : Packets) → open_group a group ≡ Some p → open_group b group ≡ Some q → (i : ℕ) (x y : List ℕ) → slot_at p i ≡ Some x → slot_at q i ≡ Some y → x ≡ y
 
 pub alike : (a b : KeptSet) → IsKeptSet a → IsKeptSet b → Agrees a b → AreAlike a b
-alike a b kept other agrees = record { header = one_header a b kept other agrees; payload = agrees.payload }
+alike a b kept other agrees = record {
+  header = one_header a b kept other agrees;
+  word = λ group p q o u. (kept.groups group p o).word_is ∙ sym (other.groups group q u).word_is;
+  payload = agrees.payload;
+}
 
 -- ---- it commutes
 
@@ -44,7 +48,8 @@ module _ (a b : KeptSet) (s : Rises a.groups) (t : Rises b.groups) (h : AreAlike
   open_commutes group (Some p) None o u = refl
   open_commutes group (Some p) (Some q) o u =
       let one : join_group (Some p) q ≡ join_group (Some q) p =
-      ap₂ (λ (t : Header) xs. record { header = t; slots = xs }) (h.header group p q o u) (slots_commute p.slots q.slots (h.payload group p q o u)) in
+      let slots = slots_commute p.slots q.slots (h.payload group p q o u) in
+      λ i. record { header = h.header group p q o u i; word = h.word group p q o u i; slots = slots i } in
       ap Some one
 
   pub groups_commute : (union a b).groups ≡ (union b a).groups
@@ -87,7 +92,7 @@ slots_itself (x ∷ xs) = ap₂ (λ (t : Option (List ℕ)) ts. t ∷ ts) (or_it
 
 open_itself : (o : Option Packets) → join_open o o ≡ o
 open_itself None = refl
-open_itself (Some p) = ap (λ xs. Some (record { header = p.header; slots = xs })) (slots_itself p.slots)
+open_itself (Some p) = ap (λ xs. Some (record { header = p.header; word = p.word; slots = xs })) (slots_itself p.slots)
 
 pub union_itself : (a : KeptSet) → Rises a.groups → union a a ≡ a
 union_itself a s =
@@ -114,7 +119,7 @@ union_nothing a session limit = refl
 pub nothing_union : (b : KeptSet) (session : List ℕ) (limit : ℕ) → Rises b.groups → (union (empty_set session limit) b).groups ≡ b.groups
 nothing_union b session limit t =
     let e = empty_set session limit in
-    same_groups (union e b) b (rises_join [] b.groups (empty_sound session limit).rising) t (λ group. union_open e b group t ∙ by (open_group b group))
+    same_groups (union e b) b (rises_join [] b.groups (empty_sound {word = 2} session limit).rising) t (λ group. union_open e b group t ∙ by (open_group b group))
   where
     by : (u : Option Packets) → join_open None u ≡ u
     by None = refl
@@ -122,12 +127,12 @@ nothing_union b session limit t =
 
 pub fit_nothing : (a : KeptSet) (limit : ℕ) → IsKeptSet a → absorb_fault a (empty_set a.session limit) ≡ None
 fit_nothing a limit kept =
-    fits a (empty_set a.session limit) kept (empty_sound a.session limit)
+    fits a (empty_set a.session limit) kept (empty_sound {word = 2} a.session limit)
     (record { session = refl; count = λ g h p q o u. absurd (cc); table = λ g p q o u. absurd (cc); payload = λ g p q o u i x y k l. absurd (cc) })
     (subst (λ s. cost_kept s ≤ a.limit) (sym (union_nothing a a.session limit)) kept.within)
 
 pub nothing_fit : (b : KeptSet) (limit : ℕ) → IsKeptSet b → cost_kept b ≤ limit → absorb_fault (empty_set b.session limit) b ≡ None
 nothing_fit b limit other within =
-    fits (empty_set b.session limit) b (empty_sound b.session limit) other
+    fits (empty_set b.session limit) b (empty_sound {word = 2} b.session limit) other
     (record { session = refl; count = λ g h p q o u. absurd (cc); table = λ g p q o u. absurd (cc); payload = λ g p q o u i x y k l. absurd (cc) })
     (subst (λ gs. cost_of_groups gs ≤ limit) (sym (nothing_union b b.session limit other.rising)) within)

@@ -7,7 +7,7 @@ use Rattle.pet_field.specs.Field.{Coding}
 use Rattle.pet_encode.specs.Session.{Session, IsSession, Fits}
 use Rattle.pet_receive.specs.Arrivals.{Order}
 use Rattle.kept_sets.specs.KeptSet.{KeptSet, empty_set}
-use Rattle.kept_sets.specs.Verdicts.{after, after_all}
+use Rattle.kept_sets.specs.Verdicts.{after, after_all, after_all_in}
 use Rattle.met_packets.specs.LayersText.{IsLayersText, order_after}
 use Rattle.met_packets.specs.Met.{Pair, pair_in, met_in, met_after, datagram_text, text_from}
 use Rattle.met_packets.specs.laws.PairLaws.{met_cons}
@@ -16,7 +16,7 @@ use Rattle.met_packets.specs.laws.DatagramMore.{made, IsPlain, step}
 
 module _ {E : Type 0} (P : E → Type 0) (c : Coding E) (s : Session) (limit : ℕ) (is_session : IsSession c.width s) (fits : Fits s limit) where
   follows_from : (pairs : List Pair) (kept : KeptSet) (ds : List (List ℕ)) → Follows (made c) s limit pairs kept → All (IsPlain c s) ds → Follows (made c) s limit (pairs ++ met_in s.number ds) (after_all kept ds)
-  unfolding after_all
+  unfolding after_all_in
   follows_from pairs kept [] follows plain = subst (λ (p : List Pair). Follows (made c) s limit p kept) (sym (append-nil pairs)) follows
   follows_from pairs kept (d ∷ ds) follows plain =
       let one = step P c s limit pairs kept d is_session fits follows (All-head (IsPlain c s) d ds plain) in

@@ -19,7 +19,7 @@ use Rattle.stripe_plan.specs.declared.layer.LayerSize.{LayerSize}
 use Rattle.pet_receive.specs.Arrivals.{Order, numbers_of, layers_of}
 use Rattle.kept_sets.specs.declared.verdict.Verdict.TheVariants.{Damaged, Foreign, Clash, Repeated, Full, Kept}
 use Rattle.kept_sets.specs.KeptSet.{KeptSet, header_of, group_with, keep}
-use Rattle.kept_sets.specs.Verdicts.{verdict_of, frame_verdict, is_kept, newly_shown, layer_set, after, clashes, is_too_much}
+use Rattle.kept_sets.specs.Verdicts.{verdict_in, verdict_of, frame_verdict_by, frame_verdict, is_kept, newly_shown, layer_set, after_in, after, clashes, is_too_much}
 use Rattle.kept_sets.specs.KeptSet.{payload_of}
 use Rattle.pet_receive.specs.ShownBytes.{Agrees}
 use Rattle.met_packets.specs.LayersText.{AreRecords, IsArrivalText, order_after}
@@ -72,7 +72,7 @@ no_pair s d e = ap (λ (b : Bool). cond b (Some ((fields_of d).group, (fields_of
 -- a datagram that is not kept and is no packet
 skipped : {E : Type 0} (P : E → Type 0) (c : Coding E) (s : Session) (limit : ℕ) (pairs : List Pair) (kept : KeptSet) (d : List ℕ) → Follows (made c) s limit pairs kept → is_kept (verdict_of kept d) ≡ false
     → pair_in s.number d ≡ None → IsStep P c s limit pairs kept d
-unfolding after IsArrivalText
+unfolding after_in IsArrivalText
 skipped P c s limit pairs kept d follows out none = record {
   follows =
       subst (λ (o : Option Pair). Follows (made c) s limit (met_after pairs o) (after kept d)) (sym none)
@@ -96,7 +96,7 @@ module _ {E : Type 0} (P : E → Type 0) (c : Coding E) (s : Session) (limit : �
 
   -- a packet of the session
   packet : first_fault d ≡ None → (fields_of d).session ≡ s.number → IsPacketOf c s (fields_of d) → IsStep P c s limit pairs kept d
-  unfolding verdict_of after IsArrivalText
+  unfolding verdict_in after_in IsArrivalText
   packet whole session its = by (has_pair pairs f.group f.number) refl
     where
       f : Fields
@@ -181,7 +181,7 @@ module _ {E : Type 0} (P : E → Type 0) (c : Coding E) (s : Session) (limit : �
           }
 
   pub step : IsPlain c s d → IsStep P c s limit pairs kept d
-  unfolding verdict_of frame_verdict
+  unfolding verdict_in frame_verdict_by
   step plain = by (first_fault d) refl
     where
       f : Fields

@@ -45,6 +45,7 @@ module _ (made : SessionGroup → ℕ → List ℕ) (s : Session) (limit other :
   in_both : (group : ℕ) (g : SessionGroup) (p q : Packets) → HasMet made s a group g p → HasMet made s b group g q → HasMet made s (a ++ b) group g (join_group (Some p) q)
   in_both group g p q has also = record {
     header = has.header;
+    word = has.word;
     slots = length_join p.slots q.slots (has.slots ∙ sym also.slots) ∙ has.slots;
     each =
         λ number.

@@ -31,6 +31,7 @@ module _ (made : SessionGroup → ℕ → List ℕ) where
   -- of a group exactly those packets are kept whose pairs were met
   pub record HasMet (s : Session) (pairs : List Pair) (group : ℕ) (g : SessionGroup) (p : Packets) : Type 0 where
     pub header : p.header ≡ header_in s group g
+    pub word : p.word ≡ 2
     pub slots : length p.slots ≡ g.packets
     pub each : (number : ℕ) → slot_at p number ≡ cond (has_pair pairs group number) (Some (made g number)) None
 
@@ -49,7 +50,7 @@ module _ (made : SessionGroup → ℕ → List ℕ) where
   follows_nothing s limit = record {
     session = refl;
     limit_is = refl;
-    rising = (empty_sound s.number limit).rising;
+    rising = (empty_sound {word = 2} s.number limit).rising;
     opened = λ group p e. absurd (none-some p e);
     closed = λ group e number. refl;
     told = All-nil (λ (p : Packets). p.header.groups ≡ length s.groups);
@@ -68,6 +69,7 @@ module _ (made : SessionGroup → ℕ → List ℕ) where
       → HasMet s before group g p → HasMet s now group g p
   met_same s before now group g p same has = record {
     header = has.header;
+    word = has.word;
     slots = has.slots;
     each = λ number. has.each number ∙ ap (λ (b : Bool). cond b (Some (made g number)) None) (sym (same number));
   }
@@ -93,6 +95,7 @@ module _ (made : SessionGroup → ℕ → List ℕ) where
       by : (o : Option Packets) → open_group kept f.group ≡ o → HasMet s pairs f.group g (unwrap_or o (no_packets (header_of f)))
       by None e = record {
         header = is;
+        word = refl;
         slots = Rattle.std.proofs.lemmas.List.length-replicate (header_of f).table.packets None ∙ ap (λ (h : Header). h.table.packets) is;
         each = λ number. empty None refl (header_of f).table.packets number ∙ ap (λ (b : Bool). cond b (Some (made g number)) None) (sym (follows.closed f.group e number));
       }

@@ -12,7 +12,7 @@ use Rattle.packet_frame.specs.Frame.{Fields}
 use Rattle.packet_frame.specs.declared.frame.Header.{Header}
 use Rattle.packet_set.specs.Packets.{Packets, with_packet}
 use Rattle.pet_encode.specs.Session.{Session, SessionGroup}
-use Rattle.kept_sets.specs.KeptSet.{KeptSet, open_group, header_of, group_with, keep}
+use Rattle.kept_sets.specs.KeptSet.{KeptSet, open_group, header_of, group_with, keep, keep_by}
 use Rattle.kept_sets.specs.laws.EntryLaws.{weight, rises_insert}
 use Rattle.kept_sets.specs.laws.KeptSetLaws.{open_here, open_other}
 use Rattle.met_packets.specs.Met.{Pair, has_pair}
@@ -37,6 +37,7 @@ module _ (made : SessionGroup → ℕ → List ℕ) where
       → HasMet made s (with_pair pairs f) f.group g (with_packet p f.number f.payload)
   has_met_with s pairs f g p is has = record {
     header = has.header;
+    word = has.word;
     slots = length-set p.slots f.number (Some f.payload) ∙ has.slots;
     each =
         λ m.
@@ -56,7 +57,7 @@ module _ (made : SessionGroup → ℕ → List ℕ) where
 
   pub follows_keep : (s : Session) (limit : ℕ) (pairs : List Pair) (kept : KeptSet) (f : Fields) (g : SessionGroup) → Follows made s limit pairs kept → IsMade s f g
       → Follows made s limit (with_pair pairs f) (keep kept f)
-  unfolding keep
+  unfolding keep_by
   follows_keep s limit pairs kept f g follows is =
       let now = with_pair pairs f in
       let v = group_with kept f in

@@ -1,5 +1,5 @@
 -- The verdict of a packet of a session by a set that follows the session's packets.
-use Rattle.std.proofs.Common.{◌≡◌, ℕ, ◌+◌, ◌≤◌, Bool, true, false, cond, List, [], ◌∷◌, length, Option, None, Some, All, refl, sym, ap, subst, ◌∙◌, arith, eqb, ltb}
+use Rattle.std.proofs.Common.{◌≡◌, ℕ, ◌+◌, ◌≤◌, Bool, true, false, cond, List, [], ◌∷◌, length, Option, None, Some, All, refl, sym, ap, ap₂, subst, ◌∙◌, arith, eqb, ltb}
 use Rattle.std.specs.Prelude.{sum_by, slice_get, not, ◌||◌, ◌&&◌, is_some, is_none, unwrap_or}
 use Rattle.std.specs.List.{list_any}
 use Rattle.std.specs.Option.{option_map_or, option_and_then}
@@ -14,13 +14,13 @@ use Rattle.std.proofs.lemmas.Option.{same_Some}
 use Rattle.packet_frame.specs.Frame.{Fields}
 use Rattle.packet_frame.specs.declared.frame.Header.{Header}
 use Rattle.packet_set.specs.Packets.{Packets, slot_at, no_packets}
-use Rattle.stripe_plan.specs.Sizes.{Sizes, cost_of}
+use Rattle.stripe_plan.specs.Sizes.{Sizes, cost_of, cost_by}
 use Rattle.stripe_plan.specs.Same.{same_table}
 use Rattle.stripe_plan.specs.laws.SameLaws.{same_table_laws}
 use Rattle.pet_encode.specs.Session.{Session, SessionGroup, Fits}
 use Rattle.kept_sets.specs.declared.verdict.Verdict.TheVariants.{Foreign, Clash, Repeated, Full, Kept}
-use Rattle.kept_sets.specs.KeptSet.{KeptSet, open_group, payload_of, header_of, group_with, keep, cost_in, cost_kept}
-use Rattle.kept_sets.specs.Verdicts.{tells_other_count, tells_other_table, tells_other_payload, clashes, is_too_much, newly_shown, layer_set, frame_verdict}
+use Rattle.kept_sets.specs.KeptSet.{KeptSet, open_group, payload_of, header_of, group_with, keep, keep_by, cost_in, cost_kept}
+use Rattle.kept_sets.specs.Verdicts.{tells_other_count, tells_other_table, tells_other_payload, clashes, is_too_much, newly_shown, layer_set, frame_verdict, frame_verdict_by}
 use Rattle.kept_sets.specs.laws.EntryLaws.{weight, values_sum}
 use Rattle.met_packets.specs.Met.{Pair, has_pair}
 use Rattle.met_packets.specs.laws.SumLaws.{sum_below, sum_plain}
@@ -53,7 +53,7 @@ module _ (made : SessionGroup → ℕ → List ℕ) (s : Session) (limit : ℕ) 
           let opened = after.opened n p e in
           let n_is : n ≡ i = omega arith in
           let same : opened.0 ≡ x = same_Some opened.0 x (sym opened.1 ∙ ap (slice_get s.groups) n_is ∙ has) in
-          let cost : cost_in p ≡ cost_of opened.0.packets opened.0.layers = ap (λ (h : Header). cost_of h.table.packets h.table.layers) opened.2.header in
+          let cost : cost_in p ≡ cost_of opened.0.packets opened.0.layers = ap₂ (λ word (h : Header). cost_by word h.table.packets h.table.layers) opened.2.word opened.2.header in
           let cost_is : cost_in p ≡ cost_of x.packets x.layers = cost ∙ ap (λ (y : SessionGroup). cost_of y.packets y.layers) same in
           omega (arith, cost_is)
 
@@ -97,7 +97,7 @@ module _ (made : SessionGroup → ℕ → List ℕ) (s : Session) (limit : ℕ) 
       ∙ ap (λ (b : Bool). b || tells_other_payload kept f) table_told ∙ payload_told
 
   never_too_much : Fits s limit → is_too_much kept f ≡ false
-  unfolding keep
+  unfolding keep_by
   never_too_much fits = by (open_group kept f.group) refl
     where
       by : (o : Option Packets) → open_group kept f.group ≡ o → (is_none o && ltb kept.limit (cost_kept kept + cost_of f.packets f.layers)) ≡ false
@@ -113,7 +113,7 @@ module _ (made : SessionGroup → ℕ → List ℕ) (s : Session) (limit : ℕ) 
 
   -- the frame is kept, or kept already
   pub verdict_is : Fits s limit → frame_verdict kept f ≡ cond (has_pair pairs f.group f.number) Repeated (Kept (layer_set (newly_shown kept f)))
-  unfolding frame_verdict
+  unfolding frame_verdict_by
   verdict_is fits =
       let session : bytes_eq f.session kept.session ≡ true = (bytes_eq-Decides f.session kept.session).1 (is.session ∙ sym follows.session) in
       let there : is_some (payload_of kept f.group f.number) ≡ has_pair pairs f.group f.number = ap is_some payload_found ∙ known (has_pair pairs f.group f.number) in

@@ -16,7 +16,7 @@ use Rattle.pet_encode.specs.Session.{Session, IsSession, IsPacketOf, Fits, packe
 use Rattle.pet_encode.specs.laws.SessionLaws.{packets_are}
 use Rattle.pet_encode.specs.laws.SentLaws.{are_frames}
 use Rattle.kept_sets.specs.KeptSet.{KeptSet, IsKeptSet, empty_set}
-use Rattle.kept_sets.specs.Verdicts.{after, after_all}
+use Rattle.kept_sets.specs.Verdicts.{after, after_all, after_all_in}
 use Rattle.kept_sets.specs.Union.{frames_in, union, absorb_fault}
 use Rattle.kept_sets.specs.laws.KeptSetLaws.{empty_sound, after_sound}
 use Rattle.kept_sets.specs.laws.UnionKept.{union_sound}
@@ -92,7 +92,7 @@ module _ (pairs : List Pair) where
 -- ---- what is kept after the texts of some packets
 
 sound_after : (set : KeptSet) (ds : List (List ℕ)) → IsKeptSet set → IsKeptSet (after_all set ds)
-unfolding after_all
+unfolding after_all_in
 sound_after set [] sound = sound
 sound_after set (d ∷ ds) sound = sound_after (after set d) ds (after_sound set d sound (reads_frames d))
 

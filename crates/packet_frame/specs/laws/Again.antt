@@ -10,6 +10,7 @@ use Rattle.std.proofs.lemmas.Nat.{from_be_bytes-to_be_bytes_2, from_be_bytes-to_
 use Rattle.sha2.specs.Sha256.{sha256}
 use Rattle.sha2.proofs.Facts256.{length-sha256}
 use Rattle.stripe_plan.specs.declared.layer.LayerSize.{LayerSize}
+use Rattle.stripe_plan.specs.laws.ByteLaws.{few_bytes_in}
 use Rattle.packet_frame.specs.declared.format.Format.{Format}
 use Rattle.packet_frame.specs.Format.{IsFormat, bare_length, frame_length_in}
 use Rattle.pet_base.specs.declared.limits.TheConstants.{HEAD_LENGTH, LAYER_LENGTH}
@@ -94,7 +95,7 @@ module _ (t : Format) (m : Fields) (p q r s a b c d e f g h : ℕ) where
       let most = is.table.few_packets in
       let wide = format.packets in
       let at = is.number in
-      let lengths : sum_by (λ (l : LayerSize). l.length) m.layers < 2 ^ 32 = omega (arith, is.table.few_bytes) in
+      let lengths : sum_by (λ (l : LayerSize). l.length) m.layers < 2 ^ 32 = omega (arith, is.table.few_bytes, few_bytes_in t.bounds format.bounds) in
       let needs : All (λ (l : LayerSize). l.need < 2 ^ 16) m.layers = λ k d lt. omega (arith, is.table.within k d lt) in
       let all = whole format in
       let l : layers_at n ((flat ++ m.payload) ++ tag) ≡ m.layers = ap (λ (t : List ℕ). layers_at n t) (append_assoc flat m.payload tag) ∙ layers_again m.layers (m.payload ++ tag) lengths needs in

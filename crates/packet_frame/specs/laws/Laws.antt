@@ -1,10 +1,11 @@
 -- For callers: the laws of frames. Each is stated of every format, and then of the frames that are written today.
-use Rattle.std.proofs.Common.{◌≡◌, ℕ, ◌<◌, List, length, get_or, sym, ap, ◌∙◌, arith}
+use Rattle.std.proofs.Common.{◌≡◌, ℕ, ◌<◌, ◌≤◌, List, length, get_or, sym, ap, ◌∙◌, arith}
 use Rattle.std.specs.Prelude.{None}
 use Rattle.std.specs.List.{All}
 use Rattle.std.proofs.lemmas.List.Elements.{All-get_or}
 use Rattle.std.proofs.lemmas.List.{get_or_past}
 use Rattle.std.proofs.lemmas.Bool.{cases_lt}
+use Rattle.pet_base.specs.declared.limits.TheConstants.{HEAD_LENGTH}
 use Rattle.stripe_plan.specs.Sizes.{datagram_length_of}
 use Rattle.packet_frame.specs.declared.format.Format.{Format}
 use Rattle.packet_frame.specs.declared.format.TheConstants.{FORMAT}
@@ -14,6 +15,7 @@ use Rattle.packet_frame.specs.Refusals.{fields_of, fields_in, first_fault, first
 use Rattle.packet_frame.specs.laws.Formats.{format_is}
 use Rattle.packet_frame.specs.laws.Spelled.{is_frame, is_text}
 use Rattle.packet_frame.specs.laws.Again.{is_read, length-text}
+use Rattle.packet_frame.specs.laws.Passed.{passes_in}
 use mathlib.Core.Logic.{inl, inr}
 
 -- the text of a frame is read as that frame
@@ -29,6 +31,11 @@ reads_frames_in t format bytes h = is_frame t format bytes h
 
 pub reads_frames : (bytes : List ℕ) → first_fault bytes ≡ None → IsFrame (fields_of bytes)
 reads_frames bytes h = reads_frames_in FORMAT format_is bytes h
+
+-- and has all that is before the layers
+pub reads_heads_in : (t : Format) (bytes : List ℕ) → first_fault_in t bytes ≡ None → HEAD_LENGTH ≤ length bytes
+unfolding first_fault_in
+reads_heads_in t bytes fine = omega (arith, (passes_in t bytes (fields_in t bytes) fine).long)
 
 at_each : (bytes : List ℕ) → All (λ byte. byte < 256) bytes → (i : ℕ) → get_or bytes i 0 < 256
 at_each bytes fits i =

@@ -7,8 +7,8 @@ use Rattle.std.proofs.lemmas.List.Elements.{All-nil, All-cons}
 use Rattle.std.proofs.lemmas.List.Folds.{list_any_none}
 use Rattle.std.proofs.lemmas.Slice.Eq.{bytes_eq-Decides}
 use Rattle.stripe_plan.specs.declared.layer.LayerSize.{LayerSize}
-use Rattle.pet_base.specs.declared.limits.TheConstants.{MAX_DATAGRAM, MAX_GROUP_BYTES, MAX_GROUPS}
-use Rattle.stripe_plan.specs.Sizes.{bytes_of, length_over}
+use Rattle.pet_base.specs.declared.limits.TheConstants.{MAX_DATAGRAM, MAX_GROUPS}
+use Rattle.stripe_plan.specs.Sizes.{bytes_of, length_over, planned}
 use Rattle.packet_frame.specs.declared.format.Format.{Format}
 use Rattle.packet_frame.specs.declared.format.TheConstants.{FORMAT}
 use Rattle.packet_frame.specs.Format.{bare_length, frame_length_in}
@@ -47,9 +47,9 @@ pub record PassesIn (t : Format) (bytes : List ℕ) (f : Fields) : Type 0 where
   pub few_layers : count_of bytes ≤ t.bounds.layers
   pub room : bare_length t (count_of bytes) ≤ length bytes
   pub needs : list_any (λ (layer : LayerSize). eqb layer.need 0 || ltb f.packets layer.need) f.layers ≡ false
-  pub lengths : bytes_of f.layers ≤ MAX_GROUP_BYTES
+  pub lengths : bytes_of f.layers ≤ t.bounds.bytes
   pub whole : length bytes ≡ frame_length_in t f.layers
-  pub narrow : length_over t.bounds.bare f.layers ≤ MAX_DATAGRAM
+  pub narrow : length_over t.bounds.bare (planned t.bounds f.layers) ≤ MAX_DATAGRAM
   pub tag : drop (length bytes - t.tag) bytes ≡ tag_of t (take (length bytes - t.tag) bytes)
 
 same_bytes : (x y : List ℕ) → not (bytes_eq x y) ≡ false → x ≡ y
@@ -96,7 +96,7 @@ passes_in t bytes f h =
     let groups = in_range f.groups MAX_GROUPS r.1.1.0 in
     let packets = in_range f.packets t.bounds.packets r.1.1.1.1.0 in
     let count = in_range (count_of bytes) t.bounds.layers r.1.1.1.1.1.1.0 in
-    let size = fits (length bytes) (frame_length_in t f.layers) MAX_DATAGRAM (length_over t.bounds.bare f.layers) r.1.1.1.1.1.1.1.1.1.1.0 in
+    let size = fits (length bytes) (frame_length_in t f.layers) MAX_DATAGRAM (length_over t.bounds.bare (planned t.bounds f.layers)) r.1.1.1.1.1.1.1.1.1.1.0 in
     record {
       long = at_most _ _ r.0;
       magic = same_bytes (take 4 bytes) t.mark r.1.0;
@@ -145,7 +145,7 @@ not_refused t bytes f p = none_holds (rows t bytes f) (
                   (
                     not_above _ _ p.lengths,
                     (
-                      not_unfit (length bytes) (frame_length_in t f.layers) MAX_DATAGRAM (length_over t.bounds.bare f.layers) p.whole p.narrow,
+                      not_unfit (length bytes) (frame_length_in t f.layers) MAX_DATAGRAM (length_over t.bounds.bare (planned t.bounds f.layers)) p.whole p.narrow,
                       (
                         equal_bytes _ _ p.tag,
                         tt,

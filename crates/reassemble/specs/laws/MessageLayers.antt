@@ -16,7 +16,7 @@ use Rattle.layer_split.specs.RunTable.{fits}
 use Rattle.layer_split.specs.Layers.{bytes_of_run, layer_bytes, layer_length, lengths_of, padded, message}
 use Rattle.layer_split.specs.laws.PaddedLaws.{padded_length}
 use Rattle.pet_encode.specs.Session.{length_of_layer, bytes_of_layer}
-use Rattle.open_group.specs.laws.Needs.{length_is}
+use Rattle.open_group.specs.laws.Needs.{length_all}
 use Rattle.reassemble.specs.Video.{group_video}
 use Rattle.reassemble.specs.laws.TableFits.{CanBeNamed, table_fits}
 use Rattle.reassemble.specs.laws.VideoOfCut.{video_of_cut}
@@ -88,12 +88,12 @@ layer_of_message stream runs n layer layers inside same lt =
     at.1
     ∙ ap (λ l. front ++ l)
     (ap (λ k. f k ++ at.0) (let e : 0 + layer ≡ layer = omega arith in e) ∙ (ap (λ l. l ++ at.0) pad.1 ∙ append_assoc bytes pad.0 at.0)) in
-    let size : length bytes ≡ length_of_layer layers layer =
+    let size : length bytes ≡ length_of_layer 2 layers layer =
     layer_size stream runs layer inside
-    ∙ (ap (layer_length runs) (let e : layer ≡ 0 + layer = omega arith in e) ∙ sym (length_is layers layer d (omega arith) ∙ had.each layer d (omega arith))) in
-    ap (λ m. take (length_of_layer layers layer) (drop (words_before layers layer * 2) m)) whole
-    ∙ (ap (take (length_of_layer layers layer)) (drop_at front (bytes ++ (pad.0 ++ at.0)) (words_before layers layer * 2) before)
-    ∙ take_at bytes (pad.0 ++ at.0) (length_of_layer layers layer) size)
+    ∙ (ap (layer_length runs) (let e : layer ≡ 0 + layer = omega arith in e) ∙ sym (length_all 2 layers layer d (omega arith) (omega arith) ∙ had.each layer d (omega arith))) in
+    ap (λ m. take (length_of_layer 2 layers layer) (drop (words_before layers layer * 2) m)) whole
+    ∙ (ap (take (length_of_layer 2 layers layer)) (drop_at front (bytes ++ (pad.0 ++ at.0)) (words_before layers layer * 2) before)
+    ∙ take_at bytes (pad.0 ++ at.0) (length_of_layer 2 layers layer) size)
 
 each_same : (g h : ℕ → List ℕ) (a k : ℕ) → ((i : ℕ) → a ≤ i → i < a + k → g i ≡ h i) → map g (range_with_len a k) ≡ map h (range_with_len a k)
 each_same g h a zero e = refl

@@ -14,6 +14,7 @@ use Rattle.packet_frame.specs.Frame.{Fields, IsFrame}
 use Rattle.packet_frame.specs.View.{fields_with}
 use Rattle.packet_frame.specs.declared.frame.Header.{Header}
 use Rattle.packet_set.specs.Packets.{Packets, count_held}
+use Rattle.stripe_plan.specs.Sizes.{cost_by}
 use Rattle.kept_sets.specs.KeptSet.{KeptSet, IsKeptSet, IsKeptGroup, empty_set, open_group, cost_in, cost_kept}
 use Rattle.kept_sets.specs.Union.{frames_in_group, frames_in}
 use Rattle.kept_sets.specs.laws.EntryLaws.{all_found, cmp_says_less}
@@ -147,10 +148,11 @@ module _ (session : List ℕ) (limit count : ℕ) where
         below = λ i d lt. let at = below i d lt in omega (arith, at, first, number);
         same_session = group.same_session;
         same_count = subst (λ n. list_any (λ (d : ℕ × Packets). not (d.1.header.groups == n)) gs ≡ false) (sym tells) same;
-        room = omega (arith, room, costs);
+        room = omega (arith, room, costs, ap (λ (w : ℕ). cost_by w h.table.packets h.table.layers) group.word_is);
       } in
       let rest = flat_map (λ (d : ℕ × Packets). frames_in_group d.1) es in
-      let here : (h.group, e.1) ≡ e = ap (λ k. (k, e.1)) number in
+      let own : Packets = record { header = h; word = 2; slots = e.1.slots } in
+      let here : (h.group, own) ≡ e = λ i. (number i, record { header = h; word = sym group.word_is i; slots = e.1.slots }) in
       let one : List (ℕ × Packets) = e ∷ [] in
       let more = sum_by-append (λ (d : ℕ × Packets). cost_in d.1) gs one in
       let last_cost = sum_by-cons (λ (d : ℕ × Packets). cost_in d.1) e [] in

@@ -8,7 +8,7 @@ use Rattle.std.proofs.lemmas.Map.Views.{exact_unsigned_eq}
 use Rattle.packet_frame.specs.Frame.{Fields}
 use Rattle.packet_set.specs.Packets.{Packets, slot_at}
 use Rattle.kept_sets.specs.KeptSet.{KeptSet, IsKeptSet, empty_set, open_group, payload_of, keep}
-use Rattle.kept_sets.specs.Verdicts.{clashes, is_too_much, newly_shown, layer_set, frame_verdict, is_kept}
+use Rattle.kept_sets.specs.Verdicts.{clashes, is_too_much, newly_shown, layer_set, frame_verdict, frame_verdict_by, is_kept}
 use Rattle.kept_sets.specs.Union.{frames_in}
 use Rattle.kept_sets.specs.declared.verdict.Verdict.TheVariants as verdict
 use Rattle.kept_sets.specs.declared.verdict.LayerSet.{LayerSet}
@@ -79,7 +79,7 @@ module _ (set : KeptSet) (last : Last) (f : Fields) (ends : EndsIn set last) (no
   absent = absent_by (open_group set f.group) f.number (λ p opened. next_above.later p opened f.number (omega arith))
 
   kept : is_kept (frame_verdict set f) ≡ true
-  unfolding frame_verdict
+  unfolding frame_verdict_by
   kept = kept_by (bytes_eq f.session set.session) (clashes set f) (is_some (payload_of set f.group f.number)) (is_too_much set f) (layer_set (newly_shown set f)) parts.0 (ap is_some absent) parts.2
 
   -- and is kept

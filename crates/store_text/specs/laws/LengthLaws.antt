@@ -7,7 +7,7 @@ use Rattle.std.proofs.Math.Nat.{mul-le-mul_left, mul-le-mul_right}
 use Rattle.std.proofs.lemmas.List.{length-append}
 use Rattle.std.proofs.lemmas.List.Sums.{sum_by-cons, sum_by-append, count_by-le-length}
 use Rattle.pet_base.specs.declared.limits.TheConstants.{MAX_SESSION, MAX_STORE}
-use Rattle.stripe_plan.specs.Sizes.{datagram_length_of}
+use Rattle.stripe_plan.specs.Sizes.{datagram_length_of, cost_by}
 use Rattle.packet_frame.specs.Frame.{Fields, IsFrame, text, tag_of}
 use Rattle.packet_frame.specs.View.{fields_with}
 use Rattle.packet_frame.specs.declared.frame.Header.{Header}
@@ -85,7 +85,8 @@ group_length session group p kept =
     let long : sum_by entry_bytes (frames_in_group p) ≡ count_in p * (2 + each) = ap (sum_by entry_bytes) (group_from p) ∙ from_length p.header 0 p.slots frames in
     let few : count_in p ≤ p.header.table.packets = omega (arith, count_by-le-length (is_some {T = List ℕ}) p.slots, kept.slots) in
     let most = few_more (count_in p) p.header.table.packets each few (omega (arith, table.some_layers)) in
-    omega (arith, long, most)
+    let cost = ap (λ (w : ℕ). cost_by w p.header.table.packets p.header.table.layers) kept.word_is in
+    omega (arith, long, most, cost)
 
 all_length : (session : List ℕ) (es : List (ℕ × Packets)) → All (λ e. IsKeptGroup session e.0 e.1) es → 47 * sum_by entry_bytes (flat_map (λ e. frames_in_group e.1) es) ≤ 49 * sum_by (λ e. cost_in e.1) es
 all_length session [] kept = omega arith

@@ -18,8 +18,8 @@ use Rattle.packet_frame.specs.View.{fields_with}
 use Rattle.packet_frame.specs.declared.frame.Header.{Header}
 use Rattle.packet_set.specs.Packets.{Packets, slot_at, with_packet, no_packets}
 use Rattle.stripe_plan.specs.Sizes.{cost_of}
-use Rattle.kept_sets.specs.KeptSet.{KeptSet, open_group, payload_of, cost_in, cost_kept, keep}
-use Rattle.kept_sets.specs.Verdicts.{tells_other_count, tells_other_table, tells_other_payload, is_too_much, newly_shown, layer_set, frame_verdict}
+use Rattle.kept_sets.specs.KeptSet.{KeptSet, open_group, payload_of, cost_in, cost_kept, keep, keep_by}
+use Rattle.kept_sets.specs.Verdicts.{tells_other_count, tells_other_table, tells_other_payload, is_too_much, newly_shown, layer_set, frame_verdict_by}
 use Rattle.kept_sets.specs.declared.verdict.Verdict.TheVariants as verdict
 use Rattle.kept_sets.specs.declared.verdict.LayerSet.{LayerSet}
 use Rattle.kept_sets.specs.laws.FramesInOrder.{lookup_past}
@@ -41,7 +41,7 @@ none_by : (a b c d e g h : Bool) (layers : LayerSet) → a ≡ true → b ≡ tr
 none_by a b c d e g h layers ea eb ec ed ee eg eh = rw (ea, eb, ec, ed, ee, eg, eh) refl
 
 no_fault : (set : KeptSet) (last : Last) (f : Fields) → MayFollow set last f → frame_fault set last f ≡ None
-unfolding frame_verdict
+unfolding frame_verdict_by
 no_fault set last f m =
     none_by (bytes_eq f.session set.session) (is_above last f) (tells_other_count set f) (tells_other_table set f) (tells_other_payload set f) (is_some (payload_of set f.group f.number)) (is_too_much set f) (layer_set (newly_shown set f))
     ((bytes_eq-Decides f.session set.session).1 m.session) m.above m.count m.table
@@ -74,13 +74,13 @@ module _ (session : List ℕ) (limit : ℕ) (gs : List (ℕ × Packets)) (h : He
   before = record { session = session; limit = limit; groups = gs }
 
   abbrev pub opened : List (Option (List ℕ)) → KeptSet
-  opened slots = record { session = session; limit = limit; groups = gs ++ ((h.group, record { header = h; slots = slots }) ∷ []) }
+  opened slots = record { session = session; limit = limit; groups = gs ++ ((h.group, record { header = h; word = 2; slots = slots }) ∷ []) }
 
   not_open : open_group before h.group ≡ None
   not_open = lookup_past gs h.group next.below
 
-  is_open : (slots : List (Option (List ℕ))) → open_group (opened slots) h.group ≡ Some (record { header = h; slots = slots })
-  is_open slots = lookup_end gs h.group (record { header = h; slots = slots }) next.below
+  is_open : (slots : List (Option (List ℕ))) → open_group (opened slots) h.group ≡ Some (record { header = h; word = 2; slots = slots })
+  is_open slots = lookup_end gs h.group (record { header = h; word = 2; slots = slots }) next.below
 
   pub none_opens : (last : Last) (n : ℕ) (payload : List ℕ) → is_above last (fields_with h n payload) ≡ true → frame_fault before last (fields_with h n payload) ≡ None
   none_opens last n payload above = no_fault before last (fields_with h n payload) (record {
@@ -93,15 +93,15 @@ module _ (session : List ℕ) (limit : ℕ) (gs : List (ℕ × Packets)) (h : He
   })
 
   pub keep_opens : (n : ℕ) (payload : List ℕ) → keep before (fields_with h n payload) ≡ opened (set (replicate h.table.packets None) n (Some payload))
-  unfolding keep
+  unfolding keep_by
   keep_opens n payload =
       ap (λ (o : Option Packets). record before { groups = insert_entry nat_cmp gs h.group (with_packet (unwrap_or o (no_packets h)) n payload) }) not_open
       ∙ ap (λ es. record before { groups = es }) (insert_end gs h.group (with_packet (no_packets h) n payload) next.below)
 
-  pub none_goes_on : (slots : List (Option (List ℕ))) (last : Last) (n : ℕ) (payload : List ℕ) → is_above last (fields_with h n payload) ≡ true → slot_at (record { header = h; slots = slots }) n ≡ None
+  pub none_goes_on : (slots : List (Option (List ℕ))) (last : Last) (n : ℕ) (payload : List ℕ) → is_above last (fields_with h n payload) ≡ true → slot_at (record { header = h; word = 2; slots = slots }) n ≡ None
       → frame_fault (opened slots) last (fields_with h n payload) ≡ None
   none_goes_on slots last n payload above none =
-      let p : Packets = record { header = h; slots = slots } in
+      let p : Packets = record { header = h; word = 2; slots = slots } in
       no_fault (opened slots) last (fields_with h n payload) (record {
         session = next.same_session;
         above = above;
@@ -116,8 +116,8 @@ module _ (session : List ℕ) (limit : ℕ) (gs : List (ℕ × Packets)) (h : He
       })
 
   pub keep_goes_on : (slots : List (Option (List ℕ))) (n : ℕ) (payload : List ℕ) → keep (opened slots) (fields_with h n payload) ≡ opened (set slots n (Some payload))
-  unfolding keep
+  unfolding keep_by
   keep_goes_on slots n payload =
-      let p : Packets = record { header = h; slots = slots } in
+      let p : Packets = record { header = h; word = 2; slots = slots } in
       ap (λ (o : Option Packets). record before { groups = insert_entry nat_cmp (gs ++ ((h.group, p) ∷ [])) h.group (with_packet (unwrap_or o (no_packets h)) n payload) }) (is_open slots)
       ∙ ap (λ es. record before { groups = es }) (insert_at_end gs h.group p (with_packet p n payload) next.below)

@@ -1,8 +1,8 @@
-use Rattle.std.specs.Prelude.{filter, map, nat_lt, nat_le}
+use Rattle.std.specs.Prelude.{filter, map}
 use Rattle.std.specs.List.{range_with_len}
-use Rattle.std.proofs.Common.{◌≡◌, ◌+◌, ◌&&◌, ℕ, Bool, cond, true, false, List, [], ◌∷◌, ◌++◌, refl, sym, ap, ◌∙◌}
+use Rattle.std.proofs.Common.{◌≡◌, ◌+◌, ℕ, Bool, cond, true, false, List, [], ◌∷◌, ◌++◌, refl, sym, ap, ◌∙◌, get_or}
 use Rattle.std.proofs.lemmas.List.{map-append, append_assoc}
-use Rattle.stripe_plan.specs.Layers.{count_of}
+use Rattle.kept_sets.specs.ByCounts.{is_between}
 use Rattle.kept_sets.specs.laws.LayerSetLaws.{filter_more}
 use Rattle.kept_sets.proofs.shown.push_between.Goals as goal
 
@@ -21,5 +21,6 @@ pairs_more p group n b new old first is next so =
 
 pub loop-layer-preserved : goal.loop-layer-preserved
 loop-layer-preserved c =
-    pairs_more (λ j. nat_lt c.args.before (count_of c.args.table.now.layers j) && nat_le (count_of c.args.table.now.layers j) c.args.after) c.args.group c.loop-layer.layer c.is_between.result
-    c.push_if.new.shown.items c.loop-layer.shown.items c.args.shown.now.items c.is_between.ensures c.in_ok-push_if.ensures c.loop-layer.invariant
+    let p : ℕ → Bool = λ j. is_between c.args.before c.args.after (get_or c.args.counts.now j 0) in
+    pairs_more p c.args.group c.loop-layer.layer c.is_shown_between-wanted.result
+    c.push_if.new.shown.items c.loop-layer.shown.items c.args.shown.now.items (c.is_shown_between-wanted.ensures ∙ ap p c.from.ensures) c.in_ok-push_if.ensures c.loop-layer.invariant

@@ -1,5 +1,4 @@
 use Rattle.std.proofs.Common.{◌∙◌, arith}
-use Rattle.gf16_rows.specs.laws.WordLaws.{all_elements}
 use Rattle.point_values.proofs.all_values.fill_values.Goals as goal
 
 pub fill_rows-requires : goal.fill_rows-requires
@@ -8,8 +7,8 @@ fill_rows-requires g c =
       narrow = c.requires.narrow;
       whole = c.requires.whole;
       stripes = c.requires.stripes;
-      elements = all_elements c.args.laid.now c.type_inv.laid;
-      points = omega (arith, c.requires.few);
+      elements = c.requires.elements;
+      points = c.requires.points;
       few = c.requires.few;
       room = c.fill_transformed.auto.into ∙ c.requires.room;
     }

@@ -1,7 +1,5 @@
 use Rattle.std.proofs.Common.{◌≡◌, ℕ, ◌+◌, ◌-◌, ◌*◌, ◌^◌, ap, ap₂, ◌∙◌, arith, rules, ◌<◌}
 use Rattle.additive_fft.specs.Basis.{value_in_basis}
-use Rattle.additive_fft.specs.Constants.{inverse}
-use Rattle.pet_field.specs.Gf16.{gf16}
 use Rattle.pet_rows.specs.Columns.{column}
 use Rattle.pet_rows.specs.laws.PlaceLaws.{rows_le}
 use Rattle.point_values.proofs.CosetRows.{up_to_high, within_coset, within_rows, coset_values, before_coset}
@@ -11,7 +9,7 @@ pub values_at_coset-requires-clause-size : goal.values_at_coset-requires-clause-
 values_at_coset-requires-clause-size g c = c.requires.size
 
 pub values_at_coset-requires-clause-block : goal.values_at_coset-requires-clause-block
-values_at_coset-requires-clause-block g c = rw c.from-block.ensures (omega (arith, c.requires.some, c.requires.few))
+values_at_coset-requires-clause-block g c = rw c.from-block.ensures (omega (arith, c.requires.some, c.requires.points))
 
 pub values_at_coset-requires-clause-count : goal.values_at_coset-requires-clause-count
 values_at_coset-requires-clause-count g c =
@@ -52,8 +50,9 @@ returns-clause-values g c =
     let high = c.min-high.result in
     let start = c.args.coset * 2 ^ c.args.level in
     let begins : begin ≡ start = ap₂ (λ a b. a * b) c.from.ensures c.size_at-size.ensures.power in
-    let V = λ (j x : ℕ). value_in_basis gf16 inverse c.args.level (column 0 c.args.stripes (2 ^ c.args.level) j c.args.rows.now) x in
-    coset_values c.args.first c.args.count begin size low high start (2 ^ c.args.level) c.max-low.ensures c.min-high.ensures begins c.size_at-size.ensures.power V c.args.stripes c.values_at_coset.new.rows c.copy_rows.new.into c.copy_rows.ensures.copied
+    let F = g.F.Field in
+    let V = λ (j x : ℕ). value_in_basis F.coding.ops g.F.Subspaces.inverse c.args.level (column F.coding.ops.nought c.args.stripes (2 ^ c.args.level) j c.args.rows.now) (F.coding.point_of x) in
+    coset_values c.args.first c.args.count begin size low high start (2 ^ c.args.level) c.max-low.ensures c.min-high.ensures begins c.size_at-size.ensures.power F.coding.ops.nought V c.args.stripes c.values_at_coset.new.rows c.copy_rows.new.into (c.copy_rows.ensures.copied F.coding.ops.nought)
     (λ p i l m. c.values_at_coset.ensures.values p i l m ∙ ap (λ b. V i (b * 2 ^ c.args.level + p)) c.from-block.ensures)
 
 pub returns-clause-before : goal.returns-clause-before
@@ -65,7 +64,7 @@ returns-clause-before g c =
     let start = c.args.coset * 2 ^ c.args.level in
     let begins : begin ≡ start = ap₂ (λ a b. a * b) c.from.ensures c.size_at-size.ensures.power in
     λ p i l m k.
-    c.copy_rows.ensures.before (p * c.args.stripes + i) (before_coset c.args.first c.args.count begin size low high start (2 ^ c.args.level) c.max-low.ensures c.min-high.ensures begins c.size_at-size.ensures.power c.args.stripes p i m k)
+    c.copy_rows.ensures.before g.F.Field.coding.ops.nought (p * c.args.stripes + i) (before_coset c.args.first c.args.count begin size low high start (2 ^ c.args.level) c.max-low.ensures c.min-high.ensures begins c.size_at-size.ensures.power c.args.stripes p i m k)
 
 pub returns-clause-cost : goal.returns-clause-cost
 returns-clause-cost g c = omega (arith, c.values_at_coset.ensures.bounded)

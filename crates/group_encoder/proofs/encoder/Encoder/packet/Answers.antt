@@ -1,31 +1,16 @@
-use Rattle.group_encoder.proofs.Made.{blocks_wide, has_point, is_point, seen}
+use Rattle.std.specs.Prelude.{OnOk}
+use Rattle.std.proofs.Common.{subst}
+use Rattle.packet_encoder.proofs.Ranges.{on_ok}
+use Rattle.packet_frame.specs.declared.format.Format.{Format}
+use Rattle.packet_frame.specs.declared.format.TheConstants.{FORMAT}
+use Rattle.packet_frame.specs.Frame.{IsFrame}
+use Rattle.packet_frame.specs.Planned.{IsPlannedFrame}
+use Rattle.pet_encode.specs.Encoding.{Encoding, frame_of}
 use Rattle.group_encoder.proofs.encoder.Encoder.packet.Goals as goal
 
-pub point-x-requires : goal.point-x-requires
-point-x-requires g c =
-    let F = g.F.Field in
-    let s = c.self.inside in
-    has_point F.is_element F.COUNT F.coding g.met.F.Field.lawful s.header s.blocks.items s.laid.items c.self.invariant
-    c.args.self.now c.self.view_is c.args.number c.requires c.from.result c.from.ensures
-
-pub stripe_values-requires-clause-count : goal.stripe_values-requires-clause-count
-stripe_values-requires-clause-count g c =
-    let F = g.F.Field in
-    let s = c.self.inside in
-    blocks_wide F.is_element F.COUNT F.coding g.met.F.Field.lawful s.header s.blocks.items s.laid.items c.self.invariant
-    c.stripes-count.result c.deref.result.now c.stripes-count.ensures.listed c.deref.ensures.value
-
-pub stripe_values-requires-clause-point : goal.stripe_values-requires-clause-point
-stripe_values-requires-clause-point g c =
-    let F = g.F.Field in
-    let s = c.self.inside in
-    is_point F.is_element F.COUNT F.coding g.met.F.Field.lawful s.header s.blocks.items s.laid.items c.self.invariant
-    c.args.self.now c.self.view_is c.args.number c.requires c.from.result c.from.ensures c.point-x.result c.point-x.ensures
-
-pub frame-requires-clause-values : goal.frame-requires-clause-values
-frame-requires-clause-values g c =
-    let F = g.F.Field in
-    let s = c.self.inside in
-    seen F.is_element F.COUNT F.coding g.met.F.Field.lawful s.header s.blocks.items s.laid.items c.self.invariant
-    c.args.self.now c.self.view_is c.args.number c.requires c.from.result c.from.ensures c.point-x.result c.point-x.ensures
-    c.deref.result.now c.deref-2.result.now c.in_ok-values.values.items c.deref-3.result.now c.deref.ensures.value c.deref-2.ensures.value c.in_ok-values.ensures.values c.deref-3.ensures.value
+pub returns-clause-ranges : goal.returns-clause-ranges
+returns-clause-ranges g c =
+    let frame = λ (e : Encoding). frame_of g.F.Field.coding e c.args.number in
+    let own = subst (λ (t : Format). OnOk c.packet.result (IsPlannedFrame t (frame c.self.inside.core.encoding))) c.self.invariant c.packet.ensures.ranges in
+    let same = subst (λ (e : Encoding). OnOk c.packet.result (IsPlannedFrame FORMAT (frame e))) c.self.view_is own in
+    on_ok (λ _. IsPlannedFrame FORMAT (frame c.args.self.now)) (λ _. IsFrame (frame c.args.self.now)) c.packet.result (λ _ h. h.frame) same

@@ -1,9 +1,12 @@
+use Rattle.std.proofs.Math.Nat.{mul_comm}
 use Rattle.std.proofs.Common.{◌≡◌, ◌≢◌, ℕ, ◌+◌, ◌*◌, ◌<◌, ◌≤◌, List, [], ◌∷◌, ◌++◌, All, length, get_or, sym, ap, ap₂, ◌∙◌, None, is_some, arith, subst}
 use Rattle.std.proofs.lemmas.List.{with_items_is}
 use Rattle.std.proofs.lemmas.List.Sums.{count_by-le-length}
 use Rattle.interpolation.specs.Progressive.{Held, StandsFor, stripe_of, lengths_of, step_bound}
 use Rattle.pet_poly.specs.Rows.{words}
 use Rattle.stripe_plan.specs.declared.layer.LayerSize.{LayerSize}
+use Rattle.stripe_plan.specs.Layers.{plan_ends, plan_stripes}
+use Rattle.stripe_plan.proofs.PlanLemmas.{length-plan_stripes}
 use Rattle.packet_frame.specs.declared.frame.Header.{Header}
 use Rattle.packet_set.specs.Packets.{slot_at, with_packet}
 use Rattle.pet_encode.specs.Payload.{stripes_in}
@@ -70,7 +73,11 @@ add-requires-clause-width g c =
     let G = c.args.self.now in
     let sizes = sizes_are G.held (layers_of G.packets) c.requires.held.1.lengths in
     let count : length c.self.inside.progress.stripes ≡ length G.held.stripes = ap (λ (t : Held g.row.F-Elem.Denot). length t.stripes) (held_is g (goal.at.add-requires-clause-width g c).After-point-x) in
-    c.requires.words ∙ ap (λ n. n * g.F.Field.coding.width) (sym (count ∙ sizes.count))
+    let width = g.F.Field.coding.width in
+    let ends = plan_ends (layers_of G.packets) in
+    let words : length c.args.payload.now ≡ length (plan_stripes (layers_of G.packets)) * width =
+    c.requires.payload ∙ ap (λ w. w * length ends) c.requires.word ∙ mul_comm width (length ends) ∙ ap (λ n. n * width) (sym (length-plan_stripes (layers_of G.packets))) in
+    words ∙ ap (λ n. n * width) (sym (count ∙ sizes.count))
 
 pub write_known-requires-clause-stands : goal.write_known-requires-clause-stands
 write_known-requires-clause-stands g c =

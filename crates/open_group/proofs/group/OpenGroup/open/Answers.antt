@@ -12,8 +12,8 @@ returns-clause-held g c =
     let F = g.F.Field in
     let layers : c.args.header.now.table.layers ≡ layers_of c.in_ok-packets.packets = ap (λ (h : Header). h.table.layers) (sym c.in_ok-packets.ensures.header) in
     let lengths = c.in_ok-progress.ensures.lengths ∙ c.deref.ensures.value ∙ c.in_ok-lengths.ensures ∙ ap stripe_lengths layers in
-    let size = length (needs_of c.args.header.now.table.layers) * c.WIDTH.result in
-    let wide : c.WIDTH.result ≡ F.coding.width = c.WIDTH.ensures ∙ sym g.met.F.Field.wide in
+    let size = length (needs_of c.args.header.now.table.layers) * c.WIDTH-2.result in
+    let wide : c.WIDTH-2.result ≡ F.coding.width = c.WIDTH-2.ensures ∙ sym g.met.F.Field.wide in
     let room = ap length c.in_ok-message.ensures ∙ length-replicate size 0 ∙ ap (λ w. length (needs_of c.args.header.now.table.layers) * w) wide ∙ ap (λ l. length (needs_of l) * F.coding.width) layers in
     holds_none F.is_element F.coding c.in_ok-packets.packets c.in_ok-progress.progress c.in_ok-message.message.items c.args.header.now.table.packets
     c.in_ok-packets.ensures.empty lengths c.in_ok-progress.ensures.stands room

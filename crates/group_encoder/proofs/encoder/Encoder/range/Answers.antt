@@ -1,7 +1,0 @@
-use Rattle.group_encoder.proofs.encoder.Encoder.range.Goals as goal
-
-pub returns-clause-ok : goal.returns-clause-ok
-returns-clause-ok g c = c.frames.ensures.ok
-
-pub returns-clause-ranges : goal.returns-clause-ranges
-returns-clause-ranges g c = c.frames.ensures.ranges

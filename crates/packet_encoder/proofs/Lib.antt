@@ -1,0 +1,5 @@
+mod Columns
+mod Made
+mod Message
+pub mod Ranges
+mod Walk

@@ -1,9 +1,0 @@
-use Rattle.std.proofs.Common.{◌≡◌}
-use Rattle.pet_receive.specs.Joining.{packets_by, clash_from}
-use Rattle.pet_receive.proofs.checks.find_clash.Given as goal
-
-abbrev pub invariant-loop-group : goal.invariant-loop-group
-invariant-loop-group g l =
-    let kept = g.G.HasPackets.kept in
-    let es = packets_by kept l.groups.entries in
-    clash_from l.told es (packets_by kept l.group-iterator) ≡ clash_from l.told es (packets_by kept l.others.entries)
