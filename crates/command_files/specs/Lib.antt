@@ -1,3 +1,4 @@
+pub mod Failures
 pub mod Inputs
 pub mod Outputs
 pub mod Printed

@@ -1,7 +1,7 @@
 -- What was printed. This project's own.
-use Rattle.std.specs.Prelude.{◌≡◌, ℕ, ◌≤◌, List, take}
+use Rattle.std.specs.Prelude.{◌≡◌, ◌⊎◌, ℕ, ◌≤◌, List, [], take}
 use Rattle.std.specs.Io.KnownBytes.{append_known}
-use Rattle.pet_base.specs.Causes.{Rose}
+use Rattle.pet_base.specs.Causes.{Rose, one_more}
 use Rattle.pet_base.specs.OutsideSeen.{OutsideSeen}
 
 -- this text was printed
@@ -33,3 +33,5 @@ pub record PrintsLine (line : List ℕ) (before after : OutsideSeen) : Type 0 wh
   pub later : before.out_faults ≤ after.out_faults
   pub front : (k : ℕ) × Printed (take k line) before after
   pub whole : (Rose before.out_faults after.out_faults → ⊥) → Printed line before after
+  pub once : (after.out_faults ≡ before.out_faults) ⊎ (after.out_faults ≡ one_more before.out_faults)
+  pub silent : line ≡ [] → after.out_faults ≡ before.out_faults

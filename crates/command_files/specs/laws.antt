@@ -3,3 +3,4 @@ pub mod OutputLaws
 pub mod PartLaws
 pub mod PrintedLaws
 pub mod WroteLaws
+pub mod FailureLaws

@@ -1,9 +1,10 @@
 //! Reading a file of a place, to its end or one byte past a limit.
-ghost use Rattle.std.specs.Prelude.{◌≡◌, ◌+◌, ◌≤◌, ℕ, length, take, true, vec_len, IfOk, IfErr};
+ghost use Rattle.std.specs.Prelude.{◌≡◌, ◌+◌, ◌≤◌, ℕ, length, take, true, vec_len, is_err, IfOk, IfErr};
 ghost use Rattle.std.specs.Io.KnownBytes.{prepend_known, IsAtEnd};
 ghost use Rattle.pet_base.specs.declared.place.Side.TheVariants.{Read};
-ghost use Rattle.pet_base.specs.Causes.{Blames};
-ghost use Rattle.pet_base.specs.Seen.{Seen, KeepsOutput, OnlyReads, HasBlame, HadFault};
+ghost use Rattle.pet_base.specs.Causes.{Blames, stops};
+ghost use Rattle.command_files.specs.Failures.{has_failed};
+ghost use Rattle.pet_base.specs.Seen.{Seen, KeepsOutput, OnlyReads, HasBlame, HadFault, PlaceStops};
 ghost use Rattle.command_files.specs.declared.input.TheConstants.{MAX_PORTION};
 ghost use Rattle.command_files.specs.Inputs.{IsFrontOf, Licensed, IsRead, HasTakenAll};
 
@@ -30,6 +31,7 @@ pub fn read_file<P: Place>(
     ensures later { (P.seen place.old).faults ≤ (P.seen place.new).faults }
     ensures cause { IfErr result (Licensed (HadFault (P.seen place.old) (P.seen place.new)
         (IsRead name.now))) }
+    ensures once { PlaceStops (stops has_failed result) (P.seen place.old) (P.seen place.new) }
 {
     let mut buffer = portion_room(alloc)?;
     place.enter(name)?;
@@ -51,6 +53,7 @@ fn read_entered<P: Place>(
     ensures later { (P.seen place.old).faults ≤ (P.seen place.new).faults }
     ensures cause { IfErr result (Licensed (HadFault (P.seen place.old) (P.seen place.new)
         (Blames Read (P.seen place.old).source))) }
+    ensures once { PlaceStops (stops has_failed result) (P.seen place.old) (P.seen place.new) }
 {
     let mut bytes = Vec::new(alloc);
     while bytes.len() as u64 <= limit {
@@ -79,6 +82,7 @@ pub fn take_portion<P: Place>(place: &mut P, left: u64, buffer: &mut [u8]) -> Re
     ensures others { OnlyReads (P.seen place.old) (P.seen place.new) }
     ensures cause { HasBlame (P.seen place.old) (P.seen place.new) result
         (Blames Read (P.seen place.old).source) }
+    ensures once { PlaceStops (is_err result) (P.seen place.old) (P.seen place.new) }
 {
     let most = left.min(MAX_PORTION as u64 - 1) as usize + 1;
     place.take(&mut buffer[..most])

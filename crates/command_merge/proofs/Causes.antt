@@ -18,7 +18,7 @@ use Rattle.store_text.specs.declared.fault.BadStore.TheVariants.{At}
 use Rattle.store_read.specs.declared.files.StoreStop.{StoreStop}
 use Rattle.store_read.specs.declared.files.StoreStop.TheVariants as unread
 use Rattle.command_merge.specs.Ends.{absorb_end, stop_end, store_end}
-use Rattle.command_merge.specs.Merges.{HasStores, CanJoin, IsCause, WritesUnion, union_of}
+use Rattle.command_merge.specs.Merges.{HasStores, CanJoin, Merges, WritesUnion, union_of}
 use Rattle.command_merge.specs.declared.command.MergeEnd.{MergeEnd}
 use Rattle.command_merge.specs.declared.files.Which.{Which}
 use Rattle.command_merge.specs.declared.files.Which.TheVariants as which
@@ -46,15 +46,15 @@ later_fault : (P : Blame → Type 0) (old mid new : Seen) → old.faults ≤ mid
 later_fault P old mid new later had = record { rose = omega (arith, later, had.rose); blame = had.blame }
 
 -- the first store was not read
-pub first_unread : (first second out : List ℕ) (old new : Seen) → new.files ≡ old.files → (s : StoreStop) → IsStop old new first s → IsCause first second out old new (store_end which.First s)
-first_unread first second out old new same unread.NoMemory is = inl same
+pub first_unread : (first second out : List ℕ) (old new : Seen) → new.files ≡ old.files → (s : StoreStop) → IsStop old new first s → Merges first second out old new (store_end which.First s)
+first_unread first second out old new same unread.NoMemory is = same
 first_unread first second out old new same unread.Failed is = (inl is, inl same)
 first_unread first second out old new same (unread.At at kind) is = (is, same)
 
 -- the second was not, of the files that the first reading left as they were
 pub second_unread : (first second out : List ℕ) (old mid new : Seen) (a : KeptSet) → HasStore old.files first a → mid.files ≡ old.files → old.faults ≤ mid.faults → new.files ≡ mid.files → (s : StoreStop) → IsStop mid new second s
-    → IsCause first second out old new (store_end which.Second s)
-second_unread first second out old mid new a has before later same unread.NoMemory is = inl (same ∙ before)
+    → Merges first second out old new (store_end which.Second s)
+second_unread first second out old mid new a has before later same unread.NoMemory is = same ∙ before
 second_unread first second out old mid new a has before later same unread.Failed is = (inr (inl ((a, has), later_fault _ old mid new later is)), inl (same ∙ before))
 second_unread first second out old mid new a has before later same (unread.At at kind) is = ((a, has), subst (λ (files : Option Files). HasBadStore files second (At at kind)) before is, same ∙ before)
 
@@ -69,17 +69,17 @@ joins_of first second old left a b has before there fits = record { stores = sto
 
 -- they cannot be joined
 pub not_joined : (first second out : List ℕ) (old new : Seen) (s : HasStores first second old) (fault : Absorb) → new.files ≡ old.files → (fault ≢ absorb.NoMemory → absorb_fault s.a s.b ≡ Some fault)
-    → IsCause first second out old new (absorb_end fault)
+    → Merges first second out old new (absorb_end fault)
 not_joined first second out old new s absorb.OtherSession same is = (s, is (λ e. cc), same)
 not_joined first second out old new s (absorb.Clash group number) same is = (s, is (λ e. cc), same)
 not_joined first second out old new s (absorb.Full group) same is = (s, is (λ e. cc), same)
-not_joined first second out old new s absorb.NoMemory same is = inl same
+not_joined first second out old new s absorb.NoMemory same is = same
 
 -- OUT was not written
 module _ (first second out : List ℕ) (old mid new : Seen) (c : CanJoin first second old) (set : KeptSet) (is : set ≡ union c.stores.a c.stores.b) (before : mid.files ≡ old.files) where
   pub not_written : (s : Stop) → old.faults ≤ mid.faults → (s ≡ stop.NoMemory → new.files ≡ mid.files) → (new.files ≡ mid.files) ⊎ Wrote [] (Some (store_file out set)) mid new
-      → Licensed (Failed (writing out ∷ []) mid new) s → IsCause first second out old new (stop_end s)
-  not_written stop.NoMemory later memory front cause = inl (memory refl ∙ before)
+      → Licensed (Failed (writing out ∷ []) mid new) s → Merges first second out old new (stop_end s)
+  not_written stop.NoMemory later memory front cause = memory refl ∙ before
   not_written stop.Failed later memory (inl same) cause = (inr (inr (c, later_fault _ old mid new later cause)), inl (same ∙ before))
   not_written stop.Failed later memory (inr front) cause = (
     inr (inr (c, later_fault _ old mid new later cause)),

@@ -1,4 +1,5 @@
 -- The end of the command by what a step of it answered. This project's own.
+use Rattle.std.specs.Prelude.{Bool, true, false}
 use Rattle.pet_base.specs.declared.faults.Stop.{Stop}
 use Rattle.pet_base.specs.declared.faults.Stop.TheVariants as stop
 use Rattle.kept_sets.specs.declared.union.Absorb.{Absorb}
@@ -8,7 +9,7 @@ use Rattle.store_read.specs.declared.files.StoreStop.TheVariants as unread
 use Rattle.command_merge.specs.declared.files.Which.{Which}
 use Rattle.command_merge.specs.declared.files.Which.TheVariants.{First, Second}
 use Rattle.command_merge.specs.declared.command.MergeEnd.{MergeEnd}
-use Rattle.command_merge.specs.declared.command.MergeEnd.TheVariants.{NoMemory, PlaceFault, BadFirst, BadSecond, OtherSession, Clash, Full}
+use Rattle.command_merge.specs.declared.command.MergeEnd.TheVariants.{Done, NoMemory, PlaceFault, BadFirst, BadSecond, OtherSession, Clash, Full}
 
 -- of two stores that cannot be joined
 abbrev pub absorb_end : Absorb → MergeEnd
@@ -30,3 +31,14 @@ store_end First unread.NoMemory = NoMemory
 store_end First unread.Failed = PlaceFault
 store_end Second unread.NoMemory = NoMemory
 store_end Second unread.Failed = PlaceFault
+
+-- which ends tell of a failure of the place
+abbrev pub has_failed : MergeEnd → Bool
+has_failed (Done packets) = false
+has_failed NoMemory = false
+has_failed PlaceFault = true
+has_failed (BadFirst at kind) = false
+has_failed (BadSecond at kind) = false
+has_failed OtherSession = false
+has_failed (Clash group number) = false
+has_failed (Full group) = false

@@ -1,5 +1,4 @@
 pub mod Merges
 pub mod MergesSession
 pub mod Ends
-pub mod Line
 pub mod laws

@@ -1,8 +1,6 @@
 -- What `merge` leaves at each of its ends. This project's own.
-use Rattle.std.specs.Prelude.{◌≡◌, ◌⊎◌, ℕ, ◌≤◌, List, [], ◌∷◌, None, Some}
-use Rattle.pet_base.specs.OutsideSeen.{OutsideSeen}
+use Rattle.std.specs.Prelude.{◌≡◌, ◌⊎◌, ℕ, List, [], ◌∷◌, None, Some}
 use Rattle.pet_base.specs.Seen.{Seen}
-use Rattle.command_files.specs.Printed.{Printed, Unprinted, PrintedFront}
 use Rattle.command_files.specs.Uses.{reading, writing, Failed}
 use Rattle.command_files.specs.Wrote.{Wrote}
 use Rattle.kept_sets.specs.KeptSet.{KeptSet, kept_in_all}
@@ -10,9 +8,8 @@ use Rattle.kept_sets.specs.Union.{union, absorb_fault}
 use Rattle.kept_sets.specs.declared.union.Absorb.TheVariants as absorb
 use Rattle.store_text.specs.Files.{HasStore, HasBadStore, store_file}
 use Rattle.store_text.specs.declared.fault.BadStore.TheVariants.{At}
-use Rattle.pet_text.specs.Lines.{merged_text}
 use Rattle.command_merge.specs.declared.command.MergeEnd.{MergeEnd}
-use Rattle.command_merge.specs.declared.command.MergeEnd.TheVariants.{Done, NoMemory, PlaceFault, OutFault, BadFirst, BadSecond, OtherSession, Clash, Full}
+use Rattle.command_merge.specs.declared.command.MergeEnd.TheVariants.{Done, NoMemory, PlaceFault, BadFirst, BadSecond, OtherSession, Clash, Full}
 
 -- the first file is a store
 abbrev pub HasFirst : List ℕ → Seen → Type 0
@@ -48,44 +45,15 @@ abbrev pub FailedInTurn : List ℕ → List ℕ → List ℕ → Seen → Seen �
 FailedInTurn first second out old new =
     Failed (reading first ∷ []) old new ⊎ (HasFirst first old × Failed (reading second ∷ []) old new) ⊎ (CanJoin first second old × Failed (writing out ∷ []) old new)
 
--- Why `merge` ends so before it prints, and what it leaves of OUT. The files are judged in order: the first store, the second, and both
--- together. OUT is made once its bytes are there, so memory may then be wanting for the printed line alone.
-abbrev pub IsCause : List ℕ → List ℕ → List ℕ → Seen → Seen → MergeEnd → Type 0
-IsCause first second out old new Done = ⊥
-IsCause first second out old new OutFault = ⊥
-IsCause first second out old new NoMemory = (new.files ≡ old.files) ⊎ WritesUnion first second out old new
-IsCause first second out old new PlaceFault = FailedInTurn first second out old new × LeavesFront first second out old new
-IsCause first second out old new (BadFirst at kind) = HasBadStore old.files first (At at kind) × (new.files ≡ old.files)
-IsCause first second out old new (BadSecond at kind) = HasFirst first old × HasBadStore old.files second (At at kind) × (new.files ≡ old.files)
-IsCause first second out old new OtherSession = (s : HasStores first second old) × (absorb_fault s.a s.b ≡ Some absorb.OtherSession) × (new.files ≡ old.files)
-IsCause first second out old new (Clash group number) =
+-- What `merge` does, by its end. The files are judged in order: the first store, the second, and both together. OUT is made once its
+-- bytes are there, so want of memory changes no file.
+abbrev pub Merges : List ℕ → List ℕ → List ℕ → Seen → Seen → MergeEnd → Type 0
+Merges first second out old new (Done packets) = (w : WritesUnion first second out old new) × (packets ≡ kept_in_all (union_of w.joins))
+Merges first second out old new NoMemory = new.files ≡ old.files
+Merges first second out old new PlaceFault = FailedInTurn first second out old new × LeavesFront first second out old new
+Merges first second out old new (BadFirst at kind) = HasBadStore old.files first (At at kind) × (new.files ≡ old.files)
+Merges first second out old new (BadSecond at kind) = HasFirst first old × HasBadStore old.files second (At at kind) × (new.files ≡ old.files)
+Merges first second out old new OtherSession = (s : HasStores first second old) × (absorb_fault s.a s.b ≡ Some absorb.OtherSession) × (new.files ≡ old.files)
+Merges first second out old new (Clash group number) =
     (s : HasStores first second old) × (absorb_fault s.a s.b ≡ Some (absorb.Clash group number)) × (new.files ≡ old.files)
-IsCause first second out old new (Full group) = (s : HasStores first second old) × (absorb_fault s.a s.b ≡ Some (absorb.Full group)) × (new.files ≡ old.files)
-
--- the line of the union
-abbrev pub union_line : KeptSet → List ℕ
-union_line set = merged_text (kept_in_all set)
-
--- OUT has the store of the union, and its line was printed, or a front of it where the output failed. At every other end its cause
--- holds of the files, and nothing was printed.
-abbrev pub EndsMerge : List ℕ → List ℕ → List ℕ → OutsideSeen → OutsideSeen → MergeEnd → Type 0
-EndsMerge first second out before after Done =
-    (w : WritesUnion first second out before.place after.place) × Printed (union_line (union_of w.joins)) before after
-EndsMerge first second out before after OutFault =
-    (w : WritesUnion first second out before.place after.place) × PrintedFront (union_line (union_of w.joins)) before after
-EndsMerge first second out before after NoMemory = IsCause first second out before.place after.place NoMemory × Unprinted before after
-EndsMerge first second out before after PlaceFault = IsCause first second out before.place after.place PlaceFault × Unprinted before after
-EndsMerge first second out before after (BadFirst at kind) =
-    IsCause first second out before.place after.place (BadFirst at kind) × Unprinted before after
-EndsMerge first second out before after (BadSecond at kind) =
-    IsCause first second out before.place after.place (BadSecond at kind) × Unprinted before after
-EndsMerge first second out before after OtherSession = IsCause first second out before.place after.place OtherSession × Unprinted before after
-EndsMerge first second out before after (Clash group number) =
-    IsCause first second out before.place after.place (Clash group number) × Unprinted before after
-EndsMerge first second out before after (Full group) = IsCause first second out before.place after.place (Full group) × Unprinted before after
-
--- what `merge` does: it sends nothing, and the faults of the output do not fall
-pub record Merges (first second out : List ℕ) (before after : OutsideSeen) (end : MergeEnd) : Type 0 where
-  pub link : after.link ≡ before.link
-  pub later : before.out_faults ≤ after.out_faults
-  pub ends : EndsMerge first second out before after end
+Merges first second out old new (Full group) = (s : HasStores first second old) × (absorb_fault s.a s.b ≡ Some (absorb.Full group)) × (new.files ≡ old.files)

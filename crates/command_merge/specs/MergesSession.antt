@@ -1,15 +1,12 @@
 -- `merge` of two stores of one session. This project's own.
 use Rattle.std.specs.Prelude.{◌≡◌, ◌≢◌, ℕ, List, [], ◌∷◌, ◌++◌, length, Some}
 use Rattle.pet_base.specs.declared.limits.TheConstants.{MAX_SESSION}
-use Rattle.pet_base.specs.OutsideSeen.{OutsideSeen}
 use Rattle.pet_base.specs.Seen.{Seen, Files, with_file}
-use Rattle.command_files.specs.Printed.{Printed}
-use Rattle.command_files.specs.Uses.{reading, writing, IsWell}
+use Rattle.command_files.specs.Uses.{reading, writing, Failed}
 use Rattle.pet_encode.specs.Session.{Session, IsSession, Fits}
 use Rattle.met_packets.specs.Gf16.{met_frames}
 use Rattle.met_packets.specs.Met.{Pair}
 use Rattle.met_packets.specs.MetStore.{pairs_store}
-use Rattle.pet_text.specs.Lines.{merged_text}
 use Rattle.command_merge.specs.declared.command.MergeEnd.{MergeEnd}
 use Rattle.command_merge.specs.declared.command.MergeEnd.TheVariants.{Done, NoMemory}
 
@@ -21,23 +18,18 @@ pub record HasStoresOf (s : Session) (first second : List ℕ) (files : Files) (
   pub first_is : files first ≡ Some (pairs_store s a)
   pub second_is : files second ≡ Some (pairs_store s b)
 
--- memory was found, and neither the place nor the output had a fault of this call
-pub record CanMerge (s : Session) (first second out : List ℕ) (files : Files) (a b : List Pair) (before after : OutsideSeen) (end : MergeEnd) : Type 0 where
+-- memory was found, and the place had no fault of this call
+pub record CanMerge (s : Session) (first second out : List ℕ) (files : Files) (a b : List Pair) (old new : Seen) (end : MergeEnd) : Type 0 where
   pub memory : end ≢ NoMemory
-  pub well : IsWell (reading first ∷ reading second ∷ writing out ∷ []) before after
-  pub given : HasStoresOf s first second files a b before.place
-
--- the line of how many packets of the session these pairs are
-abbrev pub session_line : Session → List Pair → List ℕ
-session_line s pairs = merged_text (length (met_frames s pairs))
+  pub well : Failed (reading first ∷ reading second ∷ writing out ∷ []) old new → ⊥
+  pub given : HasStoresOf s first second files a b old
 
 -- OUT has the store of the packets that the one or the other has, and no other file has changed.
-pub record MergesSession (s : Session) (out : List ℕ) (files : Files) (pairs : List Pair) (before after : OutsideSeen) (end : MergeEnd) : Type 0 where
-  pub file : after.place.files ≡ Some (with_file out (pairs_store s pairs) files)
-  pub ended : end ≡ Done
-  pub printed : Printed (session_line s pairs) before after
+pub record MergesSession (s : Session) (out : List ℕ) (files : Files) (pairs : List Pair) (new : Seen) (end : MergeEnd) : Type 0 where
+  pub file : new.files ≡ Some (with_file out (pairs_store s pairs) files)
+  pub ended : end ≡ Done (length (met_frames s pairs))
 
 -- so it is for every session and every two such stores
-abbrev pub CompletesMerge : List ℕ → List ℕ → List ℕ → OutsideSeen → OutsideSeen → MergeEnd → Type 0
-CompletesMerge first second out before after end =
-    (s : Session) (files : Files) (a b : List Pair) → CanMerge s first second out files a b before after end → MergesSession s out files (a ++ b) before after end
+abbrev pub CompletesMerge : List ℕ → List ℕ → List ℕ → Seen → Seen → MergeEnd → Type 0
+CompletesMerge first second out old new end =
+    (s : Session) (files : Files) (a b : List Pair) → CanMerge s first second out files a b old new end → MergesSession s out files (a ++ b) new end

@@ -1,2 +1,1 @@
-pub mod MergeLineLaws
 pub mod SessionMerged

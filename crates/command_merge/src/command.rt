@@ -1,14 +1,12 @@
 //! The command `merge`, and how it ends.
-ghost use Rattle.std.specs.Prelude.{◌≡◌, ◌≤◌, IfOk};
-ghost use Rattle.pet_base.specs.Lent.{seen, AreSame};
-ghost use Rattle.pet_text.specs.Lines.{merged_text};
+ghost use Rattle.std.specs.Prelude.{◌≡◌};
+ghost use Rattle.pet_base.specs.Seen.{Seen, PlaceStops};
+ghost use Rattle.command_merge.specs.Ends.{has_failed};
 ghost use Rattle.command_merge.specs.Merges.{Merges};
-ghost use Rattle.command_merge.specs.Line.{EndsWith};
 ghost use Rattle.command_merge.specs.MergesSession.{CompletesMerge};
 
 use crate::files::merge_files;
-use pet_base::{Link, NoMemory, Outside, Place, Sink};
-use pet_text::merged_line;
+use pet_base::{Place, Steps};
 use std::alloc::Global;
 use std::sync::ledger::Ledger;
 use store_text::StoreKind;
@@ -16,14 +14,12 @@ use store_text::StoreKind;
 /// How `merge` ended.
 #[derive(Clone, Copy, Debug, PartialEq, Eq)]
 pub enum MergeEnd {
-    /// OUT has the store of the union, and its line was printed.
-    Done,
+    /// OUT has the store of the union, which has so many packets.
+    Done(u32),
     /// No memory was found.
     NoMemory,
     /// A file could not be read or written.
     PlaceFault,
-    /// OUT has the store of the union, but its line could not be printed.
-    OutFault,
     /// The first store is refused, at this place.
     BadFirst(u64, StoreKind),
     /// The second store is refused, at this place.
@@ -37,46 +33,23 @@ pub enum MergeEnd {
 }
 
 /// Reads and judges the store FIRST, then the store SECOND, and writes the store of all packets that the one or the other has to
-/// OUT; then prints how many these are. OUT is made once the stores are joined.
-pub fn merge<P: Place, K: Link, S: Sink, L: Ledger>(
+/// OUT. OUT is made once the stores are joined. The first failure of a file ends it.
+pub fn merge<P: Place, L: Ledger>(
     alloc: Global,
     first: &str,
     second: &str,
     out: &str,
-    outside: &mut Outside<P, K, S, L>,
+    place: &mut P,
+    steps: &mut Steps<L>,
 ) -> MergeEnd
-    ensures merges { Merges first.now second.now out.now (seen outside.old) (seen outside.new)
+    ensures merges { Merges first.now second.now out.now (P.seen place.old) (P.seen place.new)
         result }
-    ensures completes { CompletesMerge first.now second.now out.now (seen outside.old)
-        (seen outside.new) result }
-    ensures same { AreSame outside.old outside.new }
+    ensures completes { CompletesMerge first.now second.now out.now (P.seen place.old)
+        (P.seen place.new) result }
+    ensures once { PlaceStops (has_failed result) (P.seen place.old) (P.seen place.new) }
 {
-    match merge_files(alloc, first, second, out, outside.place, outside.steps) {
-        Ok(datagrams) => print_count(alloc, datagrams, outside.out),
+    match merge_files(alloc, first, second, out, place, steps) {
+        Ok(packets) => MergeEnd::Done(packets),
         Err(end) => end,
     }
-}
-
-/// Prints the line of the union, and says how the command ends.
-fn print_count<S: Sink>(alloc: Global, datagrams: u32, out: &mut S) -> MergeEnd
-    ensures ends { EndsWith datagrams (S.written out.old) (S.written out.new) (S.faults out.old)
-        (S.faults out.new) result }
-    ensures later { S.faults out.old ≤ S.faults out.new }
-{
-    let Ok(line) = count_line(alloc, datagrams) else {
-        return MergeEnd::NoMemory;
-    };
-    match out.put(line.as_slice()) {
-        Ok(()) => MergeEnd::Done,
-        Err(_) => MergeEnd::OutFault,
-    }
-}
-
-/// The line of so many packets.
-fn count_line(alloc: Global, datagrams: u32) -> Result<Vec<u8>, NoMemory>
-    ensures { IfOk result (λ line. line.items ≡ merged_text datagrams) }
-{
-    let mut line = Vec::new(alloc);
-    merged_line(alloc, datagrams, &mut line)?;
-    Ok(line)
 }

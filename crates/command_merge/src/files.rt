@@ -1,9 +1,10 @@
 //! Reading two stores, joining them, and writing their union.
 ghost use Rattle.std.specs.Prelude.{◌≡◌, IfOk, IfErr};
-ghost use Rattle.pet_base.specs.Seen.{Seen};
+ghost use Rattle.pet_base.specs.Causes.{stops};
+ghost use Rattle.pet_base.specs.Seen.{Seen, PlaceStops};
 ghost use Rattle.kept_sets.specs.KeptSet.{kept_in_all};
-ghost use Rattle.command_merge.specs.Ends.{store_end};
-ghost use Rattle.command_merge.specs.Merges.{IsCause, WritesUnion, union_of};
+ghost use Rattle.command_merge.specs.Ends.{store_end, has_failed};
+ghost use Rattle.command_merge.specs.Merges.{Merges, WritesUnion, union_of};
 
 use crate::command::MergeEnd;
 use kept_sets::Absorb;
@@ -63,8 +64,9 @@ pub(crate) fn merge_files<P: Place, L: Ledger>(
 ) -> Result<u32, MergeEnd>
     ensures done { IfOk result (λ n. (w : WritesUnion first.now second.now out.now
         (P.seen place.old) (P.seen place.new)) × (n ≡ kept_in_all (union_of w.joins))) }
-    ensures cause { IfErr result (IsCause first.now second.now out.now (P.seen place.old)
+    ensures cause { IfErr result (Merges first.now second.now out.now (P.seen place.old)
         (P.seen place.new)) }
+    ensures once { PlaceStops (stops has_failed result) (P.seen place.old) (P.seen place.new) }
 {
     let field = Gf16Tables::new(alloc)?;
     let read = read_store_file(alloc, &field, first, place, steps);

@@ -1,5 +1,4 @@
 pub mod PlanTexts
-pub mod PutTexts
 pub mod PlanEnds
 pub mod Starts
 pub mod GroupCertificates

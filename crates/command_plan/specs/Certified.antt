@@ -7,7 +7,6 @@ use Rattle.stripe_plan.specs.Sizes.{Sizes}
 use Rattle.command_files.specs.Inputs.{IsFile}
 use Rattle.plan_text.specs.declared.plan_file.Repeat.{Repeat}
 use Rattle.plan_text.specs.PlanFile.{lists_of}
-use Rattle.plan_text.specs.PlanLines.{least_text}
 use Rattle.command_plan.specs.Least.{IsLeast}
 use Rattle.stream_session.specs.Sessions.{HasSession, tables_in}
 
@@ -53,8 +52,3 @@ pub record IsCertified (old : Seen) (stream priority plan : List ℕ) : Type 0 w
   pub lists : List (List Repeat)
   pub listed : Lists old stream priority plan lists
   pub least : AreLeast (tables_of_files listed.files) lists
-
--- the line that is then printed
-abbrev pub certified_text : {old : Seen} {stream priority plan : List ℕ}
-    → IsCertified old stream priority plan → List ℕ
-certified_text c = least_text (length (tables_of_files c.listed.files))

@@ -1,37 +1,34 @@
 //! The command `check`.
-ghost use Rattle.std.specs.Prelude.{◌≡◌, ◌≤◌, ℕ, map, length, Ok, IfOk, IfErr};
+ghost use Rattle.std.specs.Prelude.{◌≡◌, ◌≤◌, ℕ, map, length, false, Ok, IfOk, IfErr};
 ghost use Rattle.pet_base.specs.declared.limits.TheConstants.{MAX_GROUPS, MAX_PLAN_FILE};
-ghost use Rattle.pet_base.specs.Lent.{seen, AreSame};
-ghost use Rattle.pet_base.specs.Seen.{Seen};
+ghost use Rattle.pet_base.specs.Causes.{stops};
+ghost use Rattle.pet_base.specs.Seen.{Seen, PlaceStops};
 ghost use Rattle.plan_text.specs.PlanFile.{lists_of};
-ghost use Rattle.plan_text.specs.PlanLines.{least_text};
-ghost use Rattle.command_plan.specs.Certified.{IsCertified, AreLeast, tables_of_files, certified_text};
+ghost use Rattle.command_plan.specs.Certified.{IsCertified, AreLeast, tables_of_files};
 ghost use Rattle.command_plan.specs.Checked.{ChecksSession};
 ghost use Rattle.command_plan.specs.Checking.{HasLists, HasNoLists, HasNoListsIn, AreNotLeast};
-ghost use Rattle.command_plan.specs.Checks.{Checks, IsCause};
+ghost use Rattle.command_plan.specs.Checks.{Checks};
+ghost use Rattle.command_plan.specs.Ends.{check_failed};
 
 use crate::least::is_least;
 use command_files::read_file;
 use mpeg_scan::Scan;
-use pet_base::{Failed, Link, MAX_PLAN_FILE, NoMemory, Outside, Place, Sink, Stop};
-use plan_text::{PlanFault, Repeat, least_line, read_plan};
+use pet_base::{MAX_PLAN_FILE, NoMemory, Place, Stop};
+use plan_text::{PlanFault, Repeat, read_plan};
 use priority_file::PriorityFault;
 use std::alloc::Global;
-use std::sync::ledger::Ledger;
 use stream_session::{SessionFault, SourceFault, read_source};
 use stripe_plan::Table;
 
 /// How `check` ended.
 #[derive(Clone, Copy, Debug, PartialEq, Eq)]
 pub enum CheckEnd {
-    /// The lists are certificates, and for how many groups was printed.
-    Done,
+    /// The lists are certificates, for so many groups.
+    Done(u32),
     /// No memory was found.
     NoMemory,
     /// A file could not be read.
     PlaceFault,
-    /// The line could not be printed.
-    OutFault,
     /// The priority file is refused.
     BadPriority(PriorityFault),
     /// The stream is refused.
@@ -75,56 +72,26 @@ impl From<SourceFault> for CheckEnd {
 }
 
 /// Tells whether the stripe lengths that PLAN lists are a certificate for each group of the session
-/// that STREAM and PRIORITY are, and prints for how many. The files are read and judged one by one:
-/// PRIORITY, STREAM, PLAN.
-pub fn check<P: Place, K: Link, S: Sink, L: Ledger>(
-    alloc: Global,
-    stream: &str,
-    priority: &str,
-    plan: &str,
-    outside: &mut Outside<P, K, S, L>,
-) -> CheckEnd
-    ensures checks { Checks stream.now priority.now plan.now
-        (seen outside.old) (seen outside.new) result }
-    ensures completes { ChecksSession stream.now priority.now plan.now
-        (seen outside.old) (seen outside.new) result }
-    ensures same { AreSame outside.old outside.new }
-{
-    match certified_line(alloc, stream, priority, plan, outside.place) {
-        Ok(line) => match outside.out.put(line.as_slice()) {
-            Ok(()) => CheckEnd::Done,
-            Err(Failed) => CheckEnd::OutFault,
-        },
-        Err(end) => end,
-    }
-}
-
-/// The line that is printed where the lists are certificates; else the end that it comes to.
-fn certified_line<P: Place>(
+/// that STREAM and PRIORITY are. The files are read and judged one by one: PRIORITY, STREAM, PLAN. The first failure of a file
+/// ends it.
+pub fn check<P: Place>(
     alloc: Global,
     stream: &str,
     priority: &str,
     plan: &str,
     place: &mut P,
-) -> Result<Vec<u8>, CheckEnd>
-    ensures line { IfOk result (λ line.
-        (c : IsCertified (P.seen place.old) stream.now priority.now plan.now)
-        × (line.items ≡ certified_text c)) }
-    ensures cause { IfErr result
-        (IsCause (P.seen place.old) (P.seen place.new) stream.now priority.now plan.now) }
+) -> CheckEnd
+    ensures checks { Checks (P.seen place.old) (P.seen place.new) stream.now priority.now plan.now
+        result }
     ensures files { (P.seen place.new).files ≡ (P.seen place.old).files }
+    ensures completes { ChecksSession stream.now priority.now plan.now (P.seen place.old)
+        (P.seen place.new) result }
+    ensures once { PlaceStops (check_failed result) (P.seen place.old) (P.seen place.new) }
 {
-    let groups = certified_groups(alloc, stream, priority, plan, place)?;
-    Ok(line_of(alloc, groups)?)
-}
-
-/// The line for so many groups.
-fn line_of(alloc: Global, groups: u32) -> Result<Vec<u8>, NoMemory>
-    ensures { IfOk result (λ line. line.items ≡ least_text groups) }
-{
-    let mut line = Vec::new(alloc);
-    least_line(alloc, groups, &mut line)?;
-    Ok(line)
+    match certified_groups(alloc, stream, priority, plan, place) {
+        Ok(groups) => CheckEnd::Done(groups),
+        Err(end) => end,
+    }
 }
 
 /// The number of groups, where the lists are certificates.
@@ -139,8 +106,9 @@ fn certified_groups<P: Place>(
         (c : IsCertified (P.seen place.old) stream.now priority.now plan.now)
         × (n ≡ length (tables_of_files c.listed.files))) }
     ensures cause { IfErr result
-        (IsCause (P.seen place.old) (P.seen place.new) stream.now priority.now plan.now) }
+        (Checks (P.seen place.old) (P.seen place.new) stream.now priority.now plan.now) }
     ensures files { (P.seen place.new).files ≡ (P.seen place.old).files }
+    ensures once { PlaceStops (stops check_failed result) (P.seen place.old) (P.seen place.new) }
 {
     let source = read_source(alloc, stream, priority, place)?;
     let tables = source.tables.as_slice();
@@ -159,6 +127,7 @@ fn read_lists<P: Place>(
     ensures cause { IfErr result (HasNoLists (P.seen place.old) (P.seen place.new) plan.now) }
     ensures files { (P.seen place.new).files ≡ (P.seen place.old).files }
     ensures later { (P.seen place.old).faults ≤ (P.seen place.new).faults }
+    ensures once { PlaceStops (stops check_failed result) (P.seen place.old) (P.seen place.new) }
 {
     match read_file(alloc, plan, MAX_PLAN_FILE, place) {
         Ok(bytes) => lists_in(alloc, bytes.as_slice()),
@@ -172,6 +141,7 @@ fn lists_in(alloc: Global, bytes: &[u8]) -> Result<Vec<Vec<Repeat>>, CheckEnd>
     ensures lists { IfOk result (λ lists. (length bytes.now ≤ MAX_PLAN_FILE)
         × (lists_of bytes.now ≡ Ok (map (λ list. list.items) lists.items))) }
     ensures cause { IfErr result (HasNoListsIn bytes.now) }
+    ensures calm { stops check_failed result ≡ false }
 {
     if bytes.len() as u64 > MAX_PLAN_FILE {
         return Err(CheckEnd::PlanLong);
@@ -189,6 +159,7 @@ fn certify(alloc: Global, tables: &[Table], lists: &[Vec<Repeat>]) -> Result<u32
     ensures least { IfOk result (λ n. (n ≡ length tables.now)
         × AreLeast tables.now (map (λ list. list.items) lists.now)) }
     ensures cause { IfErr result (AreNotLeast tables.now (map (λ list. list.items) lists.now)) }
+    ensures calm { stops check_failed result ≡ false }
 {
     if lists.len() != tables.len() {
         return Err(CheckEnd::Lines(lists.len() as u64));

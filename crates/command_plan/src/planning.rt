@@ -1,34 +1,32 @@
 //! The command `plan`.
 ghost use Rattle.std.specs.Prelude.{◌≡◌, ◌≤◌, ℕ, List, All, length, IfOk, IfErr};
 ghost use Rattle.pet_base.specs.declared.limits.TheConstants.{MAX_GROUPS};
-ghost use Rattle.pet_base.specs.Lent.{seen, AreSame};
-ghost use Rattle.pet_base.specs.Seen.{Seen};
-ghost use Rattle.stream_session.specs.Sources.{IsSourceFault};
+ghost use Rattle.pet_base.specs.Causes.{stops};
+ghost use Rattle.pet_base.specs.Seen.{Seen, PlaceStops};
+ghost use Rattle.stream_session.specs.Sources.{IsSourceFault, has_failed};
 ghost use Rattle.plan_text.specs.PlanText.{plan_text};
 ghost use Rattle.stream_session.specs.Sessions.{HasSession};
+ghost use Rattle.command_plan.specs.Ends.{plan_failed};
 ghost use Rattle.command_plan.specs.SessionPlan.{session_plan};
 ghost use Rattle.command_plan.specs.Planned.{PlansSession};
 ghost use Rattle.command_plan.specs.Plans.{Plans};
 
 use mpeg_scan::Scan;
-use pet_base::{Failed, Link, NoMemory, Outside, Place, Sink};
+use pet_base::{NoMemory, Place};
 use plan_text::plan_text;
 use priority_file::PriorityFault;
 use std::alloc::Global;
-use std::sync::ledger::Ledger;
 use stream_session::{SessionFault, Source, SourceFault, read_source};
 
 /// How `plan` ended.
-#[derive(Clone, Copy, Debug, PartialEq, Eq)]
+#[derive(Debug, PartialEq, Eq, Drop)]
 pub enum PlanEnd {
-    /// The plan text was printed.
-    Done,
+    /// The plan text.
+    Done(Vec<u8>),
     /// No memory was found.
     NoMemory,
     /// A file could not be read.
     PlaceFault,
-    /// The text could not be printed.
-    OutFault,
     /// The priority file is refused.
     BadPriority(PriorityFault),
     /// The stream is refused.
@@ -53,23 +51,16 @@ impl From<SourceFault> for PlanEnd {
     }
 }
 
-/// Prints the plan text of the session that STREAM and PRIORITY are, once both are read and judged.
-pub fn plan<P: Place, K: Link, S: Sink, L: Ledger>(
-    alloc: Global,
-    stream: &str,
-    priority: &str,
-    outside: &mut Outside<P, K, S, L>,
-) -> PlanEnd
-    ensures plans { Plans stream.now priority.now (seen outside.old) (seen outside.new) result }
-    ensures completes { PlansSession stream.now priority.now
-        (seen outside.old) (seen outside.new) result }
-    ensures same { AreSame outside.old outside.new }
+/// Makes the plan text of the session that STREAM and PRIORITY are, once both are read and judged. The first failure of a file ends
+/// it.
+pub fn plan<P: Place>(alloc: Global, stream: &str, priority: &str, place: &mut P) -> PlanEnd
+    ensures plans { Plans stream.now priority.now (P.seen place.old) (P.seen place.new) result }
+    ensures completes { PlansSession stream.now priority.now (P.seen place.old) (P.seen place.new)
+        result }
+    ensures once { PlaceStops (plan_failed result) (P.seen place.old) (P.seen place.new) }
 {
-    match text_of_files(alloc, stream, priority, outside.place) {
-        Ok(text) => match outside.out.put(text.as_slice()) {
-            Ok(()) => PlanEnd::Done,
-            Err(Failed) => PlanEnd::OutFault,
-        },
+    match text_of_files(alloc, stream, priority, place) {
+        Ok(text) => PlanEnd::Done(text),
         Err(fault) => PlanEnd::from(fault),
     }
 }
@@ -86,6 +77,7 @@ fn text_of_files<P: Place>(
     ensures cause { IfErr result
         (IsSourceFault (P.seen place.old) (P.seen place.new) stream.now priority.now) }
     ensures files { (P.seen place.new).files ≡ (P.seen place.old).files }
+    ensures once { PlaceStops (stops has_failed result) (P.seen place.old) (P.seen place.new) }
 {
     let source = read_source(alloc, stream, priority, place)?;
     match text_of(alloc, &source) {

@@ -107,20 +107,21 @@ first_of_told read None is = tt
 first_of_told read (Some bytes) is = is
 
 -- what came since, and at most one datagram more
-came_first : (from : Way) (read : List (List ℕ)) (last : List (List ℕ)) (first before : Seen) (link_first link_before link_now : LinkSeen) → length last ≤ 1 → HaveCome read (coming from first link_first) (coming from before link_before)
+came_first : (from : Way) (read : List (List ℕ)) (last : List (List ℕ)) (first before : Seen) (link_first link_before link_now : LinkSeen) → length last ≤ 1 → length read + length last ≤ MAX_DATAGRAMS → HaveCome read (coming from first link_first) (coming from before link_before)
     → ((address : List ℕ) → from ≡ OnLink address → HaveCome last link_before.feed link_now.feed) → CameFirst from read first link_first link_now
-came_first (OnFile name) read last first before link_first link_before link_now few come more =
+came_first (OnFile name) read last first before link_first link_before link_now few all come more =
     first_of_told read first.rest (come_front read (option_map datagrams first.rest) (option_map datagrams before.rest) come)
-came_first (OnLink address) read last first before link_first link_before link_now few come more = (last, few, come_both read last link_first.feed link_before.feed link_now.feed come (more address refl))
+came_first (OnLink address) read last first before link_first link_before link_now few all come more = (last, few, all, come_both read last link_first.feed link_before.feed link_now.feed come (more address refl))
 
 -- a call failed before anything was put
 pub part_so_far : (from : Way) (set : KeptSet) (n : ℕ) (last : List (List ℕ)) (first before now : Seen) (link_first link_before link_now : LinkSeen) (r : ReceiverState ℕ) (a b : ℕ) → SoFar set n first before (coming from first link_first) (coming from before link_before) r a b
-    → length last ≤ 1 → ((address : List ℕ) → from ≡ OnLink address → HaveCome last link_before.feed link_now.feed) → now.files ≡ before.files → PartSoFar from set first now link_first link_now
-part_so_far from set n last first before now link_first link_before link_now r a b s few more same = record {
+    → n < MAX_DATAGRAMS → length last ≤ 1 → ((address : List ℕ) → from ≡ OnLink address → HaveCome last link_before.feed link_now.feed) → now.files ≡ before.files → PartSoFar from set first now link_first link_now
+part_so_far from set n last first before now link_first link_before link_now r a b s room few more same = record {
   read = s.read;
   text = s.text;
   front = s.text;
-  from_front = came_first from s.read last first before link_first link_before link_now few s.rest more;
+  few = omega (arith, s.many, room);
+  from_front = came_first from s.read last first before link_first link_before link_now few (omega (arith, s.many, room, few)) s.rest more;
   is_text = s.is_text;
   is_front = ([], sym (append-nil s.text));
   puts = subst (λ (f : Option Files). Grows first.target s.text first.files f) (sym same) s.puts;
@@ -131,14 +132,15 @@ kept_feed from address old new is keeps = subst (λ (w : Way). KeepsFeed w old n
 
 -- nothing could be received
 pub stopped_so_far : (failed : RouteFailed) (from : Way) (set : KeptSet) (n : ℕ) (first before now : Seen) (link_first link_before link_now : LinkSeen) (r : ReceiverState ℕ) (a b : ℕ) → SoFar set n first before (coming from first link_first) (coming from before link_before) r a b
-    → KeepsFeed from link_before link_now → now.files ≡ before.files → IsFailure (InputFailed from before now) (ReceivingFailed from link_before link_now) failed → StoppedSoFar from set first now link_first link_now (stop_of_route failed)
-stopped_so_far failed.Place from set n first before now link_first link_before link_now r a b s keeps same cause =
-    part_so_far from set n [] first before now link_first link_before link_now r a b s (omega arith)
+    → n < MAX_DATAGRAMS → KeepsFeed from link_before link_now → now.files ≡ before.files → IsFailure (InputFailed from before now) (ReceivingFailed from link_before link_now) failed → StoppedSoFar from set first now link_first link_now (stop_of_route failed)
+stopped_so_far failed.Place from set n first before now link_first link_before link_now r a b s room keeps same cause =
+    part_so_far from set n [] first before now link_first link_before link_now r a b s room (omega arith)
     (λ address is. subst (λ (o : Option (List (List ℕ))). HaveCome [] link_before.feed o) (sym (kept_feed from address link_before link_now is keeps)) (come_nothing link_before.feed)) same
-stopped_so_far failed.Link (OnFile name) set n first before now link_first link_before link_now r a b s keeps same cause = absurd cause
-stopped_so_far failed.Link (OnLink address) set n first before now link_first link_before link_now r a b s keeps same cause = record {
+stopped_so_far failed.Link (OnFile name) set n first before now link_first link_before link_now r a b s room keeps same cause = absurd cause
+stopped_so_far failed.Link (OnLink address) set n first before now link_first link_before link_now r a b s room keeps same cause = record {
   read = s.read;
   text = s.text;
+  few = omega (arith, s.many, room);
   come = subst (λ (o : Option (List (List ℕ))). HaveCome s.read link_first.feed o) (sym keeps) s.rest;
   is_text = s.is_text;
   puts = subst (λ (f : Option Files). Grows first.target s.text first.files f) (sym same) s.puts;
@@ -146,11 +148,11 @@ stopped_so_far failed.Link (OnLink address) set n first before now link_first li
 
 -- a call failed while the text of a datagram was put
 part_of_more : (from : Way) (set : KeptSet) (n n1 len : ℕ) (into : List ℕ) (first before between now : Seen) (link_first link_before link_now : LinkSeen) (r : ReceiverState ℕ) (a b : ℕ) → SoFar set n first before (coming from first link_first) (coming from before link_before) r a b
-    → n1 ≡ n + 1 → KeepsNames first before → TakesDatagram (coming from before link_before) (Datagram len) into (coming from between link_now) → OnlyReads before between → PartOfOne r n1 (take len into) between now → PartSoFar from set first now link_first link_now
-part_of_more from set n n1 len into first before between now link_first link_before link_now r a b s at names step reads (inl same) =
-    part_so_far from set n (take len into ∷ []) first before now link_first link_before link_now r a b s (omega arith)
+    → n < MAX_DATAGRAMS → n1 ≡ n + 1 → KeepsNames first before → TakesDatagram (coming from before link_before) (Datagram len) into (coming from between link_now) → OnlyReads before between → PartOfOne r n1 (take len into) between now → PartSoFar from set first now link_first link_now
+part_of_more from set n n1 len into first before between now link_first link_before link_now r a b s room at names step reads (inl same) =
+    part_so_far from set n (take len into ∷ []) first before now link_first link_before link_now r a b s room (omega arith)
     (λ address is. subst (λ (w : Way). HaveCome (take len into ∷ []) (coming w before link_before) (coming w between link_now)) is step) (same ∙ reads.files)
-part_of_more from set n n1 len into first before between now link_first link_before link_now r a b s at names step reads (inr part) =
+part_of_more from set n n1 len into first before between now link_first link_before link_now r a b s room at names step reads (inr part) =
     let d = take len into in
     let same : between.target ≡ first.target = reads.target ∙ names.target in
     let front = part.2.0 in
@@ -158,7 +160,8 @@ part_of_more from set n n1 len into first before between now link_first link_bef
       read = s.read ++ d ∷ [];
       text = s.text ++ part.0;
       front = s.text ++ front;
-      from_front = came_first from (s.read ++ d ∷ []) [] first between link_first link_now link_now (omega arith)
+      few = omega (arith, length_push s.read d, s.many, room);
+      from_front = came_first from (s.read ++ d ∷ []) [] first between link_first link_now link_now (omega arith) (omega (arith, length_push s.read d, s.many, room))
           (come_more s.read (coming from first link_first) (coming from before link_before) (coming from between link_now) d s.rest step) (λ address is. come_nothing link_now.feed);
       is_text = arrival_text set n n1 first before (coming from first link_first) (coming from before link_before) r d part.0 a b s at part.1;
       is_front = (part.2.1.0, ap (λ (t : List ℕ). s.text ++ t) part.2.1.1 ∙ sym (append_assoc s.text front part.2.1.0));
@@ -167,11 +170,11 @@ part_of_more from set n n1 len into first before between now link_first link_bef
     }
 
 pub stopped_at_one : (stop : Stop) (from : Way) (set : KeptSet) (n n1 len : ℕ) (into : List ℕ) (first before between now : Seen) (link_first link_before link_now : LinkSeen) (r : ReceiverState ℕ) (a b : ℕ) → SoFar set n first before (coming from first link_first) (coming from before link_before) r a b
-    → n1 ≡ n + 1 → KeepsNames first before → TakesDatagram (coming from before link_before) (Datagram len) into (coming from between link_now) → OnlyReads before between → PartOfOne r n1 (take len into) between now → StoppedSoFar from set first now link_first link_now (stop_of_place stop)
-stopped_at_one place.NoMemory from set n n1 len into first before between now link_first link_before link_now r a b s at names step reads part =
-    part_of_more from set n n1 len into first before between now link_first link_before link_now r a b s at names step reads part
-stopped_at_one place.Failed from set n n1 len into first before between now link_first link_before link_now r a b s at names step reads part =
-    part_of_more from set n n1 len into first before between now link_first link_before link_now r a b s at names step reads part
+    → n < MAX_DATAGRAMS → n1 ≡ n + 1 → KeepsNames first before → TakesDatagram (coming from before link_before) (Datagram len) into (coming from between link_now) → OnlyReads before between → PartOfOne r n1 (take len into) between now → StoppedSoFar from set first now link_first link_now (stop_of_place stop)
+stopped_at_one place.NoMemory from set n n1 len into first before between now link_first link_before link_now r a b s room at names step reads part =
+    part_of_more from set n n1 len into first before between now link_first link_before link_now r a b s room at names step reads part
+stopped_at_one place.Failed from set n n1 len into first before between now link_first link_before link_now r a b s room at names step reads part =
+    part_of_more from set n n1 len into first before between now link_first link_before link_now r a b s room at names step reads part
 
 -- the input and the link, where one datagram more was received
 pub input_kept : (from : Way) (old new : Seen) → new.has_input ≡ old.has_input → HasInput from old → HasInput from new

@@ -1,5 +1,5 @@
 -- What each end tells, by the line that was printed.
-use Rattle.std.proofs.Common.{◌≡◌, ◌≢◌, ℕ, ◌<◌, ◌≤◌, Bool, true, false, List, ◌++◌, length, take, Option, sym, ap, subst, ◌∙◌, arith, inr}
+use Rattle.std.proofs.Common.{◌≡◌, ◌≢◌, ℕ, ◌<◌, ◌≤◌, Bool, true, false, List, ◌++◌, length, take, Option, refl, sym, ap, subst, ◌∙◌, arith, inr}
 use Rattle.std.specs.Io.KnownBytes.{append_known}
 use Rattle.pet_base.specs.declared.limits.TheConstants.{MAX_DATAGRAMS}
 use Rattle.pet_base.specs.LinkSeen.{LinkSeen}
@@ -13,7 +13,11 @@ use Rattle.pet_text.specs.Lines.{bound_text, receive_text}
 use Rattle.command_receive.specs.declared.command.ReceiveEnd.{ReceiveEnd}
 use Rattle.command_receive.specs.declared.command.ReceiveEnd.TheVariants.{Done, NoMemory, PlaceFault, LinkFault, OutFault, Incomplete, TurnsSpent}
 use Rattle.command_receive.specs.declared.reading.Totals.{Totals}
-use Rattle.command_receive.specs.Numbers.{AreTotals, IsEndOf, line_of, EndsWith}
+use Rattle.datagram_route.specs.RouteFaults.{stop_of_a_place, stop_of_a_link}
+use Rattle.datagram_route.specs.declared.fault.RouteStop.{RouteStop}
+use Rattle.datagram_route.specs.declared.fault.RouteStop.TheVariants as stop
+use Rattle.command_receive.specs.Failures.{end_of_place, end_of_link}
+use Rattle.command_receive.specs.Numbers.{AreTotals, IsEndOf, line_of, EndsWith, end_of}
 use Rattle.command_receive.specs.Opened.{IsBoundTo, KeepsLink, PrintedPort}
 use Rattle.command_receive.specs.Receives.{IsBoundAtEnd, IsRead, Reads, EndsReceive, Receives, numbers_text, port_line}
 use Rattle.command_receive.proofs.FilesRead.{reads_leaves}
@@ -110,3 +114,25 @@ receives_all from session layers store before middle after r totals are place li
   later = omega (arith, earlier, later);
   ends = ends_read from session layers store before middle after r totals are place link steps port earlier end ends;
 }
+
+-- an end tells of the failure that stopped the command, and that of a line of none
+pub place_alike : (s : RouteStop) → stop_of_a_place s ≡ end_of_place (end_of s)
+place_alike stop.NoMemory = refl
+place_alike stop.Place = refl
+place_alike stop.Link = refl
+place_alike stop.Out = refl
+
+pub link_alike : (s : RouteStop) → stop_of_a_link s ≡ end_of_link (end_of s)
+link_alike stop.NoMemory = refl
+link_alike stop.Place = refl
+link_alike stop.Link = refl
+link_alike stop.Out = refl
+
+pub line_calm : (totals : Totals) (before after : Option (List ℕ)) (fb fa : ℕ) (end : ReceiveEnd) → EndsWith totals before after fb fa end → (end_of_place end ≡ false) × (end_of_link end ≡ false)
+line_calm totals before after fb fa Done put = (refl, refl)
+line_calm totals before after fb fa Incomplete put = (refl, refl)
+line_calm totals before after fb fa TurnsSpent put = (refl, refl)
+line_calm totals before after fb fa OutFault put = (refl, refl)
+line_calm totals before after fb fa NoMemory put = (refl, refl)
+line_calm totals before after fb fa PlaceFault put = absurd put
+line_calm totals before after fb fa LinkFault put = absurd put

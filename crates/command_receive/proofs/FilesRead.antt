@@ -69,13 +69,13 @@ is_read_first (OnLink address) read before opened new begun came =
     subst (λ (o : Option (List (List ℕ))). HaveLeft read o new.link.feed) begun.others.feed came
 
 -- all of it is also the first of it
-first_of_all : (from : Way) (read : List (List ℕ)) (before after : OutsideSeen) → IsRead from read before after → IsReadFirst from read before after
-first_of_all (OnFile name) read before after is = front_of before.place.files is
+first_of_all : (from : Way) (read : List (List ℕ)) (before after : OutsideSeen) → length read ≤ MAX_DATAGRAMS → IsRead from read before after → IsReadFirst from read before after
+first_of_all (OnFile name) read before after few is = front_of before.place.files is
   where
     front_of : (files : Option Files) → HasFile files name (AreRead read) → HasFile files name (λ bytes. AreFirst read (datagrams bytes))
     front_of None are = tt
     front_of (Some f) are = (are.0, are.1, (are.2.0, are.2.1))
-first_of_all (OnLink address) read before after is = ([], omega arith, subst (λ (l : List (List ℕ)). HaveCome l before.link.feed after.link.feed) (sym (append-nil read)) is.0)
+first_of_all (OnLink address) read before after few is = ([], omega arith, omega (arith, few), subst (λ (l : List (List ℕ)). HaveCome l before.link.feed after.link.feed) (sym (append-nil read)) is.0)
 
 -- the port that was printed is that at which the link still receives
 pub port_printed : (from : Way) (before opened after : OutsideSeen) → LinkReceives from opened.link after.link → after.written ≡ opened.written → PrintedPort from before opened → PrintedPort from before after
@@ -143,7 +143,8 @@ module _ (from : Way) (session layers store : List ℕ) (n : ℕ) (before opened
       inl (record {
         read = h.so_far.read;
         text = h.so_far.text;
-        input = first_of_all from h.so_far.read before stored input_read;
+        few = few_read;
+        input = first_of_all from h.so_far.read before stored few_read input_read;
         is_text = h.so_far.is_text;
         file = Wrote-as_front [] (layers_file layers h.so_far.text) before.place stored.place (same ∙ layers_written);
       })
@@ -165,6 +166,7 @@ part_leaves from session layers store before opened new o p =
     inl (record {
       read = p.read;
       text = p.text;
+      few = p.few;
       input = is_read_first from p.read before opened new o.begun p.from_front;
       is_text = p.is_text;
       file = (p.front, p.is_front, Grows-named layers p.front opened.place.target before.place.files opened.place.files new.place.files o.files o.target p.puts);
@@ -175,6 +177,7 @@ pub whole_leaves : (address session layers : List ℕ) (before opened new : Outs
 whole_leaves address session layers before opened new o w = record {
   read = w.read;
   text = w.text;
+  few = w.few;
   come = subst (λ (f : Option (List (List ℕ))). HaveCome w.read f new.link.feed) o.begun.others.feed w.come;
   is_text = w.is_text;
   file = Wrote-file (layers_file layers w.text) opened.place.target before.place opened.place new.place o.files o.target w.puts;

@@ -1,3 +1,4 @@
+pub mod Failures
 pub mod Opened
 pub mod SoFar
 pub mod Numbers

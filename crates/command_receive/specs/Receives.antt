@@ -28,9 +28,9 @@ use Rattle.command_receive.specs.declared.command.ReceiveEnd.TheVariants.{Done, 
 abbrev pub AreRead : List (List ℕ) → List ℕ → Type 0
 AreRead read bytes = (more : List (List ℕ)) × (datagrams bytes ≡ read ++ more) × (length read < MAX_DATAGRAMS → more ≡ [])
 
--- These have left the link, and at most one more: that at which the command failed.
+-- These have left the link, and at most one more: that at which the command failed. They are no more than 16,777,216 together.
 abbrev pub HaveLeft : List (List ℕ) → Option (List (List ℕ)) → Option (List (List ℕ)) → Type 0
-HaveLeft read old new = (last : List (List ℕ)) × (length last ≤ 1) × HaveCome (read ++ last) old new
+HaveLeft read old new = (last : List (List ℕ)) × (length last ≤ 1) × (length read + length last ≤ MAX_DATAGRAMS) × HaveCome (read ++ last) old new
 
 -- FROM is there and these are its datagrams; or these have left the link, where none is left to come. Or they are the first 16,777,216.
 abbrev pub IsRead : Way → List (List ℕ) → OutsideSeen → OutsideSeen → Type 0
@@ -66,6 +66,7 @@ pub record Reads (from : Way) (session layers store : List ℕ) (before after : 
 pub record ReadsFront (from : Way) (session layers : List ℕ) (before after : OutsideSeen) : Type 0 where
   pub read : List (List ℕ)
   pub text : List ℕ
+  pub few : length read ≤ MAX_DATAGRAMS
   pub input : IsReadFirst from read before after
   pub is_text : IsLayersText (nothing_of session) [] 1 read text
   pub file : Wrote [] (Some (layers_file layers text)) before.place after.place
@@ -83,6 +84,7 @@ pub record StoresFront (from : Way) (session layers store : List ℕ) (before af
 pub record ReadsUntilFault (session layers : List ℕ) (before after : OutsideSeen) : Type 0 where
   pub read : List (List ℕ)
   pub text : List ℕ
+  pub few : length read ≤ MAX_DATAGRAMS
   pub come : HaveCome read before.link.feed after.link.feed
   pub is_text : IsLayersText (nothing_of session) [] 1 read text
   pub file : Wrote (layers_file layers text ∷ []) None before.place after.place

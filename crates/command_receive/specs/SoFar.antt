@@ -50,6 +50,7 @@ pub record PartSoFar (from : Way) (set : KeptSet) (first now : Seen) (link_first
   pub read : List (List ℕ)
   pub text : List ℕ
   pub front : List ℕ
+  pub few : length read ≤ MAX_DATAGRAMS
   pub from_front : CameFirst from read first link_first link_now
   pub is_text : IsLayersText set [] 1 read text
   pub is_front : IsPrefix front text
@@ -59,6 +60,7 @@ pub record PartSoFar (from : Way) (set : KeptSet) (first now : Seen) (link_first
 pub record WholeSoFar (set : KeptSet) (first now : Seen) (link_first link_now : LinkSeen) : Type 0 where
   pub read : List (List ℕ)
   pub text : List ℕ
+  pub few : length read ≤ MAX_DATAGRAMS
   pub come : HaveCome read link_first.feed link_now.feed
   pub is_text : IsLayersText set [] 1 read text
   pub puts : Puts text first now

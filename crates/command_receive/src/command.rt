@@ -1,6 +1,9 @@
 //! The command `receive`, and how it ends.
 ghost use Rattle.std.specs.Prelude.{◌≡◌, ◌≤◌, IfOk};
 ghost use Rattle.pet_base.specs.Lent.{seen, AreSame};
+ghost use Rattle.pet_base.specs.LinkSeen.{LinkStops};
+ghost use Rattle.pet_base.specs.Seen.{PlaceStops};
+ghost use Rattle.command_receive.specs.Failures.{end_of_place, end_of_link};
 ghost use Rattle.datagram_route.specs.Way.{way_of};
 ghost use Rattle.pet_text.specs.Lines.{receive_text};
 ghost use Rattle.command_receive.specs.Numbers.{IsEndOf, EndsWith, end_of};
@@ -53,6 +56,10 @@ pub fn receive<P: Place, K: Link, S: Sink, L: Ledger>(
     ensures named { NamesWhatItStores session layers.now store.now (seen outside.old)
         (seen outside.new) result }
     ensures same { AreSame outside.old outside.new }
+    ensures once_place { PlaceStops (end_of_place result) (seen outside.old).place
+        (seen outside.new).place }
+    ensures once_link { LinkStops (end_of_link result) (seen outside.old).link
+        (seen outside.new).link }
 {
     match read_all(alloc, from, session, layers, store, outside) {
         Ok(totals) => print_numbers(alloc, totals, outside.out),

@@ -1,6 +1,10 @@
 //! Beginning to read FROM, and making LAYERS.
 ghost use Rattle.std.specs.Prelude.{◌≡◌, List, ℕ, OnOk, IfOk, IfErr};
 ghost use Rattle.pet_base.specs.Lent.{seen, AreSame};
+ghost use Rattle.pet_base.specs.Causes.{stops};
+ghost use Rattle.pet_base.specs.LinkSeen.{LinkStops};
+ghost use Rattle.pet_base.specs.Seen.{PlaceStops};
+ghost use Rattle.datagram_route.specs.RouteFaults.{stop_of_a_place, stop_of_a_link};
 ghost use Rattle.datagram_route.specs.Way.{OnFile, OnLink, way_of};
 ghost use Rattle.pet_text.specs.Lines.{bound_text};
 ghost use Rattle.command_receive.specs.Opened.{Begins, IsBoundWhereStopped, IsUntouched, OnlyOpens, Opened, StopsOpening};
@@ -27,6 +31,10 @@ pub(crate) fn open<P: Place, K: Link, S: Sink, L: Ledger>(
         (seen outside.new).link) }
     ensures others { OnlyOpens (way_of from.entry) (seen outside.old) (seen outside.new) }
     ensures same { AreSame outside.old outside.new }
+    ensures once_place { PlaceStops (stops stop_of_a_place result) (seen outside.old).place
+        (seen outside.new).place }
+    ensures once_link { LinkStops (stops stop_of_a_link result) (seen outside.old).link
+        (seen outside.new).link }
 {
     begin(alloc, from, outside)?;
     outside.place.create(layers).map_err(|_| RouteStop::Place)
@@ -47,6 +55,10 @@ fn begin<P: Place, K: Link, S: Sink, L: Ledger>(
     ensures untouched { IsUntouched (way_of from.entry) (seen outside.old) (seen outside.new) }
     ensures others { OnlyOpens (way_of from.entry) (seen outside.old) (seen outside.new) }
     ensures same { AreSame outside.old outside.new }
+    ensures once_place { PlaceStops (stops stop_of_a_place result) (seen outside.old).place
+        (seen outside.new).place }
+    ensures once_link { LinkStops (stops stop_of_a_link result) (seen outside.old).link
+        (seen outside.new).link }
 {
     match from {
         Route::File(name) => enter(name, outside),
@@ -68,6 +80,10 @@ fn enter<P: Place, K: Link, S: Sink, L: Ledger>(
     ensures untouched { IsUntouched (OnFile name.now) (seen outside.old) (seen outside.new) }
     ensures others { OnlyOpens (OnFile name.now) (seen outside.old) (seen outside.new) }
     ensures same { AreSame outside.old outside.new }
+    ensures once_place { PlaceStops (stops stop_of_a_place result) (seen outside.old).place
+        (seen outside.new).place }
+    ensures once_link { LinkStops (stops stop_of_a_link result) (seen outside.old).link
+        (seen outside.new).link }
 {
     outside.place.enter(name).map_err(|_| RouteStop::Place)
 }
@@ -87,6 +103,10 @@ fn listen<P: Place, K: Link, S: Sink, L: Ledger>(
     ensures untouched { IsUntouched (OnLink address.now) (seen outside.old) (seen outside.new) }
     ensures others { OnlyOpens (OnLink address.now) (seen outside.old) (seen outside.new) }
     ensures same { AreSame outside.old outside.new }
+    ensures once_place { PlaceStops (stops stop_of_a_place result) (seen outside.old).place
+        (seen outside.new).place }
+    ensures once_link { LinkStops (stops stop_of_a_link result) (seen outside.old).link
+        (seen outside.new).link }
 {
     let port = outside.link.bind(address).map_err(|_| RouteStop::Link)?;
     let line = port_line(alloc, port)?;

@@ -4,17 +4,19 @@ ghost use Rattle.pet_base.specs.Lent.{seen, AreSame};
 ghost use Rattle.pet_base.specs.OutsideSeen.{OutsideSeen};
 ghost use Rattle.pet_base.specs.declared.limits.TheConstants.{MAX_ENTRY};
 ghost use Rattle.pet_base.specs.declared.place.Side.TheVariants.{Written};
-ghost use Rattle.pet_base.specs.Causes.{Blames};
-ghost use Rattle.pet_base.specs.Seen.{Seen, OnlyWrites, HadFault};
+ghost use Rattle.pet_base.specs.Causes.{Blames, stops};
+ghost use Rattle.pet_base.specs.Seen.{Seen, OnlyWrites, HadFault, PlaceStops};
 ghost use Rattle.pet_receive.specs.Arrivals.{Order, kept_set};
 ghost use Rattle.pet_receive.specs.ShownBytes.{IsComplete, shown_in_all};
 ghost use Rattle.kept_sets.specs.KeptSet.{IsKeptSet, kept_in_all};
 ghost use Rattle.kept_sets.specs.Verdicts.{after};
 ghost use Rattle.command_files.specs.Inputs.{Licensed};
 ghost use Rattle.command_files.specs.Outputs.{Puts};
+ghost use Rattle.pet_base.specs.LinkSeen.{LinkStops};
+ghost use Rattle.command_files.specs.Failures.{has_failed};
 ghost use Rattle.datagram_route.specs.Way.{way_of};
 ghost use Rattle.datagram_route.specs.Coming.{coming, HasInput};
-ghost use Rattle.datagram_route.specs.RouteFaults.{IsStop, ReceivingFailed};
+ghost use Rattle.datagram_route.specs.RouteFaults.{IsStop, ReceivingFailed, stop_of_a_place, stop_of_a_link};
 ghost use Rattle.met_packets.specs.Gf16.{HasKeptIn, IsTextAt};
 ghost use Rattle.met_packets.specs.LayersText.{order_after};
 ghost use Rattle.met_packets.specs.Steps.{steps_of};
@@ -70,6 +72,10 @@ pub(crate) fn read_all<P: Place, K: Link, S: Sink, L: Ledger>(
         (seen outside.new).link) }
     ensures later { (seen outside.old).out_faults ≤ (seen outside.new).out_faults }
     ensures same { AreSame outside.old outside.new }
+    ensures once_place { PlaceStops (stops stop_of_a_place result) (seen outside.old).place
+        (seen outside.new).place }
+    ensures once_link { LinkStops (stops stop_of_a_link result) (seen outside.old).link
+        (seen outside.new).link }
 {
     let mut buffer = room(alloc)?;
     let field = Gf16Tables::new(alloc)?;
@@ -105,6 +111,10 @@ fn read_opened<P: Place, K: Link, S: Sink, L: Ledger>(
     ensures link_later { (seen outside.old).link.faults ≤ (seen outside.new).link.faults }
     ensures out { (seen outside.new).out_faults ≡ (seen outside.old).out_faults }
     ensures same { AreSame outside.old outside.new }
+    ensures once_place { PlaceStops (stops stop_of_a_place result) (seen outside.old).place
+        (seen outside.new).place }
+    ensures once_link { LinkStops (stops stop_of_a_link result) (seen outside.old).link
+        (seen outside.new).link }
 {
     let mut receiver = Receiver::new(alloc, field, session, MAX_SESSION);
     let read = receive_all(
@@ -168,6 +178,10 @@ fn receive_all<P: Place, K: Link, L: Ledger>(
     ensures cause { IfErr result (IsStop (HadFault (P.seen place.old) (P.seen place.new)
         (IsReadingUse (way_of from.entry) (P.seen place.old)))
         (ReceivingFailed (way_of from.entry) (K.seen link.old) (K.seen link.new)) ⊥) }
+    ensures once_place { PlaceStops (stops stop_of_a_place result) (P.seen place.old)
+        (P.seen place.new) }
+    ensures once_link { LinkStops (stops stop_of_a_link result) (K.seen link.old)
+        (K.seen link.new) }
 {
     for turn in 0..MAX_DATAGRAMS {
         match next_datagram(from, place, link, buffer)? {
@@ -205,6 +219,7 @@ fn receive_one<P: Place, L: Ledger>(
     ensures later { (P.seen place.old).faults ≤ (P.seen place.new).faults }
     ensures cause { IfErr result (Licensed (HadFault (P.seen place.old) (P.seen place.new)
         (Blames Written (P.seen place.old).target))) }
+    ensures once { PlaceStops (stops has_failed result) (P.seen place.old) (P.seen place.new) }
 {
     let verdict = receiver.accept(datagram, steps)?;
     if let Verdict::Kept(shown) = verdict {

@@ -1,5 +1,5 @@
 -- What each end of `send` tells.
-use Rattle.std.proofs.Common.{◌≡◌, ℕ, List, [], Option, None, Some, ap, ◌∙◌, inl, arith}
+use Rattle.std.proofs.Common.{◌≡◌, ℕ, false, List, [], Option, None, Some, refl, ap, ◌∙◌, inl, arith}
 use Rattle.std.specs.Prelude.{option_map, take}
 use Rattle.std.specs.Io.KnownBytes.{append_known}
 use Rattle.datagram_route.specs.declared.fault.RouteStop.TheVariants as stop
@@ -16,6 +16,7 @@ use Rattle.command_send.specs.declared.command.SendEnd.{SendEnd}
 use Rattle.command_send.specs.declared.command.SendEnd.TheVariants.{Done, NoMemory, PlaceFault, LinkFault, OutFault, BadPriority, BadStream, BadPlan, Changed}
 use Rattle.command_send.specs.declared.fault.SendFault.{SendFault}
 use Rattle.command_send.specs.declared.fault.SendFault.TheVariants as fault
+use Rattle.command_send.specs.Failures.{fault_of_place, fault_of_link, end_of_place, end_of_link}
 use Rattle.command_send.specs.SendParts.{IsSendFault, PutsLine, end_of_fault, end_of_refusal}
 use Rattle.command_send.specs.Sends.{sent_line_text, routes_in, HasPackets, LeavesFront, MayBlame, SendsNothing, SendTells}
 use Rattle.stream_session.specs.Sessions.{HasSession}
@@ -69,3 +70,39 @@ module _ (stream priority : List ℕ) (way : Way) (before after : OutsideSeen) w
   tells_put s line (BadStream scan) same sent put = absurd put
   tells_put s line (BadPlan fault) same sent put = absurd put
   tells_put s line (Changed change) same sent put = absurd put
+
+-- an end tells of the failure that its fault tells of, and that of a line of none
+pub place_alike : (f : SendFault) → fault_of_place f ≡ end_of_place (end_of_fault f)
+place_alike (fault.Stopped stop.NoMemory) = refl
+place_alike (fault.Stopped stop.Place) = refl
+place_alike (fault.Stopped stop.Link) = refl
+place_alike (fault.Stopped stop.Out) = refl
+place_alike (fault.Source source.NoMemory) = refl
+place_alike (fault.Source source.Failed) = refl
+place_alike (fault.Source (source.Priority x)) = refl
+place_alike (fault.Source (source.Stream x)) = refl
+place_alike (fault.Source (source.Plan x)) = refl
+place_alike (fault.Changed change) = refl
+
+pub link_alike : (f : SendFault) → fault_of_link f ≡ end_of_link (end_of_fault f)
+link_alike (fault.Stopped stop.NoMemory) = refl
+link_alike (fault.Stopped stop.Place) = refl
+link_alike (fault.Stopped stop.Link) = refl
+link_alike (fault.Stopped stop.Out) = refl
+link_alike (fault.Source source.NoMemory) = refl
+link_alike (fault.Source source.Failed) = refl
+link_alike (fault.Source (source.Priority x)) = refl
+link_alike (fault.Source (source.Stream x)) = refl
+link_alike (fault.Source (source.Plan x)) = refl
+link_alike (fault.Changed change) = refl
+
+pub line_calm : (line : List ℕ) (before after : Option (List ℕ)) (fb fa : ℕ) (end : SendEnd) → PutsLine line before after fb fa end → (end_of_place end ≡ false) × (end_of_link end ≡ false)
+line_calm line before after fb fa Done put = (refl, refl)
+line_calm line before after fb fa OutFault put = (refl, refl)
+line_calm line before after fb fa NoMemory put = absurd put
+line_calm line before after fb fa PlaceFault put = absurd put
+line_calm line before after fb fa LinkFault put = absurd put
+line_calm line before after fb fa (BadPriority x) put = absurd put
+line_calm line before after fb fa (BadStream x) put = absurd put
+line_calm line before after fb fa (BadPlan x) put = absurd put
+line_calm line before after fb fa (Changed x) put = absurd put

@@ -1,3 +1,4 @@
+pub mod Failures
 pub mod Sending
 pub mod Second
 pub mod Sends

@@ -1,6 +1,9 @@
 //! The command `send`.
 ghost use Rattle.std.specs.Prelude.{◌≤◌, List, ℕ};
 ghost use Rattle.pet_base.specs.Lent.{seen, AreSame};
+ghost use Rattle.pet_base.specs.Seen.{PlaceStops};
+ghost use Rattle.pet_base.specs.LinkSeen.{LinkStops};
+ghost use Rattle.command_send.specs.Failures.{end_of_place, end_of_link};
 ghost use Rattle.command_send.specs.SendParts.{PutsLine};
 ghost use Rattle.datagram_route.specs.Way.{way_of};
 ghost use Rattle.command_send.specs.Sends.{IsOther, Sends};
@@ -54,6 +57,10 @@ pub fn send<P: Place, K: Link, S: Sink, L: Ledger>(
         (seen outside.new) result }
     ensures completes { SendsSession stream.now priority.now (way_of to.entry) (seen outside.old)
         (seen outside.new) result }
+    ensures once_place { PlaceStops (end_of_place result) (seen outside.old).place
+        (seen outside.new).place }
+    ensures once_link { LinkStops (end_of_link result) (seen outside.old).link
+        (seen outside.new).link }
     ensures same { AreSame outside.old outside.new }
 {
     let sent = sent_line(

@@ -7,7 +7,11 @@ ghost use Rattle.group_cutter.specs.Cutting.{HaveEnded, AreAll, pieces_left};
 ghost use Rattle.stream_session.specs.Accepted.{session_of};
 ghost use Rattle.group_cutter.specs.laws.FilledLaws.{IsFilled};
 ghost use Rattle.group_cutter.specs.laws.FittingLaws.{IsWhole};
-ghost use Rattle.datagram_route.specs.RouteFaults.{IsStop};
+ghost use Rattle.pet_base.specs.Causes.{stops};
+ghost use Rattle.pet_base.specs.Seen.{PlaceStops};
+ghost use Rattle.pet_base.specs.LinkSeen.{LinkStops};
+ghost use Rattle.command_send.specs.Failures.{fault_of_place, fault_of_link};
+ghost use Rattle.datagram_route.specs.RouteFaults.{IsStop, stop_of_a_place, stop_of_a_link};
 ghost use Rattle.datagram_route.specs.Sending.{Routes, routes, Sends, IsOpen, OnlyGrows, OutputFailed, SendingFailed};
 ghost use Rattle.datagram_route.specs.Way.{way_of};
 ghost use Rattle.pet_encode.specs.Datagrams.{session_datagrams};
@@ -69,6 +73,9 @@ pub(crate) fn send_groups<P: Place, K: Link, L: Ledger>(
     ensures others { OnlyPasses (routes P.Place K.Link place.old link.old)
         (routes P.Place K.Link place.new link.new) }
     ensures cost { steps.new ≤ steps.old + sum_by words_cost found.now.source.tables.items }
+    ensures once_place { PlaceStops (stops fault_of_place result) (P.seen place.old)
+        (P.seen place.new) }
+    ensures once_link { LinkStops (stops fault_of_link result) (K.seen link.old) (K.seen link.new) }
 {
     match send_again(alloc, place, link, found, steps)? {
         Some(change) => Err(SendFault::Changed(change)),
@@ -95,6 +102,10 @@ fn send_again<P: Place, K: Link, L: Ledger>(
     ensures cause { IfErr result (IsStop (PassFailed (way_of found.now.to) (P.seen place.old) (P.seen place.new))
         (SendingFailed (way_of found.now.to) (K.seen link.old) (K.seen link.new)) ⊥) }
     ensures cost { steps.new ≤ steps.old + sum_by words_cost found.now.source.tables.items }
+    ensures once_place { PlaceStops (stops stop_of_a_place result) (P.seen place.old)
+        (P.seen place.new) }
+    ensures once_link { LinkStops (stops stop_of_a_link result) (K.seen link.old)
+        (K.seen link.new) }
 {
     let mut buffer = portion_room(alloc)?;
     let mut pass = SecondPass {
@@ -138,6 +149,10 @@ fn read_again<P: Place, K: Link, L: Ledger>(
     ensures left { OnOk result (steps.new + cost_left found.now.source.tables.items
         pass.new.groups.sent ≤ steps.old + cost_left found.now.source.tables.items
         pass.old.groups.sent) }
+    ensures once_place { PlaceStops (stops stop_of_a_place result) (P.seen place.old)
+        (P.seen place.new) }
+    ensures once_link { LinkStops (stops stop_of_a_link result) (K.seen link.old)
+        (K.seen link.new) }
 {
     let mut read = 0u64;
     while read <= MAX_STREAM {
@@ -178,6 +193,10 @@ impl SecondPass {
         ensures left { OnOk result (steps.new + cost_left found.now.source.tables.items
             self.new.groups.sent ≤ steps.old + cost_left found.now.source.tables.items
             self.old.groups.sent) }
+        ensures once_place { PlaceStops (stops stop_of_a_place result) (P.seen place.old)
+            (P.seen place.new) }
+        ensures once_link { LinkStops (stops stop_of_a_link result) (K.seen link.old)
+            (K.seen link.new) }
     {
         if self.change.is_some() {
             return Ok(());
@@ -209,6 +228,10 @@ impl SecondPass {
             (SendingFailed (way_of found.now.to) (K.seen link.old) (K.seen link.new)) ⊥) }
         ensures cost { steps.new ≤ steps.old + cost_left found.now.source.tables.items
             self.old.groups.sent }
+        ensures once_place { PlaceStops (stops stop_of_a_place result) (P.seen place.old)
+            (P.seen place.new) }
+        ensures once_link { LinkStops (stops stop_of_a_link result) (K.seen link.old)
+            (K.seen link.new) }
     {
         if self.change.is_some() {
             return Ok(());
@@ -240,6 +263,10 @@ fn send_ended<P: Place, K: Link, L: Ledger>(
     ensures cost { steps.new ≤ steps.old + cost_left found.now.source.tables.items groups.old.sent }
     ensures left { OnOk result (steps.new + cost_left found.now.source.tables.items groups.new.sent
         ≤ steps.old + cost_left found.now.source.tables.items groups.old.sent) }
+    ensures once_place { PlaceStops (stops stop_of_a_place result) (P.seen place.old)
+        (P.seen place.new) }
+    ensures once_link { LinkStops (stops stop_of_a_link result) (K.seen link.old)
+        (K.seen link.new) }
 {
     while let Some(group) = groups.cutter.next()? {
         let change = send_group(alloc, place, link, found, groups.sent, &group, steps)?;
@@ -271,6 +298,10 @@ fn send_last<P: Place, K: Link, L: Ledger>(
     ensures cause { IfErr result (IsStop (OutputFailed (way_of found.now.to) (P.seen place.old) (P.seen place.new))
         (SendingFailed (way_of found.now.to) (K.seen link.old) (K.seen link.new)) ⊥) }
     ensures cost { steps.new ≤ steps.old + cost_left found.now.source.tables.items groups.old.sent }
+    ensures once_place { PlaceStops (stops stop_of_a_place result) (P.seen place.old)
+        (P.seen place.new) }
+    ensures once_link { LinkStops (stops stop_of_a_link result) (K.seen link.old)
+        (K.seen link.new) }
 {
     match groups.cutter.finish() {
         Ok(left) => send_left(alloc, place, link, found, groups.sent, &left, steps),
@@ -307,6 +338,10 @@ fn send_left<P: Place, K: Link, L: Ledger>(
     ensures cause { IfErr result (IsStop (OutputFailed (way_of found.now.to) (P.seen place.old) (P.seen place.new))
         (SendingFailed (way_of found.now.to) (K.seen link.old) (K.seen link.new)) ⊥) }
     ensures cost { steps.new ≤ steps.old + cost_left found.now.source.tables.items from }
+    ensures once_place { PlaceStops (stops stop_of_a_place result) (P.seen place.old)
+        (P.seen place.new) }
+    ensures once_link { LinkStops (stops stop_of_a_link result) (K.seen link.old)
+        (K.seen link.new) }
 {
     let mut number = from;
     for group in groups {

@@ -5,7 +5,10 @@ ghost use Rattle.group_cutter.specs.laws.FittingLaws.{IsWhole};
 ghost use Rattle.layer_split.specs.Layers as layers;
 ghost use Rattle.stream_session.specs.Marks.{mark_at};
 ghost use Rattle.stream_session.specs.Tables.{table_of};
-ghost use Rattle.datagram_route.specs.RouteFaults.{IsStop};
+ghost use Rattle.pet_base.specs.Causes.{stops};
+ghost use Rattle.pet_base.specs.Seen.{PlaceStops};
+ghost use Rattle.pet_base.specs.LinkSeen.{LinkStops};
+ghost use Rattle.datagram_route.specs.RouteFaults.{IsStop, stop_of_a_place, stop_of_a_link};
 ghost use Rattle.datagram_route.specs.Sending.{routes, Sends, SendsPart, IsOpen, OnlyGrows, OutputFailed, SendingFailed};
 ghost use Rattle.datagram_route.specs.Way.{way_of};
 ghost use Rattle.pet_encode.specs.Datagrams.{group_datagrams};
@@ -59,6 +62,10 @@ pub(crate) fn send_group<P: Place, K: Link, L: Ledger>(
     ensures cost { steps.new ≤ steps.old + cost_at
         (slice_get found.now.source.tables.items number) }
     ensures idle { IfOk result (λ change. IfSome change (λ _. steps.new ≡ steps.old)) }
+    ensures once_place { PlaceStops (stops stop_of_a_place result) (P.seen place.old)
+        (P.seen place.new) }
+    ensures once_link { LinkStops (stops stop_of_a_link result) (K.seen link.old)
+        (K.seen link.new) }
 {
     let first = first_mark(found, number);
     let second = GroupMark::of(&group.bytes);
@@ -127,6 +134,10 @@ fn put_packets<P: Place, K: Link, L: Ledger>(
         (SendingFailed (way_of found.now.to) (K.seen link.old) (K.seen link.new)) ⊥) }
     ensures cost { steps.new ≤ steps.old + cost_at
         (slice_get found.now.source.tables.items number) }
+    ensures once_place { PlaceStops (stops stop_of_a_place result) (P.seen place.old)
+        (P.seen place.new) }
+    ensures once_link { LinkStops (stops stop_of_a_link result) (K.seen link.old)
+        (K.seen link.new) }
 {
     let encoder = encoder_of(alloc, found, number, group)?;
     put_group(alloc, found.to, place, link, &encoder, steps)

@@ -1,10 +1,14 @@
 //! The sending of a session: both files are read, and then the stream again.
 ghost use Rattle.std.specs.Prelude.{◌≡◌, ◌+◌, ◌≤◌, ◌*◌, ℕ, List, length, OnOk, OnErr, IfOk, IfErr};
 ghost use Rattle.std.specs.List.{sum_by};
-ghost use Rattle.pet_base.specs.Seen.{Seen, KeepsOutput, HadFault};
+ghost use Rattle.pet_base.specs.Seen.{Seen, KeepsOutput, HadFault, PlaceStops};
 ghost use Rattle.stream_session.specs.Sources.{IsSourceFault};
 ghost use Rattle.plan_text.specs.PlanLines.{send_text};
-ghost use Rattle.datagram_route.specs.RouteFaults.{IsStop, AimedFailed};
+ghost use Rattle.pet_base.specs.Causes.{stops};
+ghost use Rattle.pet_base.specs.LinkSeen.{LinkStops};
+ghost use Rattle.datagram_route.specs.RouteFaults.{IsStop, AimedFailed, stop_of_a_place, stop_of_a_link};
+ghost use Rattle.command_send.specs.Failures.{fault_of_place, fault_of_link};
+ghost use Rattle.stream_session.specs.Sources.{has_failed as source_failed};
 ghost use Rattle.datagram_route.specs.Sending.{routes};
 ghost use Rattle.datagram_route.specs.Way.{way_of};
 ghost use Rattle.command_send.specs.Sends.{Costs, HasPackets, IsOther, KeepsLink, LeavesFront, sent_line_text};
@@ -43,6 +47,9 @@ pub(crate) fn sent_line<P: Place, K: Link, L: Ledger>(
         (routes P.Place K.Link place.old link.old) (routes P.Place K.Link place.new link.new)) }
     ensures link { KeepsLink (way_of to.entry) (K.seen link.old) (K.seen link.new) }
     ensures costs { Costs stream.now priority.now (P.seen place.old) steps.old steps.new }
+    ensures once_place { PlaceStops (stops fault_of_place result) (P.seen place.old)
+        (P.seen place.new) }
+    ensures once_link { LinkStops (stops fault_of_link result) (K.seen link.old) (K.seen link.new) }
 {
     let found = read_first(alloc, stream, priority, to, place)?;
     send_session(alloc, stream, &found, place, link, steps)?;
@@ -64,6 +71,8 @@ pub(crate) fn read_first<'a, P: Place>(
     ensures later { (P.seen place.old).faults ≤ (P.seen place.new).faults }
     ensures cause { IfErr result (IsSourceFault (P.seen place.old) (P.seen place.new) stream.now
         priority.now) }
+    ensures once_place { PlaceStops (stops source_failed result) (P.seen place.old)
+        (P.seen place.new) }
 {
     let Ok(field) = Gf16Tables::new(alloc) else {
         return Err(SourceFault::NoMemory);
@@ -95,6 +104,9 @@ fn send_session<P: Place, K: Link, L: Ledger>(
         (way_of found.now.to) (routes P.Place K.Link place.old link.old) (routes P.Place K.Link place.new link.new)) }
     ensures link { KeepsLink (way_of found.now.to) (K.seen link.old) (K.seen link.new) }
     ensures cost { steps.new ≤ steps.old + sum_by words_cost found.now.source.tables.items }
+    ensures once_place { PlaceStops (stops fault_of_place result) (P.seen place.old)
+        (P.seen place.new) }
+    ensures once_link { LinkStops (stops fault_of_link result) (K.seen link.old) (K.seen link.new) }
 {
     reopen(stream, found.to, place, link)?;
     send_groups(alloc, place, link, found, steps)
@@ -117,6 +129,10 @@ fn reopen<P: Place, K: Link>(
     ensures cause { IfErr result (IsStop (HadFault (P.seen place.old) (P.seen place.new)
         (IsOfReopened stream.now (way_of to.entry)))
         (AimedFailed (way_of to.entry) (K.seen link.old) (K.seen link.new)) ⊥) }
+    ensures once_place { PlaceStops (stops stop_of_a_place result) (P.seen place.old)
+        (P.seen place.new) }
+    ensures once_link { LinkStops (stops stop_of_a_link result) (K.seen link.old)
+        (K.seen link.new) }
 {
     open_route(to, place, link)?;
     place.enter(stream)?;

@@ -14,10 +14,10 @@ use Rattle.pet_receive.specs.ShownBytes.{groups_told}
 use Rattle.store_text.specs.Files.{HasStore}
 use Rattle.command_video.specs.Ends.{IsPutEnd, PutsFront}
 use Rattle.command_video.specs.StoreVideo.{AreVideos}
-use Rattle.command_video.specs.Videos.{IsCause, WritesVideo, LeavesFront, FailedInTurn, video_file}
+use Rattle.command_video.specs.Videos.{Videos, WritesVideo, LeavesFront, FailedInTurn, video_file}
 use Rattle.command_video.proofs.VideoOrTable.{not_both}
 use Rattle.command_video.specs.declared.command.VideoEnd.{VideoEnd}
-use Rattle.command_video.specs.declared.command.VideoEnd.TheVariants.{Done, NoMemory, PlaceFault, OutFault, BadStore, BadTable}
+use Rattle.command_video.specs.declared.command.VideoEnd.TheVariants.{Done, NoMemory, PlaceFault, BadStore, BadTable}
 
 -- what the command ends with is what a step's error stands for
 pub end_is : {T : Type 0} (P : VideoEnd → Type 0) (result : Result T VideoEnd) (end : VideoEnd) → IsErrAnd result (λ e. e ≡ end) → P end → IfErr result P
@@ -40,7 +40,7 @@ module _ (store out : List ℕ) (old read : Seen) (set : KeptSet) (is : HasStore
     put_failed : HadFault made new (Blames Written made.target) → FailedInTurn store out old new
     put_failed fault = inr ((set, is), HadFault-since old made new (Blames Written made.target) (IsOneOf (writing out ∷ [])) (omega (arith, later, once)) (λ b blames. Blames-named read.files made.target out Written b named blames) fault)
 
-    not_put : (end : VideoEnd) → IsPutEnd (HadFault made new (Blames Written made.target)) set made new end → IsCause store out old new end
+    not_put : (end : VideoEnd) → IsPutEnd (HadFault made new (Blames Written made.target)) set made new end → Videos store out old new end
     not_put NoMemory part = has_front part
     not_put PlaceFault stopped = (put_failed stopped.0, has_front stopped.1)
     not_put (BadTable at) to = record {
@@ -53,8 +53,7 @@ module _ (store out : List ℕ) (old read : Seen) (set : KeptSet) (is : HasStore
       before = to.before;
       file = wrote to.video to.puts;
     }
-    not_put Done end = absurd end
-    not_put OutFault end = absurd end
+    not_put (Done bytes) end = absurd end
     not_put (BadStore at kind) end = absurd end
 
     all_put : (n : ℕ) → (video : List ℕ) × AreVideos set (groups_told set) video × Puts video made new × (n ≡ length video) → (w : WritesVideo store out old new) × (n ≡ length w.video)
@@ -72,6 +71,6 @@ module _ (store out : List ℕ) (old read : Seen) (set : KeptSet) (is : HasStore
 
     -- by what the putting answered
     pub when_put : (result : Result ℕ VideoEnd) → IfOk result (λ n. (video : List ℕ) × AreVideos set (groups_told set) video × Puts video made new × (n ≡ length video))
-        → IfErr result (IsPutEnd (HadFault made new (Blames Written made.target)) set made new) → IfOk result (λ n. (w : WritesVideo store out old new) × (n ≡ length w.video)) × IfErr result (IsCause store out old new)
+        → IfErr result (IsPutEnd (HadFault made new (Blames Written made.target)) set made new) → IfOk result (λ n. (w : WritesVideo store out old new) × (n ≡ length w.video)) × IfErr result (Videos store out old new)
     when_put (Ok n) done end = (all_put n done, tt)
     when_put (Err e) done end = (tt, not_put e end)

@@ -11,7 +11,7 @@ use Rattle.pet_receive.specs.ShownBytes.{groups_told}
 use Rattle.command_video.specs.Ends.{IsGroupEnd, IsPutEnd, PutsToTable}
 use Rattle.command_video.specs.StoreVideo.{AreVideos}
 use Rattle.command_video.specs.declared.command.VideoEnd.{VideoEnd}
-use Rattle.command_video.specs.declared.command.VideoEnd.TheVariants.{Done, NoMemory, PlaceFault, OutFault, BadStore, BadTable}
+use Rattle.command_video.specs.declared.command.VideoEnd.TheVariants.{Done, NoMemory, PlaceFault, BadStore, BadTable}
 use Rattle.command_video.proofs.GroupVideos.{group_more}
 
 module _ (set : KeptSet) (group : ℕ) (first before after : Seen) (video : List ℕ) (videos : AreVideos set group video) (puts : Puts video first before) (inside : group < groups_told set)
@@ -38,6 +38,5 @@ module _ (set : KeptSet) (group : ℕ) (first before after : Seen) (video : List
   )
   stopped_at (BadTable at) stopped =
       subst (λ (k : ℕ). PutsToTable set k first after) (sym stopped.0) (record { inside = inside; bad = stopped.1; video = video; before = videos; puts = unchanged stopped.2 })
-  stopped_at Done stopped = absurd stopped
-  stopped_at OutFault stopped = absurd stopped
+  stopped_at (Done bytes) stopped = absurd stopped
   stopped_at (BadStore at kind) stopped = absurd stopped

@@ -2,4 +2,3 @@ mod GroupVideos
 mod GroupAfterGroup
 mod VideoOrTable
 mod Causes
-mod Printing

@@ -1,5 +1,5 @@
 -- The end of the command by what a step of it answered. This project's own.
-use Rattle.std.specs.Prelude.{◌≡◌, ℕ, ◌<◌, ◌≤◌, List, [], ◌∷◌}
+use Rattle.std.specs.Prelude.{◌≡◌, Bool, true, false, ℕ, ◌<◌, ◌≤◌, List, [], ◌∷◌}
 use Rattle.pet_base.specs.Seen.{Seen}
 use Rattle.command_files.specs.Uses.{reading, Failed}
 use Rattle.command_files.specs.Outputs.{Puts, PutsPart}
@@ -9,24 +9,22 @@ use Rattle.store_text.specs.Files.{HasBadStore}
 use Rattle.store_text.specs.declared.fault.BadStore.TheVariants.{At}
 use Rattle.command_video.specs.StoreVideo.{AreVideos, IsGroupVideo, HasBadTable}
 use Rattle.command_video.specs.declared.command.VideoEnd.{VideoEnd}
-use Rattle.command_video.specs.declared.command.VideoEnd.TheVariants.{Done, NoMemory, PlaceFault, OutFault, BadStore, BadTable}
+use Rattle.command_video.specs.declared.command.VideoEnd.TheVariants.{Done, NoMemory, PlaceFault, BadStore, BadTable}
 
 -- of a store that was not read, and why
 abbrev pub IsReadEnd : Seen → Seen → List ℕ → VideoEnd → Type 0
 IsReadEnd old new name NoMemory = Unit {0}
 IsReadEnd old new name PlaceFault = Failed (reading name ∷ []) old new
 IsReadEnd old new name (BadStore at kind) = HasBadStore old.files name (At at kind)
-IsReadEnd old new name Done = ⊥
-IsReadEnd old new name OutFault = ⊥
+IsReadEnd old new name (Done bytes) = ⊥
 IsReadEnd old new name (BadTable group) = ⊥
 
 -- of a group whose video was not put together
 abbrev pub IsTableEnd : KeptSet → ℕ → VideoEnd → Type 0
 IsTableEnd set group NoMemory = Unit {0}
 IsTableEnd set group (BadTable at) = (at ≡ group) × HasBadTable set group
-IsTableEnd set group Done = ⊥
+IsTableEnd set group (Done bytes) = ⊥
 IsTableEnd set group PlaceFault = ⊥
-IsTableEnd set group OutFault = ⊥
 IsTableEnd set group (BadStore at kind) = ⊥
 
 -- of a group whose video was not put, or only a front of it: nothing was put where it has a bad table
@@ -34,8 +32,7 @@ abbrev pub IsGroupEnd : Type 0 → KeptSet → ℕ → Seen → Seen → VideoEn
 IsGroupEnd failed set group old new NoMemory = new.files ≡ old.files
 IsGroupEnd failed set group old new PlaceFault = failed × ((video : List ℕ) × IsGroupVideo set group video × PutsPart video old new)
 IsGroupEnd failed set group old new (BadTable at) = (at ≡ group) × HasBadTable set group × (new.files ≡ old.files)
-IsGroupEnd failed set group old new Done = ⊥
-IsGroupEnd failed set group old new OutFault = ⊥
+IsGroupEnd failed set group old new (Done bytes) = ⊥
 IsGroupEnd failed set group old new (BadStore at kind) = ⊥
 
 -- the videos of the first groups, or a front of them, were put
@@ -59,6 +56,13 @@ abbrev pub IsPutEnd : Type 0 → KeptSet → Seen → Seen → VideoEnd → Type
 IsPutEnd failed set old new NoMemory = PutsFront set old new
 IsPutEnd failed set old new PlaceFault = failed × PutsFront set old new
 IsPutEnd failed set old new (BadTable group) = PutsToTable set group old new
-IsPutEnd failed set old new Done = ⊥
-IsPutEnd failed set old new OutFault = ⊥
+IsPutEnd failed set old new (Done bytes) = ⊥
 IsPutEnd failed set old new (BadStore at kind) = ⊥
+
+-- which ends tell of a failure of the place
+abbrev pub has_failed : VideoEnd → Bool
+has_failed (Done bytes) = false
+has_failed NoMemory = false
+has_failed PlaceFault = true
+has_failed (BadStore at kind) = false
+has_failed (BadTable group) = false

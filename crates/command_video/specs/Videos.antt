@@ -1,18 +1,15 @@
 -- What `video` leaves at each of its ends. This project's own.
 use Rattle.std.specs.Prelude.{◌≡◌, ◌⊎◌, ℕ, ◌<◌, ◌≤◌, List, [], ◌∷◌, length, None, Some}
-use Rattle.pet_base.specs.OutsideSeen.{OutsideSeen}
 use Rattle.pet_base.specs.Seen.{Seen}
-use Rattle.command_files.specs.Printed.{Printed, Unprinted, PrintedFront}
 use Rattle.command_files.specs.Uses.{reading, writing, Failed}
 use Rattle.command_files.specs.Wrote.{File, Wrote}
 use Rattle.kept_sets.specs.KeptSet.{KeptSet}
 use Rattle.pet_receive.specs.ShownBytes.{groups_told}
 use Rattle.store_text.specs.Files.{HasStore, HasBadStore}
 use Rattle.store_text.specs.declared.fault.BadStore.TheVariants.{At}
-use Rattle.pet_text.specs.Lines.{video_text}
 use Rattle.command_video.specs.StoreVideo.{AreVideos, IsGroupVideo, HasBadTable}
 use Rattle.command_video.specs.declared.command.VideoEnd.{VideoEnd}
-use Rattle.command_video.specs.declared.command.VideoEnd.TheVariants.{Done, NoMemory, PlaceFault, OutFault, BadStore, BadTable}
+use Rattle.command_video.specs.declared.command.VideoEnd.TheVariants.{Done, NoMemory, PlaceFault, BadStore, BadTable}
 
 -- the file is a store
 abbrev pub IsStore : List ℕ → Seen → Type 0
@@ -60,31 +57,10 @@ pub record StopsAtTable (store out : List ℕ) (group : ℕ) (old new : Seen) : 
   pub before : AreVideos set group video
   pub file : Wrote (video_file out video ∷ []) None old new
 
--- Why `video` ends so before it prints, and what it leaves of OUT.
-abbrev pub IsCause : List ℕ → List ℕ → Seen → Seen → VideoEnd → Type 0
-IsCause store out old new Done = ⊥
-IsCause store out old new OutFault = ⊥
-IsCause store out old new NoMemory = LeavesFront store out old new
-IsCause store out old new PlaceFault = FailedInTurn store out old new × LeavesFront store out old new
-IsCause store out old new (BadStore at kind) = HasBadStore old.files store (At at kind) × (new.files ≡ old.files)
-IsCause store out old new (BadTable group) = StopsAtTable store out group old new
-
--- the line of so many bytes as the video has
-abbrev pub video_line : {store out : List ℕ} {old new : Seen} → WritesVideo store out old new → List ℕ
-video_line w = video_text (length w.video)
-
--- OUT has the video of the store, and its line was printed, or a front of it where the output failed. At every other end its cause
--- holds of the files, and nothing was printed.
-abbrev pub EndsVideo : List ℕ → List ℕ → OutsideSeen → OutsideSeen → VideoEnd → Type 0
-EndsVideo store out before after Done = (w : WritesVideo store out before.place after.place) × Printed (video_line w) before after
-EndsVideo store out before after OutFault = (w : WritesVideo store out before.place after.place) × PrintedFront (video_line w) before after
-EndsVideo store out before after NoMemory = IsCause store out before.place after.place NoMemory × Unprinted before after
-EndsVideo store out before after PlaceFault = IsCause store out before.place after.place PlaceFault × Unprinted before after
-EndsVideo store out before after (BadStore at kind) = IsCause store out before.place after.place (BadStore at kind) × Unprinted before after
-EndsVideo store out before after (BadTable group) = IsCause store out before.place after.place (BadTable group) × Unprinted before after
-
--- what `video` does: it sends nothing, and the faults of the output do not fall
-pub record Videos (store out : List ℕ) (before after : OutsideSeen) (end : VideoEnd) : Type 0 where
-  pub link : after.link ≡ before.link
-  pub later : before.out_faults ≤ after.out_faults
-  pub ends : EndsVideo store out before after end
+-- What `video` does, by its end.
+abbrev pub Videos : List ℕ → List ℕ → Seen → Seen → VideoEnd → Type 0
+Videos store out old new (Done bytes) = (w : WritesVideo store out old new) × (bytes ≡ length w.video)
+Videos store out old new NoMemory = LeavesFront store out old new
+Videos store out old new PlaceFault = FailedInTurn store out old new × LeavesFront store out old new
+Videos store out old new (BadStore at kind) = HasBadStore old.files store (At at kind) × (new.files ≡ old.files)
+Videos store out old new (BadTable group) = StopsAtTable store out group old new

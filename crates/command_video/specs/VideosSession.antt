@@ -1,13 +1,10 @@
 -- `video` of the store of a session of a stream. This project's own.
 use Rattle.std.specs.Prelude.{◌≡◌, ◌≢◌, ℕ, ◌<◌, true, List, [], ◌∷◌, All, length, Some}
-use Rattle.pet_base.specs.OutsideSeen.{OutsideSeen}
 use Rattle.pet_base.specs.Seen.{Seen, Files, with_file}
-use Rattle.command_files.specs.Printed.{Printed}
-use Rattle.command_files.specs.Uses.{reading, writing, IsWell}
+use Rattle.command_files.specs.Uses.{reading, writing, Failed}
 use Rattle.met_packets.specs.Met.{Pair, all_shown}
 use Rattle.met_packets.specs.MetStore.{pairs_store}
 use Rattle.stream_session.specs.Accepted.{IsAcceptedSession, session_of}
-use Rattle.pet_text.specs.Lines.{video_text}
 use Rattle.command_video.specs.StreamVideo.{stream_video, stream_pieces}
 use Rattle.command_video.specs.declared.command.VideoEnd.{VideoEnd}
 use Rattle.command_video.specs.declared.command.VideoEnd.TheVariants.{Done, NoMemory}
@@ -19,27 +16,22 @@ pub record HasStoreOf (priority stream store : List ℕ) (files : Files) (pairs 
   pub told : old.files ≡ Some files
   pub store_is : files store ≡ Some (pairs_store (session_of priority stream) pairs)
 
--- memory was found, and neither the place nor the output had a fault of this call
-pub record CanVideo (priority stream store out : List ℕ) (files : Files) (pairs : List Pair) (before after : OutsideSeen) (end : VideoEnd) : Type 0 where
+-- memory was found, and the place had no fault of this call
+pub record CanVideo (priority stream store out : List ℕ) (files : Files) (pairs : List Pair) (old new : Seen) (end : VideoEnd) : Type 0 where
   pub memory : end ≢ NoMemory
-  pub well : IsWell (reading store ∷ writing out ∷ []) before after
-  pub given : HasStoreOf priority stream store files pairs before.place
-
--- the line of the bytes of the stream that are shown
-abbrev pub shown_line : List ℕ → List ℕ → List Pair → List ℕ
-shown_line priority stream pairs = video_text (length (stream_video priority stream pairs))
+  pub well : Failed (reading store ∷ writing out ∷ []) old new → ⊥
+  pub given : HasStoreOf priority stream store files pairs old
 
 -- OUT has the bytes of the stream that are shown, and no other file has changed. These are the bytes of the pieces in the leading
 -- layers that are shown, and the stream where every layer of every group is shown.
-pub record VideosSession (priority stream out : List ℕ) (files : Files) (pairs : List Pair) (before after : OutsideSeen) (end : VideoEnd) : Type 0 where
-  pub file : after.place.files ≡ Some (with_file out (stream_video priority stream pairs) files)
+pub record VideosSession (priority stream out : List ℕ) (files : Files) (pairs : List Pair) (new : Seen) (end : VideoEnd) : Type 0 where
+  pub file : new.files ≡ Some (with_file out (stream_video priority stream pairs) files)
   pub pieces : stream_video priority stream pairs ≡ stream_pieces priority stream pairs
   pub whole : all_shown (session_of priority stream) pairs ≡ true → stream_video priority stream pairs ≡ stream
-  pub ended : end ≡ Done
-  pub printed : Printed (shown_line priority stream pairs) before after
+  pub ended : end ≡ Done (length (stream_video priority stream pairs))
 
 -- so it is for every such store of every stream
-abbrev pub CompletesVideo : List ℕ → List ℕ → OutsideSeen → OutsideSeen → VideoEnd → Type 0
-CompletesVideo store out before after end =
-    (priority stream : List ℕ) (files : Files) (pairs : List Pair) → CanVideo priority stream store out files pairs before after end
-    → VideosSession priority stream out files pairs before after end
+abbrev pub CompletesVideo : List ℕ → List ℕ → Seen → Seen → VideoEnd → Type 0
+CompletesVideo store out old new end =
+    (priority stream : List ℕ) (files : Files) (pairs : List Pair) → CanVideo priority stream store out files pairs old new end
+    → VideosSession priority stream out files pairs new end

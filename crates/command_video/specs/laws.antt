@@ -4,4 +4,3 @@ pub mod VideosOfStream
 pub mod WholeStream
 pub mod PiecesShown
 pub mod SessionVideo
-pub mod VideoLineLaws

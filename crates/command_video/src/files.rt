@@ -1,8 +1,8 @@
 //! Reading a store, and writing the videos of its groups.
 ghost use Rattle.std.specs.Prelude.{◌≡◌, ◌<◌, ◌≤◌, ℕ, List, [], ◌∷◌, length, true, IfOk, IfErr, OnOk};
 ghost use Rattle.pet_base.specs.declared.place.Side.TheVariants.{Written};
-ghost use Rattle.pet_base.specs.Causes.{Blames};
-ghost use Rattle.pet_base.specs.Seen.{Seen, KeepsOutput, OnlyWrites, HadFault};
+ghost use Rattle.pet_base.specs.Causes.{Blames, stops};
+ghost use Rattle.pet_base.specs.Seen.{Seen, KeepsOutput, OnlyWrites, HadFault, PlaceStops};
 ghost use Rattle.pet_field.specs.Gf16.{gf16_coding};
 ghost use Rattle.pet_receive.specs.Arrivals.{HasKept, kept_set};
 ghost use Rattle.kept_sets.specs.KeptSet.{IsKeptSet};
@@ -10,9 +10,9 @@ ghost use Rattle.pet_receive.specs.ShownBytes.{groups_told};
 ghost use Rattle.store_text.specs.Files.{HasStore};
 ghost use Rattle.store_read.specs.Reading.{pairs_in};
 ghost use Rattle.command_files.specs.Outputs.{Puts};
-ghost use Rattle.command_video.specs.Ends.{IsReadEnd, IsTableEnd, IsGroupEnd, IsPutEnd};
+ghost use Rattle.command_video.specs.Ends.{IsReadEnd, IsTableEnd, IsGroupEnd, IsPutEnd, has_failed};
 ghost use Rattle.command_video.specs.StoreVideo.{AreVideos, IsGroupVideo};
-ghost use Rattle.command_video.specs.Videos.{IsCause, WritesVideo};
+ghost use Rattle.command_video.specs.Videos.{Videos, WritesVideo};
 
 use crate::command::VideoEnd;
 use pet_base::{Failed, NoMemory, Place, Steps};
@@ -53,7 +53,8 @@ pub(crate) fn write_video<P: Place, L: Ledger>(
 ) -> Result<u64, VideoEnd>
     ensures done { IfOk result (λ n. (w : WritesVideo store.now out.now (P.seen place.old)
         (P.seen place.new)) × (n ≡ length w.video)) }
-    ensures cause { IfErr result (IsCause store.now out.now (P.seen place.old) (P.seen place.new)) }
+    ensures cause { IfErr result (Videos store.now out.now (P.seen place.old) (P.seen place.new)) }
+    ensures once { PlaceStops (stops has_failed result) (P.seen place.old) (P.seen place.new) }
 {
     let field = Gf16Tables::new(alloc)?;
     let receiver = read_receiver(alloc, &field, store, place, steps)?;
@@ -76,6 +77,7 @@ fn read_receiver<'f, P: Place, L: Ledger>(
     ensures end { IfErr result (IsReadEnd (P.seen place.old) (P.seen place.new) store.now) }
     ensures others { KeepsOutput (P.seen place.old) (P.seen place.new) }
     ensures later { (P.seen place.old).faults ≤ (P.seen place.new).faults }
+    ensures once { PlaceStops (stops has_failed result) (P.seen place.old) (P.seen place.new) }
 {
     match read_store_file(alloc, field, store, place, steps) {
         Ok(receiver) => Ok(receiver),
@@ -101,6 +103,7 @@ fn put_groups<P: Place>(
     ensures end { IfErr result (IsPutEnd (HadFault (P.seen place.old) (P.seen place.new) (Blames Written (P.seen place.old).target))
         (kept_set receiver.now) (P.seen place.old) (P.seen place.new)) }
     ensures later { (P.seen place.old).faults ≤ (P.seen place.new).faults }
+    ensures once { PlaceStops (stops has_failed result) (P.seen place.old) (P.seen place.new) }
 {
     let mut video = Vec::new(alloc);
     let mut bytes = 0u64;
@@ -127,6 +130,7 @@ fn put_group_video<P: Place>(
         (kept_set receiver.now) group (P.seen place.old) (P.seen place.new)) }
     ensures others { OnlyWrites (P.seen place.old) (P.seen place.new) }
     ensures later { (P.seen place.old).faults ≤ (P.seen place.new).faults }
+    ensures once { PlaceStops (stops has_failed result) (P.seen place.old) (P.seen place.new) }
 {
     group_video(receiver, group, video)?;
     place.put(video.as_slice())?;

@@ -1,5 +1,5 @@
 -- Which cause each failure has on a way. This project's own.
-use Rattle.std.specs.Prelude.{◌≡◌}
+use Rattle.std.specs.Prelude.{◌≡◌, Bool, true, false}
 use Rattle.pet_base.specs.Causes.{Blames}
 use Rattle.pet_base.specs.declared.faults.Stop.{Stop}
 use Rattle.pet_base.specs.declared.faults.Stop.TheVariants as place
@@ -18,12 +18,33 @@ abbrev pub IsFailure : Type 0 → Type 0 → RouteFailed → Type 0
 IsFailure of_place of_link failed.Place = of_place
 IsFailure of_place of_link failed.Link = of_link
 
+-- of which object it is
+abbrev pub of_place : RouteFailed → Bool
+of_place failed.Place = true
+of_place failed.Link = false
+
+abbrev pub of_link : RouteFailed → Bool
+of_link failed.Place = false
+of_link failed.Link = true
+
 -- when each stop comes: want of memory at any time, the others where a call of that object failed
 abbrev pub IsStop : Type 0 → Type 0 → Type 0 → RouteStop → Type 0
 IsStop of_place of_link of_out stop.NoMemory = Unit {0}
 IsStop of_place of_link of_out stop.Place = of_place
 IsStop of_place of_link of_out stop.Link = of_link
 IsStop of_place of_link of_out stop.Out = of_out
+
+abbrev pub stop_of_a_place : RouteStop → Bool
+stop_of_a_place stop.NoMemory = false
+stop_of_a_place stop.Place = true
+stop_of_a_place stop.Link = false
+stop_of_a_place stop.Out = false
+
+abbrev pub stop_of_a_link : RouteStop → Bool
+stop_of_a_link stop.NoMemory = false
+stop_of_a_link stop.Place = false
+stop_of_a_link stop.Link = true
+stop_of_a_link stop.Out = false
 
 -- the stop that a place's is, and that a failure is
 abbrev pub stop_of_place : Stop → RouteStop

@@ -1,15 +1,15 @@
 //! Receiving datagrams.
-ghost use Rattle.std.specs.Prelude.{◌≡◌, ◌≤◌, length, true, option_map, IfOk, IfErr, OnErr};
+ghost use Rattle.std.specs.Prelude.{◌≡◌, ◌≤◌, length, true, option_map, is_err, IfOk, IfErr, OnErr};
 ghost use Rattle.pet_base.specs.declared.limits.TheConstants.{MAX_ENTRY};
 ghost use Rattle.pet_base.specs.declared.place.Side.TheVariants.{Read};
 ghost use Rattle.pet_base.specs.declared.link.LinkSide.TheVariants.{Bound};
-ghost use Rattle.pet_base.specs.Causes.{Blames};
+ghost use Rattle.pet_base.specs.Causes.{Blames, stops};
 ghost use Rattle.pet_base.specs.Entries.{IsShort, datagrams};
-ghost use Rattle.pet_base.specs.LinkSeen.{OnlyReceives, HasBlame as HasLinkBlame};
-ghost use Rattle.pet_base.specs.Seen.{OnlyReads, HasBlame};
+ghost use Rattle.pet_base.specs.LinkSeen.{OnlyReceives, HasBlame as HasLinkBlame, LinkStops};
+ghost use Rattle.pet_base.specs.Seen.{OnlyReads, HasBlame, PlaceStops};
 ghost use Rattle.datagram_route.specs.Way.{way_of};
 ghost use Rattle.datagram_route.specs.Coming.{coming, TakesDatagram, KeepsFeed, OnlyTakes, HasInput};
-ghost use Rattle.datagram_route.specs.RouteFaults.{IsFailure, InputFailed, ReceivingFailed};
+ghost use Rattle.datagram_route.specs.RouteFaults.{IsFailure, InputFailed, ReceivingFailed, of_place, of_link};
 
 use crate::fault::RouteFailed;
 use crate::route::Route;
@@ -34,6 +34,8 @@ pub fn next_datagram<P: Place, K: Link>(
     ensures cause { IfErr result (IsFailure
         (InputFailed (way_of route.entry) (P.seen place.old) (P.seen place.new))
         (ReceivingFailed (way_of route.entry) (K.seen link.old) (K.seen link.new))) }
+    ensures once_place { PlaceStops (stops of_place result) (P.seen place.old) (P.seen place.new) }
+    ensures once_link { LinkStops (stops of_link result) (K.seen link.old) (K.seen link.new) }
 {
     match route {
         Route::File(_) => read_entry(place, into).map_err(|_| RouteFailed::Place),
@@ -52,6 +54,7 @@ fn read_entry<P: Place>(place: &mut P, into: &mut [u8]) -> Result<Entry, Failed>
     ensures others { OnlyReads (P.seen place.old) (P.seen place.new) }
     ensures cause { HasBlame (P.seen place.old) (P.seen place.new) result
         (Blames Read (P.seen place.old).source) }
+    ensures once { PlaceStops (is_err result) (P.seen place.old) (P.seen place.new) }
 {
     next_entry(place, into)
 }
@@ -66,6 +69,7 @@ fn receive<K: Link>(link: &mut K, into: &mut [u8]) -> Result<Entry, Failed>
     ensures others { OnlyReceives (K.seen link.old) (K.seen link.new) }
     ensures cause { HasLinkBlame (K.seen link.old) (K.seen link.new) result
         (Blames Bound (K.seen link.old).bound) }
+    ensures once { LinkStops (is_err result) (K.seen link.old) (K.seen link.new) }
 {
     match link.next(into)? {
         Got::Datagram(len) => Ok(Entry::Datagram(len)),

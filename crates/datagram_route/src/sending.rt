@@ -1,6 +1,9 @@
 //! Sending datagrams to a route.
 ghost use Rattle.std.specs.Prelude.{◌≡◌, ◌∷◌, [], drop, OnOk, OnErr, IfErr};
-ghost use Rattle.datagram_route.specs.RouteFaults.{IsFailure, AimedFailed};
+ghost use Rattle.datagram_route.specs.RouteFaults.{IsFailure, AimedFailed, of_place, of_link};
+ghost use Rattle.pet_base.specs.Causes.{stops};
+ghost use Rattle.pet_base.specs.LinkSeen.{LinkStops};
+ghost use Rattle.pet_base.specs.Seen.{PlaceStops};
 ghost use Rattle.datagram_route.specs.Sending.{routes, Sends, SendsPart, IsOpen, OnlyGrows, OutputFailed, SendingFailed, IsOpened, OnlyOpens, IsUnopened, CreatingFailed};
 ghost use Rattle.pet_base.specs.Entries.{entry_text};
 ghost use Rattle.datagram_route.specs.Way.{way_of};
@@ -30,6 +33,8 @@ pub fn open_route<P: Place, K: Link>(
         (routes P.Place K.Link place.new link.new) }
     ensures cause { IfErr result (IsFailure (CreatingFailed (way_of to.entry) (P.seen place.old) (P.seen place.new))
         (AimedFailed (way_of to.entry) (K.seen link.old) (K.seen link.new))) }
+    ensures once_place { PlaceStops (stops of_place result) (P.seen place.old) (P.seen place.new) }
+    ensures once_link { LinkStops (stops of_link result) (K.seen link.old) (K.seen link.new) }
 {
     match to {
         Route::File(name) => match place.create(name) {
@@ -65,6 +70,8 @@ pub fn put_entry<P: Place, K: Link>(
         (routes P.Place K.Link place.new link.new) }
     ensures cause { IfErr result (IsFailure (OutputFailed (way_of to.entry) (P.seen place.old) (P.seen place.new))
         (SendingFailed (way_of to.entry) (K.seen link.old) (K.seen link.new))) }
+    ensures once_place { PlaceStops (stops of_place result) (P.seen place.old) (P.seen place.new) }
+    ensures once_link { LinkStops (stops of_link result) (K.seen link.old) (K.seen link.new) }
 {
     match to {
         Route::File(_) => match place.put(entry) {

@@ -1,12 +1,12 @@
 //! The records of the layers that one arrival shows.
-ghost use Rattle.std.specs.Prelude.{◌≡◌, ◌==◌, ◌<◌, ◌≤◌, ◌^◌, ℕ, List, [], ◌∷◌, ◌++◌, length, map, true, All, Some, IsSome, OnOk, OnErr};
+ghost use Rattle.std.specs.Prelude.{◌≡◌, ◌==◌, ◌<◌, ◌≤◌, ◌^◌, ℕ, List, [], ◌∷◌, ◌++◌, length, map, true, All, Some, IsSome, OnOk, OnErr, is_err};
 ghost use Rattle.std.specs.Int.{w32, to_be_bytes, bit_at};
 ghost use Rattle.pet_base.specs.declared.limits.TheConstants.{MAX_GROUP_BYTES};
 ghost use Rattle.stripe_plan.specs.Sizes.{bytes_of};
 ghost use Rattle.packet_set.specs.Packets.{Packets};
 ghost use Rattle.pet_base.specs.declared.place.Side.TheVariants.{Written};
 ghost use Rattle.pet_base.specs.Causes.{Blames};
-ghost use Rattle.pet_base.specs.Seen.{Seen, OnlyWrites, HasBlame};
+ghost use Rattle.pet_base.specs.Seen.{Seen, OnlyWrites, HasBlame, PlaceStops};
 ghost use Rattle.pet_receive.specs.Arrivals.{Order, HasKept, kept_set, numbers_of, layers_of};
 ghost use Rattle.kept_sets.specs.KeptSet.{open_group};
 ghost use Rattle.pet_receive.specs.ShownBytes.{IsShown};
@@ -54,6 +54,7 @@ pub fn put_shown<P: Place, F: Rows>(
     ensures others { OnlyWrites (P.seen place.old) (P.seen place.new) }
     ensures cause { HasBlame (P.seen place.old) (P.seen place.new) result
         (Blames Written (P.seen place.old).target) }
+    ensures once { PlaceStops (is_err result) (P.seen place.old) (P.seen place.new) }
 {
     let layers = shown_layers(receiver, group, shown);
     put_records(place, arrival, group, layers.as_slice())
@@ -110,6 +111,7 @@ fn put_records<P: Place>(
     ensures others { OnlyWrites (P.seen place.old) (P.seen place.new) }
     ensures cause { HasBlame (P.seen place.old) (P.seen place.new) result
         (Blames Written (P.seen place.old).target) }
+    ensures once { PlaceStops (is_err result) (P.seen place.old) (P.seen place.new) }
 {
     for shown in layers {
         put_record(place, arrival, group, shown.layer, shown.bytes)?;
@@ -134,6 +136,7 @@ fn put_record<P: Place>(
     ensures others { OnlyWrites (P.seen place.old) (P.seen place.new) }
     ensures cause { HasBlame (P.seen place.old) (P.seen place.new) result
         (Blames Written (P.seen place.old).target) }
+    ensures once { PlaceStops (is_err result) (P.seen place.old) (P.seen place.new) }
 {
     place.put(record_head(arrival, group, layer, bytes.len() as u32).as_slice())?;
     place.put(bytes)

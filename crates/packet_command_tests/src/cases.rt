@@ -100,8 +100,8 @@ fn ends<P: Place, K: Link, S: Sink, L: Ledger>(
     outside: &mut Outside<P, K, S, L>,
 ) -> bool {
     match run {
-        Run::Merge(end) => merge(alloc, "a", "b", "c", outside) == end,
-        Run::Video(end) => video(alloc, "a", "c", outside) == end,
+        Run::Merge(end) => merge(alloc, "a", "b", "c", outside.place, outside.steps) == end,
+        Run::Video(end) => video(alloc, "a", "c", outside.place, outside.steps) == end,
         Run::Receive(session, end) => {
             receive(alloc, Route::File("a"), session, "c", "d", outside) == end
         }

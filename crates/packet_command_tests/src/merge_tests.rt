@@ -7,8 +7,6 @@ use example_session::SESSION;
 use std::alloc::Global;
 use store_text::StoreKind;
 
-const DONE: Run = Run::Merge(MergeEnd::Done);
-
 const FAULT: Run = Run::Merge(MergeEnd::PlaceFault);
 
 /// Stores of the example session, and the bytes of each.
@@ -40,58 +38,58 @@ static MERGED: [Case; 8] = [
     (
         (Some(ONE_AND_TWO), Some(TWO_AND_FIVE)),
         ALL_GO,
-        DONE,
+        Run::Merge(MergeEnd::Done(3)),
         (Some(THREE), None),
-        "merged 3\n",
+        "",
     ),
     (
         (Some(TWO_AND_FIVE), Some(ONE_AND_TWO)),
         ALL_GO,
-        DONE,
+        Run::Merge(MergeEnd::Done(3)),
         (Some(THREE), None),
-        "merged 3\n",
+        "",
     ),
     (
         (Some(ONE_AND_TWO), Some(ONE_AND_TWO)),
         ALL_GO,
-        DONE,
+        Run::Merge(MergeEnd::Done(2)),
         (Some(ONE_AND_TWO), None),
-        "merged 2\n",
+        "",
     ),
     (
         (Some(ONE_AND_TWO), Some(ONE_AND_TWO)),
         ALL_GO,
-        DONE,
+        Run::Merge(MergeEnd::Done(2)),
         (Some(ONE_AND_TWO), None),
-        "merged 2\n",
+        "",
     ),
     (
         (Some(NOTHING), Some(WHOLE)),
         ALL_GO,
-        DONE,
+        Run::Merge(MergeEnd::Done(6)),
         (Some(WHOLE), None),
-        "merged 6\n",
+        "",
     ),
     (
         (Some(WHOLE), Some(NOTHING)),
         ALL_GO,
-        DONE,
+        Run::Merge(MergeEnd::Done(6)),
         (Some(WHOLE), None),
-        "merged 6\n",
+        "",
     ),
     (
         (Some(TWO_AND_FIVE), Some(WHOLE)),
         ALL_GO,
-        DONE,
+        Run::Merge(MergeEnd::Done(6)),
         (Some(WHOLE), None),
-        "merged 6\n",
+        "",
     ),
     (
         (Some(WHOLE), Some(TWO_AND_FIVE)),
         ALL_GO,
-        DONE,
+        Run::Merge(MergeEnd::Done(6)),
         (Some(WHOLE), None),
-        "merged 6\n",
+        "",
     ),
 ];
 
@@ -175,7 +173,7 @@ fn refuses_stores_that_are_bad_or_cannot_be_joined(rt: HostRuntime) {
 const PAIR: (Option<File>, Option<File>) = (Some(ONE_AND_TWO), Some(TWO_AND_FIVE));
 
 /// Calls that fail, and the store that is then there.
-static FAILING: [Case; 11] = [
+static FAILING: [Case; 9] = [
     // the first store is entered, taken whole, and ends
     (PAIR, [&[], &[0], &[]], FAULT, (None, None), ""),
     (PAIR, [&[], &[1], &[]], FAULT, (None, None), ""),
@@ -187,27 +185,13 @@ static FAILING: [Case; 11] = [
     // OUT is made, and put in one
     (PAIR, [&[], &[6], &[]], FAULT, (None, None), ""),
     (PAIR, [&[], &[7], &[]], FAULT, (Some(&[]), None), ""),
-    // there are no more calls of the place, and the line is put in one
+    // there are no more calls of the place
     (
         PAIR,
         [&[], &[8], &[]],
-        DONE,
-        (Some(THREE), None),
-        "merged 3\n",
-    ),
-    (
-        PAIR,
-        [&[], &[], &[0]],
-        Run::Merge(MergeEnd::OutFault),
+        Run::Merge(MergeEnd::Done(3)),
         (Some(THREE), None),
         "",
-    ),
-    (
-        PAIR,
-        [&[], &[], &[1]],
-        DONE,
-        (Some(THREE), None),
-        "merged 3\n",
     ),
 ];
 

@@ -14,9 +14,9 @@ pub(crate) struct UntoldLink<'a> {
 }
 
 impl Link for UntoldLink<'_> {
-    ghost use Rattle.std.specs.Prelude.{None};
+    ghost use Rattle.std.specs.Prelude.{None, false};
 
-    ghost seen = { λ l. record { feed = None; sent = None; port = l.port; bound = None; aimed = None; blamed = None; faults = 0 } };
+    ghost seen = { λ l. record { feed = None; sent = None; port = l.port; bound = None; aimed = None; blamed = None; faults = 0; failing = false } };
 
     ghost small = { λ _. tt };
 
@@ -55,6 +55,8 @@ pub(crate) struct UntoldPlace<'a> {
     /// Whether there is an output, and whether it is `c`.
     pub(crate) output: Option<bool>,
     pub(crate) faults: u64,
+    /// Whether the last call failed.
+    pub(crate) failing: bool,
 }
 
 impl<'a> UntoldPlace<'a> {
@@ -65,6 +67,7 @@ impl<'a> UntoldPlace<'a> {
             input: false,
             output: None,
             faults: 0,
+            failing: false,
         }
     }
 }
@@ -81,26 +84,32 @@ impl Place for UntoldPlace<'_> {
       has_output = is_some p.output;
       blamed = None;
       faults = p.faults;
+      failing = p.failing;
     } };
 
     fn enter(&mut self, _name: &str) -> Result<(), Failed> {
+        self.failing = false;
         self.input = true;
         Ok(())
     }
 
     fn take(&mut self, _into: &mut [u8]) -> Result<usize, Failed> {
+        self.failing = false;
         Ok(0)
     }
 
     fn create(&mut self, name: &str) -> Result<(), Failed> {
+        self.failing = false;
         self.output = Some(name == "c");
         Ok(())
     }
 
     fn put(&mut self, _bytes: &[u8]) -> Result<(), Failed> {
+        self.failing = false;
         if self.output == Some(true) {
             if let Err(_) = self.moments.push(self.asked.get()) {
                 self.faults = self.faults.saturating_add(1);
+                self.failing = true;
                 return Err(Failed);
             }
         }

@@ -12,8 +12,6 @@ use command_video::VideoEnd;
 use example_session::{SESSION, STREAM};
 use store_text::StoreKind;
 
-const DONE: Run = Run::Video(VideoEnd::Done);
-
 const FAULT: Run = Run::Video(VideoEnd::PlaceFault);
 
 /// The store of packets 0 and 4 of the example session, and of 0, 4 and 5.
@@ -47,38 +45,38 @@ static SHOWN: [Case; 5] = [
     (
         (Some(WHOLE), None),
         ALL_GO,
-        DONE,
+        Run::Video(VideoEnd::Done(44)),
         (Some(&[Piece::Bytes(&STREAM)]), None),
-        "video 44\n",
+        "",
     ),
     (
         (Some(TWO), None),
         ALL_GO,
-        DONE,
+        Run::Video(VideoEnd::Done(22)),
         (Some(&[HEADERS_AND_I, END]), None),
-        "video 22\n",
+        "",
     ),
     (
         (Some(THREE), None),
         ALL_GO,
-        DONE,
+        Run::Video(VideoEnd::Done(29)),
         (Some(&[HEADERS_AND_I, P, END]), None),
-        "video 29\n",
+        "",
     ),
     (
         (Some(NOTHING), None),
         ALL_GO,
-        DONE,
+        Run::Video(VideoEnd::Done(0)),
         (Some(&[]), None),
-        "video 0\n",
+        "",
     ),
     // layer 1 alone is shown
     (
         (Some(&[Piece::Bytes(&LATER_LAYER)]), None),
         ALL_GO,
-        DONE,
+        Run::Video(VideoEnd::Done(0)),
         (Some(&[]), None),
-        "video 0\n",
+        "",
     ),
 ];
 
@@ -120,19 +118,19 @@ static GROUPS: [Case; 3] = [
     (
         (Some(ALL), None),
         ALL_GO,
-        DONE,
+        Run::Video(VideoEnd::Done(8)),
         (
             Some(&[Piece::Bytes(&[0xA0, 0xA1, 0xB0, 0xB1, 0xC0, 0xC1, 0xC2, 0xC3])]),
             None,
         ),
-        "video 8\n",
+        "",
     ),
     (
         (Some(APART), None),
         ALL_GO,
-        DONE,
+        Run::Video(VideoEnd::Done(6)),
         (Some(APART_SHOWN), None),
-        "video 6\n",
+        "",
     ),
     (
         (Some(UNFIT), None),
@@ -206,16 +204,16 @@ static TABLES: [Case; 9] = [
     (
         (Some(&[Piece::Bytes(&NO_RUNS)]), None),
         ALL_GO,
-        DONE,
+        Run::Video(VideoEnd::Done(0)),
         NOTHING_SHOWN,
-        "video 0\n",
+        "",
     ),
     (
         (Some(&[Piece::Bytes(&THREE_RUNS)]), None),
         ALL_GO,
-        DONE,
+        Run::Video(VideoEnd::Done(3)),
         (Some(&[Piece::Bytes(&[0xA0, 0xA1, 0xA2])]), None),
-        "video 3\n",
+        "",
     ),
 ];
 
@@ -270,7 +268,7 @@ const STORE: (Option<File>, Option<File>) = (Some(APART), None);
 const SHOWN_WHOLE: (Option<File>, Option<File>) = (Some(APART_SHOWN), None);
 
 /// Calls that fail, and what is then there.
-static FAILING: [Case; 10] = [
+static FAILING: [Case; 8] = [
     // the store is entered, taken whole, and ends
     (STORE, [&[], &[0], &[]], FAULT, (None, None), ""),
     (STORE, [&[], &[1], &[]], FAULT, (None, None), ""),
@@ -292,16 +290,14 @@ static FAILING: [Case; 10] = [
         (Some(FIRST_SHOWN), None),
         "",
     ),
-    // there are no more calls of the place, and the line is put in one
-    (STORE, [&[], &[7], &[]], DONE, SHOWN_WHOLE, "video 6\n"),
+    // there are no more calls of the place
     (
         STORE,
-        [&[], &[], &[0]],
-        Run::Video(VideoEnd::OutFault),
+        [&[], &[7], &[]],
+        Run::Video(VideoEnd::Done(6)),
         SHOWN_WHOLE,
         "",
     ),
-    (STORE, [&[], &[], &[1]], DONE, SHOWN_WHOLE, "video 6\n"),
 ];
 
 #[test]

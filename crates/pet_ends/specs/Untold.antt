@@ -12,6 +12,7 @@ pub record Opened : Type 0 where
   pub left : Option (List ℕ)
   pub held : Option (List ℕ)
   pub faults : ℕ
+  pub failing : Bool
 
 -- no input, no output and no failure yet
 abbrev pub nothing_open : Opened
@@ -21,6 +22,7 @@ nothing_open = record {
   left = None;
   held = None;
   faults = 0;
+  failing = false;
 }
 
 -- no file is told, no name and no blame
@@ -34,6 +36,7 @@ untold o = record {
   has_output = o.has_output;
   blamed = None;
   faults = o.faults;
+  failing = o.failing;
 }
 
 -- what the writer of an output holds, and how many calls failed
@@ -44,10 +47,11 @@ Printed = Option (List ℕ) × ℕ
 pub record Numbered : Type 0 where
   pub port : ℕ
   pub faults : ℕ
+  pub failing : Bool
 
 -- no `bind` yet, and no failure
 abbrev pub never_bound : Numbered
-never_bound = record { port = 0; faults = 0 }
+never_bound = record { port = 0; faults = 0; failing = false }
 
 -- no datagram is told, no address and no blame
 abbrev pub untold_link : Numbered → LinkSeen
@@ -59,4 +63,5 @@ untold_link l = record {
   aimed = None;
   blamed = None;
   faults = l.faults;
+  failing = l.failing;
 }

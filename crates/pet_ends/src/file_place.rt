@@ -31,6 +31,7 @@ impl<'a, R: Files> Model for FilePlace<'a, R> {
       left = option_and_then R.File.remaining p.input;
       held = option_and_then R.File.contents p.output;
       faults = p.faults.count;
+      failing = p.faults.last;
     } };
 }
 
@@ -55,11 +56,12 @@ impl<R: Files> Place for FilePlace<'_, R> {
     ghost use Rattle.std.specs.Io.KnownBytes.{prepend_known, IsAtEnd, ReadConsumes, Appends};
     ghost use Rattle.pet_base.specs.declared.place.Side.TheVariants.{Read, Written};
     ghost use Rattle.pet_base.specs.Causes.{Blames};
-    ghost use Rattle.pet_base.specs.Seen.{Grows, OnlyReads, KeepsInput, HasBlame};
+    ghost use Rattle.pet_base.specs.Seen.{Grows, OnlyReads, KeepsInput, HasBlame, CountsCall};
 
     ghost seen = { untold };
 
     fn enter(&mut self, name: &str) -> Result<(), Failed> {
+        self.faults.begin();
         match self.met.open(self.rt, name) {
             Ok(file) => {
                 self.input = Some(file);
@@ -83,8 +85,10 @@ impl<R: Files> Place for FilePlace<'_, R> {
         ensures others { OnlyReads (untold self.old) (untold self.new) }
         ensures cause { HasBlame (untold self.old) (untold self.new) result
             (Blames Read (untold self.old).source) }
+        ensures counts { CountsCall (untold self.old) (untold self.new) result }
         ensures bytes { ReadConsumes self.old.left self.new.left result into.new }
     {
+        self.faults.begin();
         let Some(file) = &mut self.input else {
             unreachable!()
         };
@@ -95,6 +99,7 @@ impl<R: Files> Place for FilePlace<'_, R> {
     }
 
     fn create(&mut self, name: &str) -> Result<(), Failed> {
+        self.faults.begin();
         match self.met.make(self.rt, name) {
             Ok(file) => {
                 self.output = Some(file);
@@ -120,10 +125,12 @@ impl<R: Files> Place for FilePlace<'_, R> {
         ensures others { KeepsInput (untold self.old) (untold self.new) }
         ensures cause { HasBlame (untold self.old) (untold self.new) result
             (Blames Written (untold self.old).target) }
+        ensures counts { CountsCall (untold self.old) (untold self.new) result }
         ensures whole { OnOk result (Appends self.old.held self.new.held bytes.now) }
         ensures front { OnErr result ((k : ℕ)
             × Appends self.old.held self.new.held (take k bytes.now)) }
     {
+        self.faults.begin();
         let Some(file) = &mut self.output else {
             unreachable!()
         };

@@ -29,7 +29,7 @@ pub struct UdpLink<'a, R: Net> {
 impl<'a, R: Net> Model for UdpLink<'a, R> {
     ghost Value = { Numbered };
 
-    ghost view = { λ l. record { port = l.port; faults = l.faults.count } };
+    ghost view = { λ l. record { port = l.port; faults = l.faults.count; failing = l.faults.last } };
 }
 
 impl<'a, R: Net> UdpLink<'a, R> {
@@ -54,6 +54,7 @@ impl<R: Net> Link for UdpLink<'_, R> {
     ghost small = { λ _. tt };
 
     fn bind(&mut self, address: &str) -> Result<u16, Failed> {
+        self.faults.begin();
         match Inbox::open(self.alloc, self.net, address) {
             Ok((inbox, port)) => {
                 self.bound = Some(inbox);
@@ -65,6 +66,7 @@ impl<R: Net> Link for UdpLink<'_, R> {
     }
 
     fn aim(&mut self, address: &str) -> Result<(), Failed> {
+        self.faults.begin();
         match open_towards(self.net, address) {
             Ok(target) => {
                 self.aimed = Some(target);
@@ -75,6 +77,7 @@ impl<R: Net> Link for UdpLink<'_, R> {
     }
 
     fn send(&mut self, datagram: &[u8]) -> Result<(), Failed> {
+        self.faults.begin();
         let sent = match &self.aimed {
             Some(target) => target.send(datagram),
             None => Err(Failed),
@@ -86,6 +89,7 @@ impl<R: Net> Link for UdpLink<'_, R> {
     }
 
     fn next(&mut self, into: &mut [u8]) -> Result<Got, Failed> {
+        self.faults.begin();
         let got = match &mut self.bound {
             Some(inbox) => inbox.next(into),
             None => Err(Failed),

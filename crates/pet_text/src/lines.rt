@@ -1,7 +1,10 @@
 //! The printed lines.
-ghost use Rattle.std.specs.Prelude.{◌≡◌, ◌++◌, OnOk, OnErr};
+ghost use Rattle.std.specs.Prelude.{◌≡◌, ◌++◌, [], OnOk, OnErr};
+ghost use Rattle.plan_text.specs.PlanLines.{least_text};
 ghost use Rattle.pet_text.specs.Lines.{bound_text, receive_text, merged_text, video_text};
 
+use crate::append::{append_number, append_text};
+use arrayvec::ArrayVec;
 use pet_base::NoMemory;
 use std::alloc::Global;
 
@@ -32,22 +35,32 @@ pub fn receive_line(
     Ok(())
 }
 
-/// Appends the line of `merge`: how many datagrams the merged store has. After a refusal `into` is as before.
-pub fn merged_line(alloc: Global, datagrams: u32, into: &mut Vec<u8>) -> Result<(), NoMemory>
-    ensures ok { OnOk result (into.new.items ≡ into.old.items ++ merged_text datagrams) }
-    ensures err { OnErr result (into.new.items ≡ into.old.items) }
+/// Leaves the line of `check` in `into`, which must be empty: for how many groups the lists are certificates. It takes no memory.
+pub fn least_line(groups: u32, into: &mut ArrayVec<u8, 64>)
+    requires { into.old.items ≡ [] }
+    ensures { into.new.items ≡ least_text groups }
 {
-    let line = format!(in alloc; "merged {datagrams}\n")?;
-    into.extend_from_slice(line.as_bytes())?;
-    Ok(())
+    append_text("least ", into);
+    append_number(u64::from(groups), into);
+    append_text("\n", into);
 }
 
-/// Appends the line of `video`: how many bytes the video of the store has. After a refusal `into` is as before.
-pub fn video_line(alloc: Global, bytes: u64, into: &mut Vec<u8>) -> Result<(), NoMemory>
-    ensures ok { OnOk result (into.new.items ≡ into.old.items ++ video_text bytes) }
-    ensures err { OnErr result (into.new.items ≡ into.old.items) }
+/// Leaves the line of `merge` in `into`, which must be empty: how many datagrams the merged store has. It takes no memory.
+pub fn merged_line(datagrams: u32, into: &mut ArrayVec<u8, 64>)
+    requires { into.old.items ≡ [] }
+    ensures { into.new.items ≡ merged_text datagrams }
 {
-    let line = format!(in alloc; "video {bytes}\n")?;
-    into.extend_from_slice(line.as_bytes())?;
-    Ok(())
+    append_text("merged ", into);
+    append_number(u64::from(datagrams), into);
+    append_text("\n", into);
+}
+
+/// Leaves the line of `video` in `into`, which must be empty: how many bytes the video of the store has. It takes no memory.
+pub fn video_line(bytes: u64, into: &mut ArrayVec<u8, 64>)
+    requires { into.old.items ≡ [] }
+    ensures { into.new.items ≡ video_text bytes }
+{
+    append_text("video ", into);
+    append_number(bytes, into);
+    append_text("\n", into);
 }

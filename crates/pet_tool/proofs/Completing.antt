@@ -3,19 +3,20 @@ use Rattle.std.proofs.Common.{◌≡◌, ℕ, Bool, true, false, List, [], ◌�
 use Rattle.std.proofs.lemmas.List.Elements.{All-contains}
 use Rattle.std.specs.Prelude.{if◌then◌else◌}
 use Rattle.std.specs.Io.KnownBytes.{append_known}
+use Rattle.pet_base.specs.Causes.{Rose}
 use Rattle.pet_base.specs.Entries.{datagrams}
 use Rattle.pet_base.specs.OutsideSeen.{OutsideSeen}
 use Rattle.pet_base.specs.Seen.{Files, Seen, with_file}
-use Rattle.command_files.specs.Uses.{reading, writing}
+use Rattle.command_files.specs.Uses.{reading, writing, Failed}
 use Rattle.pet_encode.specs.Session.{IsSession}
 use Rattle.pet_encode.specs.Datagrams.{datagrams_text, IsItsDatagram}
 use Rattle.pet_encode.specs.laws.SentLaws.{sent_are_packets}
 use Rattle.stream_session.specs.Accepted.{session_of}
 use Rattle.stream_session.specs.laws.SessionOfLaws.{is_session, session_fits}
 use Rattle.command_plan.specs.Checks.{Checks}
-use Rattle.command_plan.specs.Plans.{Plans}
-use Rattle.command_plan.specs.laws.CheckLaws.{checks_before_line}
-use Rattle.command_plan.specs.laws.PlanLaws.{plans_before_line}
+use Rattle.command_plan.specs.Plans.{PlanEnds}
+use Rattle.command_plan.specs.laws.CheckLaws.{checks_session}
+use Rattle.command_plan.specs.laws.PlanLaws.{plans_session}
 use Rattle.command_receive.specs.declared.command.ReceiveEnd.{ReceiveEnd}
 use Rattle.command_receive.specs.declared.command.ReceiveEnd.TheVariants as receive
 use Rattle.command_receive.specs.NamedLayers.{NamesStored, NamesWhatItStores as EndNames}
@@ -26,13 +27,14 @@ use Rattle.command_receive.specs.ReceivesSession.{HasPacketsOf}
 use Rattle.command_receive.specs.laws.LineLaws.{can_receive_before, received_with_line}
 use Rattle.command_receive.specs.laws.SessionReceived.{completes_receive}
 use Rattle.command_merge.specs.Merges.{Merges}
-use Rattle.command_merge.specs.laws.MergeLineLaws.{can_merge_before, merged_with_line}
+use Rattle.command_merge.specs.declared.command.MergeEnd.{MergeEnd}
 use Rattle.command_merge.specs.laws.SessionMerged.{completes_merge}
 use Rattle.command_video.specs.Videos.{Videos}
 use Rattle.command_video.specs.VideosSession.{HasStoreOf, VideosSession}
 use Rattle.command_video.specs.laws.SessionVideo.{completes_video}
-use Rattle.command_video.specs.laws.VideoLineLaws.{can_video_before, video_with_line}
-use Rattle.met_packets.specs.Met.{Pair}
+use Rattle.command_video.specs.StreamVideo.{stream_video}
+use Rattle.command_video.specs.declared.command.VideoEnd.{VideoEnd}
+use Rattle.met_packets.specs.Met.{Pair, all_shown}
 use Rattle.command_send.specs.Sends.{Sends}
 use Rattle.command_send.specs.laws.EndLaws.{sends_session, sent_before_line}
 use Rattle.pet_text.specs.declared.status.Status.{Status}
@@ -43,48 +45,75 @@ use Rattle.datagram_route.specs.Way.{Way}
 use Rattle.pet_text.specs.Ends.{way_in}
 use Rattle.pet_text.specs.Lines.{fault_text, video_text}
 use Rattle.pet_tool.specs.Completes.{Completes, CompletesPlan, CompletesCheck, CompletesSend, CompletesMerge, ShowsStream, GivesStream}
-use Rattle.pet_tool.specs.Does.{Does, Runs}
+use Rattle.pet_tool.specs.declared.end.End.{End}
+use Rattle.pet_tool.specs.declared.end.End.TheVariants as end
+use Rattle.pet_tool.specs.Does.{Does, Runs, OnFiles, OnRead}
+use Rattle.pet_tool.specs.Lines.{line_of, line_of_plan, line_of_check, line_of_merge, line_of_video}
+use Rattle.pet_tool.proofs.Telling.{silent, told, Told}
 use Rattle.pet_tool.specs.Headline.{Headline, HasWhatWasSent, NamesWhatItStores, ReceivesWhatWasSent}
-use Rattle.pet_tool.specs.Statuses.{status_of_plan, status_of_check, status_of_send, status_of_receive, status_of_merge, status_of_video}
+use Rattle.pet_tool.specs.Statuses.{status_of, status_of_plan, status_of_check, status_of_send, status_of_receive, status_of_merge, status_of_video}
 use Rattle.pet_tool.specs.Undisturbed.{IsUndisturbed, EndsWith}
 
 -- the lines and then that of the status which the end has
-ends_with : (status told : Status) (lines : List ℕ) (before after : OutsideSeen) → told ≡ status → after.written ≡ append_known before.written (lines ++ fault_text told) → EndsWith status lines before after told
-ends_with status told lines before after ended printed = record {
+ends_with : (status now : Status) (lines : List ℕ) (before after : OutsideSeen) → now ≡ status → after.written ≡ append_known before.written (lines ++ fault_text now) → EndsWith status lines before after now
+ends_with status now lines before after ended printed = record {
   ended = ended;
   printed = printed ∙ ap (λ (s : Status). append_known before.written (lines ++ fault_text s)) ended;
 }
 
-plan_completes : (stream priority : List ℕ) (before after : OutsideSeen) (status : Status) → Runs (Plans stream priority) status_of_plan before after status → CompletesPlan stream priority before after status
+-- what was told of a command on files, of which the line is known
+module _ {E : Type 0} (of : E → End) (Did : Seen → Seen → E → Type 0) (before between after : OutsideSeen) (e : E) (status : Status) (line : List ℕ) (did : OnFiles Did before between e)
+    (said : Told (line_of (of e)) (status_of (of e)) between after status) (ended : status_of (of e) ≡ Done) (is : line_of (of e) ≡ line) where
+  done_with : EndsWith Done line before after status
+  done_with =
+      ends_with Done status line before after (said.ended ∙ ended)
+      (said.printed ∙ ap (λ (o : Option (List ℕ)). append_known o (line_of (of e) ++ fault_text status)) did.written ∙ ap (λ (l : List ℕ). append_known before.written (l ++ fault_text status)) is)
+
+plan_completes : (stream priority : List ℕ) (before after : OutsideSeen) (status : Status) → Runs end.Plan (OnRead (PlanEnds stream priority)) before after status → CompletesPlan stream priority before after status
 plan_completes stream priority before after status runs = λ p b calm given.
-    let done = plans_before_line stream priority (fault_text status) before runs.between after runs.end runs.did runs.line p b (λ none. calm.memory (runs.ended ∙ ap status_of_plan none)) calm.well given in
-    ends_with Done status _ before after (runs.ended ∙ ap status_of_plan done.0) done.1
+    let only = runs.did.only in
+    let said = told (line_of_plan runs.end) (status_of_plan runs.end) runs.between after status runs.tells (λ rose. calm.well.out (subst (λ (n : ℕ). Rose n after.out_faults) only.out_faults rose)) in
+    let planned = plans_session stream priority before.place runs.between.place runs.end only.did p b (record {
+      memory = λ none. calm.memory (said.ended ∙ ap status_of_plan none);
+      well = λ had. calm.well.place (subst (λ (now : Seen). Failed (reading stream ∷ reading priority ∷ []) before.place now) (sym said.place) had);
+      given = given;
+    }) in
+    done_with end.Plan (PlanEnds stream priority) before runs.between after runs.end status _ only said (ap status_of_plan planned.ended) (ap line_of_plan planned.ended ∙ planned.is)
 
-check_completes : (stream priority plan : List ℕ) (before after : OutsideSeen) (status : Status) → Runs (Checks stream priority plan) status_of_check before after status → CompletesCheck stream priority plan before after status
+check_completes : (stream priority plan : List ℕ) (before after : OutsideSeen) (status : Status) → Runs end.Check (OnRead (λ old new. Checks old new stream priority plan)) before after status → CompletesCheck stream priority plan before after status
 check_completes stream priority plan before after status runs = λ p b calm given there.
-    let done = checks_before_line stream priority plan (fault_text status) before runs.between after runs.end runs.did runs.line p b (λ none. calm.memory (runs.ended ∙ ap status_of_check none)) calm.well given there in
-    ends_with Done status _ before after (runs.ended ∙ ap status_of_check done.0) done.1
+    let only = runs.did.only in
+    let said = told (line_of_check runs.end) (status_of_check runs.end) runs.between after status runs.tells (λ rose. calm.well.out (subst (λ (n : ℕ). Rose n after.out_faults) only.out_faults rose)) in
+    let ended = checks_session stream priority plan before.place runs.between.place runs.end only.did p b (record {
+      memory = λ none. calm.memory (said.ended ∙ ap status_of_check none);
+      well = λ had. calm.well.place (subst (λ (now : Seen). Failed (reading stream ∷ reading priority ∷ reading plan ∷ []) before.place now) (sym said.place) had);
+      given = given;
+      plan_there = there;
+    }) in
+    done_with end.Check (λ old new. Checks old new stream priority plan) before runs.between after runs.end status _ only said (ap status_of_check ended) (ap line_of_check ended)
 
-send_completes : (stream priority : List ℕ) (to : Way) (before after : OutsideSeen) (status : Status) → Runs (Sends stream priority to) status_of_send before after status → CompletesSend stream priority to before after status
+send_completes : (stream priority : List ℕ) (to : Way) (before after : OutsideSeen) (status : Status) → Runs end.Send (Sends stream priority to) before after status → CompletesSend stream priority to before after status
 send_completes stream priority to before after status runs = λ p b calm given.
+    let said = silent (status_of_send runs.end) runs.between after status runs.tells in
     let completes = sends_session stream priority to before runs.between runs.end runs.did in
-    let sent = sent_before_line stream priority to (fault_text status) before runs.between after runs.end completes runs.did.later runs.line p b (λ none. calm.calm.memory (runs.ended ∙ ap status_of_send none)) calm.calm.well calm.link given in
-    (sent.packets, ends_with Done status _ before after (runs.ended ∙ ap status_of_send sent.ended) sent.printed)
+    let sent = sent_before_line stream priority to (fault_text status) before runs.between after runs.end completes runs.did.later said.1 p b (λ none. calm.calm.memory (said.0 ∙ ap status_of_send none)) calm.calm.well calm.link given in
+    (sent.packets, ends_with Done status _ before after (said.0 ∙ ap status_of_send sent.ended) sent.printed)
 
 -- the status of the end by whether all layers are shown
 shown_status : (all : Bool) → status_of_receive (if all then receive.Done else receive.Incomplete) ≡ (if all then Done else Incomplete)
 shown_status true = refl
 shown_status false = refl
 
-headline : (from : Way) (session layers store : List ℕ) (before after : OutsideSeen) (status : Status) → Runs (Receives from session layers store) status_of_receive before after status → Headline from session layers store before after status
+headline : (from : Way) (session layers store : List ℕ) (before after : OutsideSeen) (status : Status) → Runs end.Receive (Receives from session layers store) before after status → Headline from session layers store before after status
 headline from session layers store before after status runs = λ s files ds is calm given.
-    let can = can_receive_before s from layers store files ds (fault_text status) before runs.between after runs.end runs.line (record { memory = λ none. calm.calm.memory (runs.ended ∙ ap status_of_receive none); well = calm.calm.well; link = calm.link; given = given }) in
+    let said = silent (status_of_receive runs.end) runs.between after status runs.tells in
+    let can = can_receive_before s from layers store files ds (fault_text status) before runs.between after runs.end said.1 (record { memory = λ none. calm.calm.memory (said.0 ∙ ap status_of_receive none); well = calm.calm.well; link = calm.link; given = given }) in
     let received = completes_receive from session layers store before runs.between runs.end runs.did s files ds is can in
-    let lined = received_with_line s from layers store files ds (fault_text status) before runs.between after runs.end runs.line calm.calm.well runs.did.later received in
+    let lined = received_with_line s from layers store files ds (fault_text status) before runs.between after runs.end said.1 calm.calm.well runs.did.later received in
     record {
       written = lined.0;
-      ends = ends_with _ status _ before after (runs.ended ∙ ap status_of_receive received.ended ∙ shown_status _) lined.1;
-      listens = subst (IsBoundTo from before.link) (sym runs.line.link) received.listens;
+      ends = ends_with _ status _ before after (said.0 ∙ ap status_of_receive received.ended ∙ shown_status _) lined.1;
+      listens = subst (IsBoundTo from before.link) (sym said.1.link) received.listens;
       fewest = received.fewest;
     }
 
@@ -134,39 +163,52 @@ stored_at session layers store before between receive.OutFault named (inl is) = 
 stored_at session layers store before between receive.OutFault named (inr (inl is)) = absurd (cc)
 stored_at session layers store before between receive.OutFault named (inr (inr is)) = absurd (cc)
 
-names_stored : (from : Way) (session layers store : List ℕ) (before after : OutsideSeen) (status : Status) → Runs (Receives from session layers store) status_of_receive before after status → NamesWhatItStores session layers store before after status
+names_stored : (from : Way) (session layers store : List ℕ) (before after : OutsideSeen) (status : Status) → Runs end.Receive (Receives from session layers store) before after status → NamesWhatItStores session layers store before after status
 names_stored from session layers store before after status runs is =
-    still_stored session layers store before runs.between after runs.line.place
+    let said = silent (status_of_receive runs.end) runs.between after status runs.tells in
+    still_stored session layers store before runs.between after said.1.place
     (stored_at session layers store before runs.between runs.end (names_what_it_stores from session layers store before runs.between runs.end runs.did.ends)
-    (subst (λ (s : Status). (s ≡ Done) ⊎ (s ≡ Incomplete) ⊎ (s ≡ TurnsSpent)) runs.ended is))
+    (subst (λ (s : Status). (s ≡ Done) ⊎ (s ≡ Incomplete) ⊎ (s ≡ TurnsSpent)) said.0 is))
 
-merge_completes : (first second out : List ℕ) (before after : OutsideSeen) (status : Status) → Runs (Merges first second out) status_of_merge before after status → CompletesMerge first second out before after status
+merge_completes : (first second out : List ℕ) (before after : OutsideSeen) (status : Status) → Runs end.Merge (OnFiles (Merges first second out)) before after status → CompletesMerge first second out before after status
 merge_completes first second out before after status runs = λ s files a b calm given.
-    let can = can_merge_before s first second out files a b (fault_text status) before runs.between after runs.end runs.line (record { memory = λ none. calm.memory (runs.ended ∙ ap status_of_merge none); well = calm.well; given = given }) in
-    let merged = completes_merge first second out before runs.between runs.end runs.did s files a b can in
-    let lined = merged_with_line s first second out files a b (fault_text status) before runs.between after runs.end runs.line calm.well runs.did.later merged in
-    (lined.0, ends_with Done status _ before after (runs.ended ∙ ap status_of_merge merged.ended) lined.1)
-
--- what `video` completed before the line of its status
-video_before : (store out : List ℕ) (before after : OutsideSeen) (status : Status) (runs : Runs (Videos store out) status_of_video before after status) (p b : List ℕ) (files : Files) (pairs : List Pair)
-    → IsUndisturbed (reading store ∷ writing out ∷ []) before after status → HasStoreOf p b store files pairs before.place → VideosSession p b out files pairs before runs.between runs.end
-video_before store out before after status runs p b files pairs calm given =
-    completes_video store out before runs.between runs.end runs.did p b files pairs
-    (can_video_before p b store out files pairs (fault_text status) before runs.between after runs.end runs.line (record { memory = λ none. calm.memory (runs.ended ∙ ap status_of_video none); well = calm.well; given = given }))
-
-shows_stream : (store out : List ℕ) (before after : OutsideSeen) (status : Status) → Runs (Videos store out) status_of_video before after status → ShowsStream store out before after status
-shows_stream store out before after status runs = λ p b files pairs calm given.
-    let videos = video_before store out before after status runs p b files pairs calm given in
-    let lined = video_with_line p b store out files pairs (fault_text status) before runs.between after runs.end runs.line calm.well runs.did.later videos in
-    (lined.0, ends_with Done status _ before after (runs.ended ∙ ap status_of_video videos.ended) lined.1)
-
-gives_stream : (store out : List ℕ) (before after : OutsideSeen) (status : Status) → Runs (Videos store out) status_of_video before after status → GivesStream store out before after status
-gives_stream store out before after status runs = λ p b files pairs calm given all.
-    let shown = shows_stream store out before after status runs p b files pairs calm given in
-    let same = (video_before store out before after status runs p b files pairs calm given).whole all in (
-      shown.0 ∙ ap (λ (bytes : List ℕ). Some (with_file out bytes files)) same,
-      subst (λ (bytes : List ℕ). EndsWith Done (video_text (length bytes)) before after status) same shown.1,
+    let only = runs.did in
+    let all = reading first ∷ reading second ∷ writing out ∷ [] in
+    let said = told (line_of_merge runs.end) (status_of_merge runs.end) runs.between after status runs.tells (λ rose. calm.well.out (subst (λ (n : ℕ). Rose n after.out_faults) only.out_faults rose)) in
+    let merged = completes_merge first second out before.place runs.between.place runs.end only.did s files a b (record {
+      memory = λ none. calm.memory (said.ended ∙ ap status_of_merge none);
+      well = λ had. calm.well.place (subst (λ (now : Seen). Failed all before.place now) (sym said.place) had);
+      given = given;
+    }) in (
+      ap (λ (now : Seen). now.files) said.place ∙ merged.file,
+      done_with end.Merge (Merges first second out) before runs.between after runs.end status _ only said (ap status_of_merge merged.ended) (ap line_of_merge merged.ended),
     )
+
+-- what `video` completed, and what was told of it
+module _ (store out : List ℕ) (before after : OutsideSeen) (status : Status) (runs : Runs end.Video (OnFiles (Videos store out)) before after status) (p b : List ℕ) (files : Files) (pairs : List Pair)
+    (calm : IsUndisturbed (reading store ∷ writing out ∷ []) before after status) (given : HasStoreOf p b store files pairs before.place) where
+  video_told : Told (line_of_video runs.end) (status_of_video runs.end) runs.between after status
+  video_told = told (line_of_video runs.end) (status_of_video runs.end) runs.between after status runs.tells (λ rose. calm.well.out (subst (λ (n : ℕ). Rose n after.out_faults) runs.did.out_faults rose))
+
+  video_done : VideosSession p b out files pairs runs.between.place runs.end
+  video_done = completes_video store out before.place runs.between.place runs.end runs.did.did p b files pairs (record {
+    memory = λ none. calm.memory (video_told.ended ∙ ap status_of_video none);
+    well = λ had. calm.well.place (subst (λ (now : Seen). Failed (reading store ∷ writing out ∷ []) before.place now) (sym video_told.place) had);
+    given = given;
+  })
+
+  video_shown : (after.place.files ≡ Some (with_file out (stream_video p b pairs) files)) × EndsWith Done (video_text (length (stream_video p b pairs))) before after status
+  video_shown = (
+    ap (λ (now : Seen). now.files) video_told.place ∙ video_done.file,
+    done_with end.Video (Videos store out) before runs.between after runs.end status _ runs.did video_told (ap status_of_video video_done.ended) (ap line_of_video video_done.ended),
+  )
+
+  video_whole : all_shown (session_of p b) pairs ≡ true → (after.place.files ≡ Some (with_file out b files)) × EndsWith Done (video_text (length b)) before after status
+  video_whole all =
+      let same = video_done.whole all in (
+        video_shown.0 ∙ ap (λ (bytes : List ℕ). Some (with_file out bytes files)) same,
+        subst (λ (bytes : List ℕ). EndsWith Done (video_text (length bytes)) before after status) same video_shown.1,
+      )
 
 pub completes : (command : Option Command) (before after : OutsideSeen) (status : Status) → Does command before after status → Completes command before after status
 completes None before after status does = tt
@@ -177,4 +219,7 @@ completes (Some (Receive from session layers store)) before after status runs =
     let meets = headline (way_in from) session layers store before after status runs in
     record { headline = meets; of_send = received_sent (way_in from) session layers store before after status meets; named = names_stored (way_in from) session layers store before after status runs }
 completes (Some (Merge first second out)) before after status runs = merge_completes first second out before after status runs
-completes (Some (Video store out)) before after status runs = record { shown = shows_stream store out before after status runs; whole = gives_stream store out before after status runs }
+completes (Some (Video store out)) before after status runs = record {
+  shown = video_shown store out before after status runs;
+  whole = video_whole store out before after status runs;
+}

@@ -1,3 +1,5 @@
+pub mod Telling
+pub mod Ends
 pub mod Completing
 pub mod NoMemory
 pub mod WordsRead

@@ -1,7 +1,6 @@
 -- Every command may end so before it has done anything: no memory was found to read its words.
-use Rattle.std.proofs.Common.{◌≡◌, Option, Some, None, refl, inl, arith}
+use Rattle.std.proofs.Common.{◌≡◌, List, [], Option, Some, None, refl, inl, arith}
 use Rattle.pet_base.specs.OutsideSeen.{OutsideSeen}
-use Rattle.command_files.specs.Printed.{PrintsLine}
 use Rattle.command_files.specs.laws.WroteLaws.{Wrote-nothing}
 use Rattle.command_plan.specs.declared.planning.PlanEnd.TheVariants as plan
 use Rattle.command_plan.specs.declared.checking.CheckEnd.TheVariants as check
@@ -15,61 +14,44 @@ use Rattle.pet_text.specs.declared.words.Command.TheVariants.{Plan, Check, Send,
 use Rattle.command_receive.specs.laws.SessionReceived.{nothing_received}
 use Rattle.pet_text.specs.Ends.{way_in}
 use Rattle.pet_text.specs.declared.end.End.TheVariants.{File, Udp}
-use Rattle.pet_text.specs.Lines.{fault_text}
-use Rattle.pet_tool.specs.Does.{Does}
+use Rattle.pet_text.specs.declared.status.Status.{Status}
+use Rattle.pet_tool.specs.Does.{Does, Strikes}
+use Rattle.pet_tool.specs.Told.{Tells}
+use Rattle.pet_tool.proofs.Telling.{strikes}
 
-module _ (before after : OutsideSeen) (line : PrintsLine (fault_text NoMemory) before after) where
-  no_memory : (command : Command) → Does (Some command) before after NoMemory
-  no_memory (Plan stream priority) = record {
-    between = before;
-    end = plan.NoMemory;
-    did = record { only = record { files = refl; link = refl; steps = refl; later = omega arith }; tells = refl };
-    ended = refl;
-    line = line;
-  }
-  no_memory (Check stream priority file) = record {
-    between = before;
-    end = check.NoMemory;
-    did = record { only = record { files = refl; link = refl; steps = refl; later = omega arith }; tells = refl };
-    ended = refl;
-    line = line;
-  }
+module _ (before after : OutsideSeen) (status : Status) (tells : Tells [] NoMemory before after status) where
+  no_failure : Strikes before after status
+  no_failure = strikes [] NoMemory before before after status tells (λ some. (refl, refl)) (record { place = refl; link = refl })
+
+  no_memory : (command : Command) → Does (Some command) before after status
+  no_memory (Plan stream priority) = record { between = before; end = plan.NoMemory; did = record { only = record { link = refl; written = refl; out_faults = refl; did = tt }; files = refl; steps = refl }; tells = tells; once = no_failure }
+  no_memory (Check stream priority file) = record { between = before; end = check.NoMemory; did = record { only = record { link = refl; written = refl; out_faults = refl; did = tt }; files = refl; steps = refl }; tells = tells; once = no_failure }
   no_memory (Send stream priority (File to)) = record {
     between = before;
     end = send.NoMemory;
     did = record { link = refl; later = omega arith; costs = inl refl; tells = (inl (Wrote-nothing before.place before.place refl), refl) };
-    ended = refl;
-    line = line;
+    tells = tells;
+    once = no_failure;
   }
   no_memory (Send stream priority (Udp to)) = record {
     between = before;
     end = send.NoMemory;
     did = record { link = record { feed = refl; port = refl; bound = refl; later = omega arith }; later = omega arith; costs = inl refl; tells = ((inl refl, refl), refl) };
-    ended = refl;
-    line = line;
+    tells = tells;
+    once = no_failure;
   }
   no_memory (Receive from session layers store) = record {
     between = before;
     end = receive.NoMemory;
     did = nothing_received (way_in from) session layers store before;
-    ended = refl;
-    line = line;
+    tells = tells;
+    once = no_failure;
   }
-  no_memory (Merge first second out) = record {
-    between = before;
-    end = merge.NoMemory;
-    did = record { link = refl; later = omega arith; ends = (inl refl, refl) };
-    ended = refl;
-    line = line;
-  }
-  no_memory (Video store out) = record {
-    between = before;
-    end = video.NoMemory;
-    did = record { link = refl; later = omega arith; ends = (inl refl, refl) };
-    ended = refl;
-    line = line;
-  }
+  no_memory (Merge first second out) =
+      record { between = before; end = merge.NoMemory; did = record { link = refl; written = refl; out_faults = refl; did = refl }; tells = tells; once = no_failure }
+  no_memory (Video store out) =
+      record { between = before; end = video.NoMemory; did = record { link = refl; written = refl; out_faults = refl; did = inl refl }; tells = tells; once = no_failure }
 
-  pub does_no_memory : (command : Option Command) → (command ≡ None → ⊥) → Does command before after NoMemory
+  pub does_no_memory : (command : Option Command) → (command ≡ None → ⊥) → Does command before after status
   does_no_memory None some = absurd (some refl)
   does_no_memory (Some command) some = no_memory command

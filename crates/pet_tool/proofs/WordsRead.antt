@@ -3,7 +3,7 @@ use Rattle.std.proofs.Common.{◌≡◌, ℕ, List, Some, sym, ap, subst, ◌∙
 use Rattle.datagram_route.specs.Way.{Way}
 use Rattle.command_send.specs.Sends.{IsOther}
 use Rattle.pet_text.specs.declared.words.Command.{Command}
-use Rattle.pet_text.specs.declared.words.Command.TheVariants.{Send}
+use Rattle.pet_text.specs.declared.words.Command.TheVariants.{Check, Send}
 use Rattle.pet_text.specs.declared.end.End.{End}
 use Rattle.pet_text.specs.declared.end.End.TheVariants.{File, Udp}
 use Rattle.pet_text.specs.Ends.{way_in}
@@ -20,3 +20,8 @@ pub differs_in : (words : List (List ℕ)) (command : Command) (stream priority 
 differs_in words command stream priority name way end words_are is name_is way_is =
     let sent : command_of words ≡ Some (Send stream priority end) = words_are ∙ ap (λ (c : Command). Some c) is in
     subst (λ (w : Way). IsOther w name) (sym way_is) (subst (λ (s : List ℕ). IsOther (way_in end) s) (sym name_is) (other_file stream priority end words sent))
+
+-- the command, by the words that are handed to `check`
+pub check_words : (command : Command) (stream priority file s p f : List ℕ) → command ≡ Check stream priority file → s ≡ stream → p ≡ priority → f ≡ file → command ≡ Check s p f
+check_words command stream priority file s p f is s_is p_is f_is =
+    is ∙ ap (λ (x : List ℕ). Check x priority file) (sym s_is) ∙ ap (λ (x : List ℕ). Check s x file) (sym p_is) ∙ ap (λ (x : List ℕ). Check s p x) (sym f_is)

@@ -4,11 +4,12 @@ use Rattle.pet_base.specs.OutsideSeen.{OutsideSeen}
 use Rattle.command_files.specs.Uses.{reading, writing}
 use Rattle.pet_base.specs.Seen.{Files, with_file}
 use Rattle.pet_encode.specs.Session.{Session}
+use Rattle.met_packets.specs.Gf16.{met_frames}
 use Rattle.met_packets.specs.Met.{Pair, all_shown}
 use Rattle.met_packets.specs.MetStore.{pairs_store}
-use Rattle.command_merge.specs.MergesSession.{HasStoresOf, session_line}
+use Rattle.command_merge.specs.MergesSession.{HasStoresOf}
 use Rattle.command_video.specs.StreamVideo.{stream_video}
-use Rattle.command_video.specs.VideosSession.{HasStoreOf, shown_line}
+use Rattle.command_video.specs.VideosSession.{HasStoreOf}
 use Rattle.stream_session.specs.Accepted.{session_of}
 use Rattle.stream_session.specs.Sessions.{IsGiven, tables_in}
 use Rattle.command_plan.specs.SessionPlan.{session_plan}
@@ -17,7 +18,7 @@ use Rattle.command_send.specs.SendsSession.{SendsAll, uses}
 use Rattle.datagram_route.specs.RouteFaults.{AimedFailed}
 use Rattle.datagram_route.specs.Way.{Way}
 use Rattle.plan_text.specs.PlanLines.{least_text}
-use Rattle.pet_text.specs.Lines.{video_text}
+use Rattle.pet_text.specs.Lines.{merged_text, video_text}
 use Rattle.pet_text.specs.declared.status.Status.{Status}
 use Rattle.pet_text.specs.declared.status.Status.TheVariants.{Done}
 use Rattle.pet_text.specs.declared.words.Command.{Command}
@@ -49,13 +50,13 @@ CompletesSend stream priority to before after status =
 abbrev pub CompletesMerge : List ℕ → List ℕ → List ℕ → OutsideSeen → OutsideSeen → Status → Type 0
 CompletesMerge first second out before after status =
     (s : Session) (files : Files) (a b : List Pair) → IsUndisturbed (reading first ∷ reading second ∷ writing out ∷ []) before after status → HasStoresOf s first second files a b before.place
-    → (after.place.files ≡ Some (with_file out (pairs_store s (a ++ b)) files)) × EndsWith Done (session_line s (a ++ b)) before after status
+    → (after.place.files ≡ Some (with_file out (pairs_store s (a ++ b)) files)) × EndsWith Done (merged_text (length (met_frames s (a ++ b)))) before after status
 
 -- of a store of a session of a stream the bytes of the stream are written that are shown
 abbrev pub ShowsStream : List ℕ → List ℕ → OutsideSeen → OutsideSeen → Status → Type 0
 ShowsStream store out before after status =
     (p b : List ℕ) (files : Files) (pairs : List Pair) → IsUndisturbed (reading store ∷ writing out ∷ []) before after status → HasStoreOf p b store files pairs before.place
-    → (after.place.files ≡ Some (with_file out (stream_video p b pairs) files)) × EndsWith Done (shown_line p b pairs) before after status
+    → (after.place.files ≡ Some (with_file out (stream_video p b pairs) files)) × EndsWith Done (video_text (length (stream_video p b pairs))) before after status
 
 -- and where every layer of every group is shown, as after a `receive` that was Done, the stream itself
 abbrev pub GivesStream : List ℕ → List ℕ → OutsideSeen → OutsideSeen → Status → Type 0

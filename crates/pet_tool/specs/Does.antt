@@ -1,10 +1,12 @@
 -- What a run does, by the command that its words give. This project's own.
 use Rattle.std.specs.Prelude.{◌≡◌, Option, None, Some}
 use Rattle.pet_base.specs.OutsideSeen.{OutsideSeen}
+use Rattle.pet_base.specs.Seen.{Seen}
+use Rattle.command_files.specs.Failures.{EndsAtOnce}
 use Rattle.command_files.specs.Printed.{PrintsLine}
 use Rattle.command_merge.specs.Merges.{Merges}
 use Rattle.command_plan.specs.Checks.{Checks}
-use Rattle.command_plan.specs.Plans.{Plans}
+use Rattle.command_plan.specs.Plans.{PlanEnds}
 use Rattle.command_receive.specs.Receives.{Receives}
 use Rattle.command_send.specs.Sends.{Sends}
 use Rattle.command_video.specs.Videos.{Videos}
@@ -14,15 +16,35 @@ use Rattle.pet_text.specs.declared.words.Command.{Command}
 use Rattle.pet_text.specs.declared.words.Command.TheVariants.{Plan, Check, Send, Receive, Merge, Video}
 use Rattle.pet_text.specs.Ends.{way_in}
 use Rattle.pet_text.specs.Lines.{fault_text}
-use Rattle.pet_tool.specs.Statuses.{status_of_plan, status_of_check, status_of_send, status_of_receive, status_of_merge, status_of_video}
+use Rattle.pet_tool.specs.declared.end.End.{End}
+use Rattle.pet_tool.specs.declared.end.End.TheVariants as end
+use Rattle.pet_tool.specs.Lines.{line_of}
+use Rattle.pet_tool.specs.Statuses.{status_of, of_place, of_link}
+use Rattle.pet_tool.specs.Told.{Tells}
 
--- A command did what it does at one of its ends, and then the line of that end's status was printed.
-pub record Runs {End : Type 0} (Did : OutsideSeen → OutsideSeen → End → Type 0) (status_of : End → Status) (before after : OutsideSeen) (status : Status) : Type 0 where
+-- The first failure of the place or of the link ends the run, and only the statuses of these tell of one.
+abbrev pub Strikes : OutsideSeen → OutsideSeen → Status → Type 0
+Strikes before after status = EndsAtOnce (of_place status) (of_link status) before after
+
+-- A command did what it does at one of its ends, and then the run told of that end; the first failure ended it.
+pub record Runs {E : Type 0} (of : E → End) (Did : OutsideSeen → OutsideSeen → E → Type 0) (before after : OutsideSeen) (status : Status) : Type 0 where
   pub between : OutsideSeen
-  pub end : End
+  pub end : E
   pub did : Did before between end
-  pub ended : status ≡ status_of end
-  pub line : PrintsLine (fault_text status) between after
+  pub tells : Tells (line_of (of end)) (status_of (of end)) between after status
+  pub once : Strikes before after status
+
+-- a command that uses files alone: it sends nothing and prints nothing; one that reads them alone changes none, and counts no step
+pub record OnFiles {E : Type 0} (Did : Seen → Seen → E → Type 0) (before after : OutsideSeen) (end : E) : Type 0 where
+  pub link : after.link ≡ before.link
+  pub written : after.written ≡ before.written
+  pub out_faults : after.out_faults ≡ before.out_faults
+  pub did : Did before.place after.place end
+
+pub record OnRead {E : Type 0} (Did : Seen → Seen → E → Type 0) (before after : OutsideSeen) (end : E) : Type 0 where
+  pub only : OnFiles Did before after end
+  pub files : after.place.files ≡ before.place.files
+  pub steps : after.steps ≡ before.steps
 
 -- Words of no form are refused as usage: its line is printed, and nothing else is done.
 pub record Refuses (before after : OutsideSeen) (status : Status) : Type 0 where
@@ -32,9 +54,9 @@ pub record Refuses (before after : OutsideSeen) (status : Status) : Type 0 where
 -- a case for each form of words
 abbrev pub Does : Option Command → OutsideSeen → OutsideSeen → Status → Type 0
 Does None before after status = Refuses before after status
-Does (Some (Plan stream priority)) before after status = Runs (Plans stream priority) status_of_plan before after status
-Does (Some (Check stream priority plan)) before after status = Runs (Checks stream priority plan) status_of_check before after status
-Does (Some (Send stream priority to)) before after status = Runs (Sends stream priority (way_in to)) status_of_send before after status
-Does (Some (Receive from session layers store)) before after status = Runs (Receives (way_in from) session layers store) status_of_receive before after status
-Does (Some (Merge first second out)) before after status = Runs (Merges first second out) status_of_merge before after status
-Does (Some (Video store out)) before after status = Runs (Videos store out) status_of_video before after status
+Does (Some (Plan stream priority)) before after status = Runs end.Plan (OnRead (PlanEnds stream priority)) before after status
+Does (Some (Check stream priority plan)) before after status = Runs end.Check (OnRead (λ old new. Checks old new stream priority plan)) before after status
+Does (Some (Send stream priority to)) before after status = Runs end.Send (Sends stream priority (way_in to)) before after status
+Does (Some (Receive from session layers store)) before after status = Runs end.Receive (Receives (way_in from) session layers store) before after status
+Does (Some (Merge first second out)) before after status = Runs end.Merge (OnFiles (Merges first second out)) before after status
+Does (Some (Video store out)) before after status = Runs end.Video (OnFiles (Videos store out)) before after status

@@ -1,4 +1,6 @@
 pub mod Statuses
+pub mod Lines
+pub mod Told
 pub mod Does
 pub mod Undisturbed
 pub mod Headline

@@ -1,4 +1,5 @@
 -- The status of each end of each command, with the numbers that its line tells. This project's own.
+use Rattle.std.specs.Prelude.{Bool, true, false}
 use Rattle.pet_base.specs.declared.limits.TheConstants.{MAX_GROUPS}
 use Rattle.stream_session.specs.declared.fault.SessionFault.{SessionFault}
 use Rattle.stream_session.specs.declared.fault.SessionFault.TheVariants as session
@@ -14,9 +15,11 @@ use Rattle.command_merge.specs.declared.command.MergeEnd.{MergeEnd}
 use Rattle.command_merge.specs.declared.command.MergeEnd.TheVariants as merge
 use Rattle.command_video.specs.declared.command.VideoEnd.{VideoEnd}
 use Rattle.command_video.specs.declared.command.VideoEnd.TheVariants as video
+use Rattle.pet_tool.specs.declared.end.End.{End}
+use Rattle.pet_tool.specs.declared.end.End.TheVariants as end
 use Rattle.pet_text.specs.declared.status.PlanKind.TheVariants as kind
 use Rattle.pet_text.specs.declared.status.Status.{Status}
-use Rattle.pet_text.specs.declared.status.Status.TheVariants.{Done, NoMemory, PlaceFault, LinkFault, OutFault, BadStream, BadPriority, BadPlan, BadStore, OtherSession, Clash, Incomplete, TurnsSpent, BadTable, NotLeast, Changed, Full}
+use Rattle.pet_text.specs.declared.status.Status.TheVariants.{Done, Usage, NoMemory, PlaceFault, LinkFault, OutFault, BadStream, BadPriority, BadPlan, BadStore, OtherSession, Clash, Incomplete, TurnsSpent, BadTable, NotLeast, Changed, Full}
 
 -- of a session's refusal
 abbrev pub status_of_session : SessionFault → Status
@@ -27,19 +30,17 @@ status_of_session (session.TooLarge group) = BadPlan kind.TooLarge group
 status_of_session session.NoMemory = NoMemory
 
 abbrev pub status_of_plan : PlanEnd → Status
-status_of_plan plan.Done = Done
+status_of_plan (plan.Done text) = Done
 status_of_plan plan.NoMemory = NoMemory
 status_of_plan plan.PlaceFault = PlaceFault
-status_of_plan plan.OutFault = OutFault
 status_of_plan (plan.BadPriority fault) = BadPriority fault
 status_of_plan (plan.BadStream scan) = BadStream scan
 status_of_plan (plan.BadPlan fault) = status_of_session fault
 
 abbrev pub status_of_check : CheckEnd → Status
-status_of_check check.Done = Done
+status_of_check (check.Done groups) = Done
 status_of_check check.NoMemory = NoMemory
 status_of_check check.PlaceFault = PlaceFault
-status_of_check check.OutFault = OutFault
 status_of_check (check.BadPriority fault) = BadPriority fault
 status_of_check (check.BadStream scan) = BadStream scan
 status_of_check (check.BadPlan fault) = status_of_session fault
@@ -70,10 +71,9 @@ status_of_receive receive.TurnsSpent = TurnsSpent
 
 -- a store is told by its place among the words
 abbrev pub status_of_merge : MergeEnd → Status
-status_of_merge merge.Done = Done
+status_of_merge (merge.Done packets) = Done
 status_of_merge merge.NoMemory = NoMemory
 status_of_merge merge.PlaceFault = PlaceFault
-status_of_merge merge.OutFault = OutFault
 status_of_merge (merge.BadFirst at kind) = BadStore 1 at kind
 status_of_merge (merge.BadSecond at kind) = BadStore 2 at kind
 status_of_merge merge.OtherSession = OtherSession
@@ -82,9 +82,59 @@ status_of_merge (merge.Full group) = Full group
 
 -- the one store is the first
 abbrev pub status_of_video : VideoEnd → Status
-status_of_video video.Done = Done
+status_of_video (video.Done bytes) = Done
 status_of_video video.NoMemory = NoMemory
 status_of_video video.PlaceFault = PlaceFault
-status_of_video video.OutFault = OutFault
 status_of_video (video.BadStore at kind) = BadStore 1 at kind
 status_of_video (video.BadTable group) = BadTable group
+
+abbrev pub status_of : End → Status
+status_of end.Usage = Usage
+status_of end.NoMemory = NoMemory
+status_of (end.Plan e) = status_of_plan e
+status_of (end.Check e) = status_of_check e
+status_of (end.Send e) = status_of_send e
+status_of (end.Receive e) = status_of_receive e
+status_of (end.Merge e) = status_of_merge e
+status_of (end.Video e) = status_of_video e
+
+-- which statuses tell of a failure of the place, and which of one of the link
+abbrev pub of_place : Status → Bool
+of_place Done = false
+of_place Usage = false
+of_place NoMemory = false
+of_place PlaceFault = true
+of_place LinkFault = false
+of_place OutFault = false
+of_place (BadStream fault) = false
+of_place (BadPriority fault) = false
+of_place (BadPlan kind number) = false
+of_place (BadStore which at kind) = false
+of_place OtherSession = false
+of_place (Clash group number) = false
+of_place Incomplete = false
+of_place TurnsSpent = false
+of_place (BadTable group) = false
+of_place (NotLeast group) = false
+of_place (Changed group first second) = false
+of_place (Full group) = false
+
+abbrev pub of_link : Status → Bool
+of_link Done = false
+of_link Usage = false
+of_link NoMemory = false
+of_link PlaceFault = false
+of_link LinkFault = true
+of_link OutFault = false
+of_link (BadStream fault) = false
+of_link (BadPriority fault) = false
+of_link (BadPlan kind number) = false
+of_link (BadStore which at kind) = false
+of_link OtherSession = false
+of_link (Clash group number) = false
+of_link Incomplete = false
+of_link TurnsSpent = false
+of_link (BadTable group) = false
+of_link (NotLeast group) = false
+of_link (Changed group first second) = false
+of_link (Full group) = false

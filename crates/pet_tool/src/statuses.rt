@@ -17,10 +17,9 @@ pub(crate) fn plan_status(end: &PlanEnd) -> Status
     ensures known { result ≢ Status.Usage }
 {
     match end {
-        PlanEnd::Done => Status::Done,
+        PlanEnd::Done(_) => Status::Done,
         PlanEnd::NoMemory => Status::NoMemory,
         PlanEnd::PlaceFault => Status::PlaceFault,
-        PlanEnd::OutFault => Status::OutFault,
         PlanEnd::BadPriority(fault) => Status::BadPriority(*fault),
         PlanEnd::BadStream(scan) => Status::BadStream(*scan),
         PlanEnd::BadPlan(fault) => session_status(fault),
@@ -33,10 +32,9 @@ pub(crate) fn check_status(end: &CheckEnd) -> Status
     ensures known { result ≢ Status.Usage }
 {
     match end {
-        CheckEnd::Done => Status::Done,
+        CheckEnd::Done(_) => Status::Done,
         CheckEnd::NoMemory => Status::NoMemory,
         CheckEnd::PlaceFault => Status::PlaceFault,
-        CheckEnd::OutFault => Status::OutFault,
         CheckEnd::BadPriority(fault) => Status::BadPriority(*fault),
         CheckEnd::BadStream(scan) => Status::BadStream(*scan),
         CheckEnd::BadPlan(fault) => session_status(fault),
@@ -87,10 +85,9 @@ pub(crate) fn merge_status(end: &MergeEnd) -> Status
     ensures known { result ≢ Status.Usage }
 {
     match end {
-        MergeEnd::Done => Status::Done,
+        MergeEnd::Done(_) => Status::Done,
         MergeEnd::NoMemory => Status::NoMemory,
         MergeEnd::PlaceFault => Status::PlaceFault,
-        MergeEnd::OutFault => Status::OutFault,
         MergeEnd::BadFirst(at, kind) => Status::BadStore(1, *at, *kind),
         MergeEnd::BadSecond(at, kind) => Status::BadStore(2, *at, *kind),
         MergeEnd::OtherSession => Status::OtherSession,
@@ -105,10 +102,9 @@ pub(crate) fn video_status(end: &VideoEnd) -> Status
     ensures known { result ≢ Status.Usage }
 {
     match end {
-        VideoEnd::Done => Status::Done,
+        VideoEnd::Done(_) => Status::Done,
         VideoEnd::NoMemory => Status::NoMemory,
         VideoEnd::PlaceFault => Status::PlaceFault,
-        VideoEnd::OutFault => Status::OutFault,
         VideoEnd::BadStore(at, kind) => Status::BadStore(1, *at, *kind),
         VideoEnd::BadTable(group) => Status::BadTable(*group),
     }

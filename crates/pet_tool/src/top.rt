@@ -1,33 +1,22 @@
 //! The top call.
-ghost use Rattle.std.specs.Prelude.{◌≡◌, ◌≢◌, ◌↔◌, ℕ, List, None, Some};
+ghost use Rattle.std.specs.Prelude.{◌≡◌, ◌≢◌, ◌⊎◌, ◌↔◌, ℕ, List, [], None, Some, OnOk, OnErr};
 ghost use Rattle.pet_base.specs.OutsideSeen.{OutsideSeen, outside_seen};
 ghost use Rattle.pet_base.specs.Lent.{seen, AreSame};
-ghost use Rattle.command_files.specs.Printed.{PrintsLine};
-ghost use Rattle.command_merge.specs.Merges.{Merges};
-ghost use Rattle.command_plan.specs.Checks.{Checks};
-ghost use Rattle.command_plan.specs.Plans.{Plans};
-ghost use Rattle.command_receive.specs.Receives.{Receives};
-ghost use Rattle.command_send.specs.Sends.{IsOther, Sends};
-ghost use Rattle.datagram_route.specs.Way.{way_of};
-ghost use Rattle.command_video.specs.Videos.{Videos};
+ghost use Rattle.pet_base.specs.Causes.{one_more};
+ghost use Rattle.command_files.specs.Printed.{Printed, PrintedFront, PrintsLine};
 ghost use Rattle.pet_text.specs.Words.{texts_of, command_of};
 ghost use Rattle.pet_text.specs.Lines.{fault_text};
 ghost use Rattle.pet_tool.specs.Completes.{Completes};
-ghost use Rattle.pet_tool.specs.Does.{Does, Runs};
-ghost use Rattle.pet_tool.specs.Statuses.{status_of_plan, status_of_check, status_of_send, status_of_receive, status_of_merge, status_of_video};
+ghost use Rattle.pet_tool.specs.Does.{Does};
+ghost use Rattle.pet_tool.specs.Lines.{line_of};
+ghost use Rattle.pet_tool.specs.Told.{OnlyTells, PrintedWhole, PrintedShort, Tells};
+ghost use Rattle.pet_tool.specs.Statuses.{status_of};
 
-use crate::statuses::{
-    check_status, merge_status, plan_status, receive_status, send_status, video_status,
-};
+use crate::commands::run_command;
+use crate::end::{End, end_line, end_status};
 use arrayvec::ArrayVec;
-use command_merge::merge;
-use command_plan::{check, plan};
-use command_receive::receive;
-use command_send::send;
-use command_video::video;
-use datagram_route::Route;
-use pet_base::{Link, Outside, Place, Sink, Steps};
-use pet_text::{Command, Status, WordsFault, fault_line, read_words};
+use pet_base::{Failed, Link, Outside, Place, Sink, Steps};
+use pet_text::{Status, WordsFault, fault_line, read_words};
 use std::alloc::Global;
 use std::sync::ledger::Ledger;
 
@@ -62,7 +51,7 @@ pub fn run<P: Place, K: Link, S: Sink, L: Ledger>(
     run_words(alloc, words, &mut outside)
 }
 
-/// Reads the words, runs the command that they give, and prints the line of its status.
+/// Reads the words, runs the command that they give, and prints the line of its end and that of its status.
 fn run_words<P: Place, K: Link, S: Sink, L: Ledger>(
     alloc: Global,
     words: &[String],
@@ -73,190 +62,46 @@ fn run_words<P: Place, K: Link, S: Sink, L: Ledger>(
         (seen outside.new) result }
     ensures same { AreSame outside.old outside.new }
 {
-    let status = status_of_words(alloc, words, outside);
+    let end = end_of_words(alloc, words, outside);
+    let status = tell_end(&end, outside);
     tell(status, outside)
 }
 
-/// Reads the words, and runs the command that they give. All is done that it does but the line of its status.
-fn status_of_words<P: Place, K: Link, S: Sink, L: Ledger>(
+/// Reads the words, and runs the command that they give. Nothing is printed yet of its end.
+fn end_of_words<P: Place, K: Link, S: Sink, L: Ledger>(
     alloc: Global,
     words: &[String],
     outside: &mut Outside<P, K, S, L>,
-) -> Status
-    ensures usage { (result ≡ Status.Usage) ↔ (command_of (texts_of words.now) ≡ None) }
-    ensures does { (told : OutsideSeen) → PrintsLine (fault_text result) (seen outside.new) told
-        → Does (command_of (texts_of words.now)) (seen outside.old) told result }
+) -> End
+    ensures usage { (result ≡ End.Usage) ↔ (command_of (texts_of words.now) ≡ None) }
+    ensures does { (told : OutsideSeen) (status : Status) → Tells (line_of result) (status_of result) (seen outside.new) told status
+        → Does (command_of (texts_of words.now)) (seen outside.old) told status }
     ensures same { AreSame outside.old outside.new }
 {
     match read_words(alloc, words) {
         Ok(command) => run_command(alloc, &command, outside),
-        Err(WordsFault::Usage) => Status::Usage,
-        Err(WordsFault::NoMemory) => Status::NoMemory,
+        Err(WordsFault::Usage) => End::Usage,
+        Err(WordsFault::NoMemory) => End::NoMemory,
     }
 }
 
-/// Runs a command that words give. All is done that it does but the line of its status.
-fn run_command<P: Place, K: Link, S: Sink, L: Ledger>(
-    alloc: Global,
-    command: &Command,
+/// Prints the line of the end, where it has one, and answers the status: that of the end, or a fault of the output.
+fn tell_end<P: Place, K: Link, S: Sink, L: Ledger>(
+    end: &End,
     outside: &mut Outside<P, K, S, L>,
 ) -> Status
-    requires given { (words : List (List ℕ)) × (command_of words ≡ Some command.now) }
-    ensures does { (told : OutsideSeen) → PrintsLine (fault_text result) (seen outside.new) told
-        → Does (Some command.now) (seen outside.old) told result }
-    ensures known { result ≢ Status.Usage }
+    ensures only { OnlyTells (seen outside.old) (seen outside.new) }
+    ensures line { PrintedWhole (line_of end.now) (status_of end.now) (seen outside.old) (seen outside.new) result
+        ⊎ PrintedShort (line_of end.now) (seen outside.old) (seen outside.new) result }
+    ensures known { end.now ≢ End.Usage → result ≢ Status.Usage }
     ensures same { AreSame outside.old outside.new }
 {
-    match command {
-        Command::Plan { stream, priority } => {
-            run_plan(alloc, stream.as_str(), priority.as_str(), outside)
-        }
-        Command::Check {
-            stream,
-            priority,
-            plan,
-        } => run_check(
-            alloc,
-            stream.as_str(),
-            priority.as_str(),
-            plan.as_str(),
-            outside,
-        ),
-        Command::Send {
-            stream,
-            priority,
-            to,
-        } => run_send(
-            alloc,
-            stream.as_str(),
-            priority.as_str(),
-            to.route(),
-            outside,
-        ),
-        Command::Receive {
-            from,
-            session,
-            layers,
-            store,
-        } => run_receive(
-            alloc,
-            from.route(),
-            *session,
-            layers.as_str(),
-            store.as_str(),
-            outside,
-        ),
-        Command::Merge { first, second, out } => run_merge(
-            alloc,
-            first.as_str(),
-            second.as_str(),
-            out.as_str(),
-            outside,
-        ),
-        Command::Video { store, out } => run_video(alloc, store.as_str(), out.as_str(), outside),
+    let mut room: ArrayVec<u8, 64> = ArrayVec::new();
+    let line = end_line(end, &mut room);
+    match put_line(line, outside) {
+        Ok(()) => end_status(end),
+        Err(_) => Status::OutFault,
     }
-}
-
-/// Runs `plan`, and answers the status of its end.
-fn run_plan<P: Place, K: Link, S: Sink, L: Ledger>(
-    alloc: Global,
-    stream: &str,
-    priority: &str,
-    outside: &mut Outside<P, K, S, L>,
-) -> Status
-    ensures does { (told : OutsideSeen) → PrintsLine (fault_text result) (seen outside.new) told
-        → Runs (Plans stream.now priority.now) status_of_plan (seen outside.old) told result }
-    ensures known { result ≢ Status.Usage }
-    ensures same { AreSame outside.old outside.new }
-{
-    let end = plan(alloc, stream, priority, outside);
-    plan_status(&end)
-}
-
-/// Runs `check`, and answers the status of its end.
-fn run_check<P: Place, K: Link, S: Sink, L: Ledger>(
-    alloc: Global,
-    stream: &str,
-    priority: &str,
-    plan: &str,
-    outside: &mut Outside<P, K, S, L>,
-) -> Status
-    ensures does { (told : OutsideSeen) → PrintsLine (fault_text result) (seen outside.new) told
-        → Runs (Checks stream.now priority.now plan.now) status_of_check (seen outside.old) told result }
-    ensures known { result ≢ Status.Usage }
-    ensures same { AreSame outside.old outside.new }
-{
-    let end = check(alloc, stream, priority, plan, outside);
-    check_status(&end)
-}
-
-/// Runs `send`, and answers the status of its end.
-fn run_send<P: Place, K: Link, S: Sink, L: Ledger>(
-    alloc: Global,
-    stream: &str,
-    priority: &str,
-    to: Route<'_>,
-    outside: &mut Outside<P, K, S, L>,
-) -> Status
-    requires differ { IsOther (way_of to) stream.now }
-    ensures does { (told : OutsideSeen) → PrintsLine (fault_text result) (seen outside.new) told
-        → Runs (Sends stream.now priority.now (way_of to.entry)) status_of_send (seen outside.old) told result }
-    ensures known { result ≢ Status.Usage }
-    ensures same { AreSame outside.old outside.new }
-{
-    let end = send(alloc, stream, priority, to, outside);
-    send_status(&end)
-}
-
-/// Runs `receive`, and answers the status of its end.
-fn run_receive<P: Place, K: Link, S: Sink, L: Ledger>(
-    alloc: Global,
-    from: Route<'_>,
-    session: [u8; 8],
-    layers: &str,
-    store: &str,
-    outside: &mut Outside<P, K, S, L>,
-) -> Status
-    ensures does { (told : OutsideSeen) → PrintsLine (fault_text result) (seen outside.new) told
-        → Runs (Receives (way_of from.entry) session layers.now store.now) status_of_receive (seen outside.old) told result }
-    ensures known { result ≢ Status.Usage }
-    ensures same { AreSame outside.old outside.new }
-{
-    let end = receive(alloc, from, session, layers, store, outside);
-    receive_status(&end)
-}
-
-/// Runs `merge`, and answers the status of its end.
-fn run_merge<P: Place, K: Link, S: Sink, L: Ledger>(
-    alloc: Global,
-    first: &str,
-    second: &str,
-    out: &str,
-    outside: &mut Outside<P, K, S, L>,
-) -> Status
-    ensures does { (told : OutsideSeen) → PrintsLine (fault_text result) (seen outside.new) told
-        → Runs (Merges first.now second.now out.now) status_of_merge (seen outside.old) told result }
-    ensures known { result ≢ Status.Usage }
-    ensures same { AreSame outside.old outside.new }
-{
-    let end = merge(alloc, first, second, out, outside);
-    merge_status(&end)
-}
-
-/// Runs `video`, and answers the status of its end.
-fn run_video<P: Place, K: Link, S: Sink, L: Ledger>(
-    alloc: Global,
-    store: &str,
-    out: &str,
-    outside: &mut Outside<P, K, S, L>,
-) -> Status
-    ensures does { (told : OutsideSeen) → PrintsLine (fault_text result) (seen outside.new) told
-        → Runs (Videos store.now out.now) status_of_video (seen outside.old) told result }
-    ensures known { result ≢ Status.Usage }
-    ensures same { AreSame outside.old outside.new }
-{
-    let end = video(alloc, store, out, outside);
-    video_status(&end)
 }
 
 /// Prints the line that tells of the status, where it has one. A failure of the output does not change the status.
@@ -270,18 +115,26 @@ fn tell<P: Place, K: Link, S: Sink, L: Ledger>(
 {
     let mut line: ArrayVec<u8, 64> = ArrayVec::new();
     fault_line(&status, &mut line);
-    put_line(line.as_slice(), outside);
+    // the line is the last thing that is printed, and a status stays what it is where its line cannot be
+    let _ = put_line(line.as_slice(), outside);
     status
 }
 
 /// Prints a line, where it is not empty.
-fn put_line<P: Place, K: Link, S: Sink, L: Ledger>(line: &[u8], outside: &mut Outside<P, K, S, L>)
+fn put_line<P: Place, K: Link, S: Sink, L: Ledger>(
+    line: &[u8],
+    outside: &mut Outside<P, K, S, L>,
+) -> Result<(), Failed>
     ensures prints { PrintsLine line.now (seen outside.old) (seen outside.new) }
+    ensures whole { OnOk result (Printed line.now (seen outside.old) (seen outside.new)) }
+    ensures calm { OnOk result ((seen outside.new).out_faults ≡ (seen outside.old).out_faults) }
+    ensures front { OnErr result (PrintedFront line.now (seen outside.old) (seen outside.new)) }
+    ensures once { OnErr result ((seen outside.new).out_faults ≡ one_more (seen outside.old).out_faults) }
+    ensures some { OnErr result (line.now ≢ []) }
     ensures same { AreSame outside.old outside.new }
 {
     if line.is_empty() {
-        return;
+        return Ok(());
     }
-    // the line is the last thing that is printed, and a status stays what it is where its line cannot be
-    let _ = outside.out.put(line);
+    outside.out.put(line)
 }

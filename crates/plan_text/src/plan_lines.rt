@@ -1,6 +1,6 @@
-//! The lines of `plan`, `check` and `send`.
+//! The lines of `plan` and `send`.
 ghost use Rattle.std.specs.Prelude.{◌≡◌, ◌<◌, ◌++◌, OnOk, OnErr, IfOk, string_bytes};
-ghost use Rattle.plan_text.specs.PlanLines.{hex_digit, hex_text, plan_session_text, send_text, plan_group_text, plan_layer_text, least_text};
+ghost use Rattle.plan_text.specs.PlanLines.{hex_digit, hex_text, plan_session_text, send_text, plan_group_text, plan_layer_text};
 
 use pet_base::NoMemory;
 use std::alloc::Global;
@@ -84,16 +84,6 @@ pub fn plan_layer_line(
     let line = format!(in alloc;
         "layer {layer} {name} bytes {length} need {need} count {count}\n"
     )?;
-    into.extend_from_slice(line.as_bytes())?;
-    Ok(())
-}
-
-/// Appends the line of `check`: so many groups have plans of the fewest stripes. After a refusal `into` is as before.
-pub fn least_line(alloc: Global, groups: u32, into: &mut Vec<u8>) -> Result<(), NoMemory>
-    ensures ok { OnOk result (into.new.items ≡ into.old.items ++ least_text groups) }
-    ensures err { OnErr result (into.new.items ≡ into.old.items) }
-{
-    let line = format!(in alloc; "least {groups}\n")?;
     into.extend_from_slice(line.as_bytes())?;
     Ok(())
 }

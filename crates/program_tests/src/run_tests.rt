@@ -2,7 +2,8 @@
 //! outside. What each command writes is tested in its own crate.
 use crate::bad_line;
 use crate::run_fixtures::{
-    ALL_GO, Case, Files, GROUPS, NO_RUN, Step, USAGE, all_end, first_wrong, is_so, place_of,
+    ALL_GO, Case, Files, GROUPS, NO_RUN, NOTHING, Step, USAGE, all_end, first_wrong, is_so,
+    place_of,
 };
 use example_session::{PLAN, PRIORITIES, STREAM};
 use mpeg_scan::Scan;
@@ -348,8 +349,11 @@ fn receives_and_sends_by_a_link(rt: HostRuntime) {
     assert_eq!(rt; first_wrong(rt.alloc(), &BY_LINK), None);
 }
 
-/// The first call of the output fails.
-static SILENT: [Case; 3] = [
+/// A store of the example session that has no packet, as a stream.
+const STORE: Files = (&NOTHING, PRIORITIES, "");
+
+/// The first call of the output fails, or the second.
+static SILENT: [Case; 8] = [
     (
         EXAMPLE,
         [&[], &[0]],
@@ -358,9 +362,46 @@ static SILENT: [Case; 3] = [
         false,
     ),
     (
+        (&STREAM, PRIORITIES, PLAN),
+        [&[], &[0]],
+        (CHECK, Status::OutFault, 5, ""),
+        0,
+        false,
+    ),
+    (
+        EXAMPLE,
+        [&[], &[0]],
+        (SEND, Status::OutFault, 5, ""),
+        0,
+        true,
+    ),
+    (
         EXAMPLE,
         [&[], &[0]],
         (RECEIVE, Status::OutFault, 5, ""),
+        0,
+        false,
+    ),
+    // OUT has been written
+    (
+        STORE,
+        [&[], &[0]],
+        (&["merge", "s", "s", "d"], Status::OutFault, 5, ""),
+        0,
+        true,
+    ),
+    (
+        STORE,
+        [&[], &[0]],
+        (&["video", "s", "d"], Status::OutFault, 5, ""),
+        0,
+        true,
+    ),
+    // the line of the command was printed, and that of the status is not
+    (
+        EXAMPLE,
+        [&[], &[1]],
+        (RECEIVE, Status::Incomplete, 12, "read 0 kept 0 shown 0\n"),
         0,
         false,
     ),

@@ -3,7 +3,7 @@ use crate::text_fixtures::{FAULTS, OTHERS};
 use arrayvec::ArrayVec;
 use pet_base::NoMemory;
 use pet_text::{
-    Command, End, Status, WordsFault, bound_line, fault_line, merged_line, read_words,
+    Command, End, Status, WordsFault, bound_line, fault_line, least_line, merged_line, read_words,
     receive_line, video_line,
 };
 use std::alloc::{AllocError, Global};
@@ -315,22 +315,33 @@ fn refuses_other_addresses(rt: HostRuntime) {
     assert_eq!(rt; first_address(rt.alloc(), &OTHERS), None);
 }
 
-/// The lines of `receive`, `merge` and `video`.
+/// The lines of `receive`.
 fn lines(alloc: Global) -> Result<Vec<u8>, NoMemory> {
     let mut text = Vec::new(alloc);
     bound_line(alloc, 40_000, &mut text)?;
     receive_line(alloc, 3, 2, 1, &mut text)?;
-    merged_line(alloc, 7, &mut text)?;
-    video_line(alloc, 44, &mut text)?;
     Ok(text)
 }
 
-const LINES: &[u8] = b"bound 40000\nread 3 kept 2 shown 1\nmerged 7\nvideo 44\n";
+const LINES: &[u8] = b"bound 40000\nread 3 kept 2 shown 1\n";
 
 #[test]
-fn prints_the_lines_of_receive_merge_and_video(rt: HostRuntime) {
+fn prints_the_lines_of_receive(rt: HostRuntime) {
     let text = lines(rt.alloc()).expect(&rt, "memory");
     assert!(rt; text.as_slice() == LINES);
+}
+
+#[test]
+fn prints_the_lines_of_check_merge_and_video(rt: HostRuntime) {
+    let mut room: ArrayVec<u8, 64> = ArrayVec::new();
+    least_line(3, &mut room);
+    assert!(rt; room.as_slice() == b"least 3\n".as_slice());
+    let mut room: ArrayVec<u8, 64> = ArrayVec::new();
+    merged_line(7, &mut room);
+    assert!(rt; room.as_slice() == b"merged 7\n".as_slice());
+    let mut room: ArrayVec<u8, 64> = ArrayVec::new();
+    video_line(u64::MAX, &mut room);
+    assert!(rt; room.as_slice() == b"video 18446744073709551615\n".as_slice());
 }
 
 /// Whether a status has this number and this line.

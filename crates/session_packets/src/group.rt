@@ -1,7 +1,10 @@
 //! The packets of one group, sent on a route.
 ghost use Rattle.std.specs.Prelude.{◌≡◌, ◌∷◌, [], ◌+◌, ◌*◌, ◌<◌, ◌≤◌, length, OnOk, OnErr, IfErr};
 ghost use Rattle.stripe_plan.specs.Layers.{needs_of};
-ghost use Rattle.datagram_route.specs.RouteFaults.{IsStop};
+ghost use Rattle.pet_base.specs.Causes.{stops};
+ghost use Rattle.pet_base.specs.Seen.{PlaceStops};
+ghost use Rattle.pet_base.specs.LinkSeen.{LinkStops};
+ghost use Rattle.datagram_route.specs.RouteFaults.{IsStop, stop_of_a_place, stop_of_a_link};
 ghost use Rattle.datagram_route.specs.Sending.{routes, Sends, SendsPart, IsOpen, OnlyGrows, OutputFailed, SendingFailed};
 ghost use Rattle.datagram_route.specs.Way.{way_of};
 ghost use Rattle.pet_encode.specs.Datagrams.{group_datagrams, range_datagrams};
@@ -43,6 +46,10 @@ pub fn put_group<P: Place, K: Link, L: Ledger>(
     ensures cause { IfErr result (IsStop
         (OutputFailed (way_of to.entry) (P.seen place.old) (P.seen place.new))
         (SendingFailed (way_of to.entry) (K.seen link.old) (K.seen link.new)) ⊥) }
+    ensures once_place { PlaceStops (stops stop_of_a_place result) (P.seen place.old)
+        (P.seen place.new) }
+    ensures once_link { LinkStops (stops stop_of_a_link result) (K.seen link.old)
+        (K.seen link.new) }
     ensures cost { steps.new ≤ steps.old + encoder.now.header.table.packets * length
         (needs_of encoder.now.header.table.layers) }
 {
@@ -93,6 +100,10 @@ fn put_range<P: Place, K: Link, L: Ledger>(
     ensures cause { IfErr result (IsStop
         (OutputFailed (way_of to.entry) (P.seen place.old) (P.seen place.new))
         (SendingFailed (way_of to.entry) (K.seen link.old) (K.seen link.new)) ⊥) }
+    ensures once_place { PlaceStops (stops stop_of_a_place result) (P.seen place.old)
+        (P.seen place.new) }
+    ensures once_link { LinkStops (stops stop_of_a_link result) (K.seen link.old)
+        (K.seen link.new) }
     ensures cost { steps.new ≤ steps.old + count * length (needs_of encoder.now.header.table.layers) }
 {
     let length = datagram_length(&encoder.header().table) as usize;
@@ -126,6 +137,10 @@ fn put_packet<P: Place, K: Link>(
     ensures cause { IfErr result (IsStop
         (OutputFailed (way_of to.entry) (P.seen place.old) (P.seen place.new))
         (SendingFailed (way_of to.entry) (K.seen link.old) (K.seen link.new)) ⊥) }
+    ensures once_place { PlaceStops (stops stop_of_a_place result) (P.seen place.old)
+        (P.seen place.new) }
+    ensures once_link { LinkStops (stops stop_of_a_link result) (K.seen link.old)
+        (K.seen link.new) }
 {
     write_entry(packet, entry)?;
     put_entry(to, place, link, entry)?;

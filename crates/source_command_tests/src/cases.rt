@@ -10,6 +10,7 @@ use pet_base::{Link, NoMemory, Outside, Place, Sink, Steps};
 use std::alloc::{AllocError, Global};
 use std::marker::Brand;
 use std::sync::ledger::{Blank, Ledger};
+use stream_session::SourceFault;
 
 /// A stream: its front, and bytes that follow it so many times.
 pub(crate) type Stream = (&'static [u8], &'static [u8], u32);
@@ -20,8 +21,8 @@ pub(crate) type Files = (Option<Stream>, Option<&'static str>, Option<&'static s
 /// A command, and how it ends.
 #[derive(Clone, Copy)]
 pub(crate) enum Run {
-    /// `plan` of `s` and `f`.
-    Plan(PlanEnd),
+    /// `plan` of `s` and `f`: its text, or why there is none.
+    Plan(Result<&'static str, SourceFault>),
     /// `check` of `s`, `f` and `p`.
     Check(CheckEnd),
     /// `send` of `s` and `f` to the file `d`.
@@ -178,8 +179,12 @@ fn ends<P: Place, K: Link, S: Sink, L: Ledger>(
     outside: &mut Outside<P, K, S, L>,
 ) -> bool {
     match run {
-        Run::Plan(end) => plan(alloc, "s", "f", outside) == end,
-        Run::Check(end) => check(alloc, "s", "f", "p", outside) == end,
+        Run::Plan(Ok(text)) => match plan(alloc, "s", "f", outside.place) {
+            PlanEnd::Done(bytes) => bytes.as_slice() == text.as_bytes(),
+            _ => false,
+        },
+        Run::Plan(Err(fault)) => plan(alloc, "s", "f", outside.place) == PlanEnd::from(fault),
+        Run::Check(end) => check(alloc, "s", "f", "p", outside.place) == end,
         Run::Send(end) => send(alloc, "s", "f", Route::File("d"), outside) == end,
         Run::SendByLink(end) => send(alloc, "s", "f", Route::Udp("x:1"), outside) == end,
     }

@@ -1,11 +1,11 @@
 //! `plan` and `check` over objects in memory. Plans and session numbers were computed outside.
 use crate::cases::{ALL_GO, Files, NO_TYPE, Run, Stream, is_so};
-use command_plan::{CheckEnd, PlanEnd};
+use command_plan::CheckEnd;
 use example_session::{PLAN, PRIORITIES, STREAM};
 use mpeg_scan::Scan;
 use priority_file::PriorityFault;
 use std::alloc::Global;
-use stream_session::SessionFault;
+use stream_session::{SessionFault, SourceFault};
 
 /// The example stream; a head and an I picture; heads in one piece of 64,931 and of 64,933 bytes; groups of ten bytes.
 const EXAMPLE: Stream = (&STREAM, &[], 0);
@@ -48,22 +48,22 @@ const ANY_ORDER_PLAN: &str =
 const FIRST_B_PLAN: &str =
     "session 7155c4f4ede0094a groups 1 packets 6\ngroup 0 words 34 stripes 15 bound 16 datagram 89\nlayer 0 base bytes 46 need 2 count 2\nlayer 1 P bytes 14 need 3 count 3\nlayer 2 B bytes 8 need 5 count 4\nlengths 2x12 3x2 4x1\n";
 
-const PLANNED: Run = Run::Plan(PlanEnd::Done);
+const PLANNED: Run = Run::Plan(Ok(PLAN));
 
-const NO_PLACE: Run = Run::Plan(PlanEnd::PlaceFault);
+const NO_PLACE: Run = Run::Plan(Err(SourceFault::Failed));
 
-const CHECKED: Run = Run::Check(CheckEnd::Done);
+const CHECKED: Run = Run::Check(CheckEnd::Done(1));
 
 const NO_PLACE_CHECKED: Run = Run::Check(CheckEnd::PlaceFault);
 
-/// Files, the command and its end, and what is printed. No file is made, and nothing is sent.
-type Row = (Files, Run, &'static str);
+/// Files, and the command with its end. No file is made, and nothing is printed or sent.
+type Row = (Files, Run);
 
 /// The number of the first of these rows that is not so.
 fn first_other(alloc: Global, rows: &[Row]) -> Option<usize> {
     for row in 0..rows.len() {
-        let (files, run, printed) = rows[row];
-        if !is_so(alloc, &(files, ALL_GO, run, printed, None, 0)).unwrap_or(false) {
+        let (files, run) = rows[row];
+        if !is_so(alloc, &(files, ALL_GO, run, "", None, 0)).unwrap_or(false) {
             return Some(row);
         }
     }
@@ -72,49 +72,44 @@ fn first_other(alloc: Global, rows: &[Row]) -> Option<usize> {
 
 /// Streams and priorities, and their plan or why there is none.
 static PLANS: [Row; 10] = [
-    ((Some(EXAMPLE), Some(PRIORITIES), None), PLANNED, PLAN),
+    ((Some(EXAMPLE), Some(PRIORITIES), None), PLANNED),
     (
         (Some(EXAMPLE), Some(NEEDS_IN_ANY_ORDER), None),
-        PLANNED,
-        ANY_ORDER_PLAN,
+        Run::Plan(Ok(ANY_ORDER_PLAN)),
     ),
     (
         (Some(EXAMPLE), Some(FIRST_B_WITH_P), None),
-        PLANNED,
-        FIRST_B_PLAN,
+        Run::Plan(Ok(FIRST_B_PLAN)),
     ),
     // one run, and two empty layers
     (
         (Some(ONE_PICTURE), Some(PRIORITIES), None),
-        PLANNED,
-        ONE_PICTURE_PLAN,
+        Run::Plan(Ok(ONE_PICTURE_PLAN)),
     ),
-    ((Some(WIDEST), Some(ALL_IN_ONE), None), PLANNED, WIDEST_PLAN),
+    (
+        (Some(WIDEST), Some(ALL_IN_ONE), None),
+        Run::Plan(Ok(WIDEST_PLAN)),
+    ),
     (
         (Some(TOO_WIDE), Some(ALL_IN_ONE), None),
-        Run::Plan(PlanEnd::BadPlan(SessionFault::TooWide(0))),
-        "",
+        Run::Plan(Err(SourceFault::Plan(SessionFault::TooWide(0)))),
     ),
     (
         (Some(MANY), Some(PRIORITIES), None),
-        Run::Plan(PlanEnd::BadPlan(SessionFault::TooManyGroups)),
-        "",
+        Run::Plan(Err(SourceFault::Plan(SessionFault::TooManyGroups))),
     ),
     (
         (Some(EMPTY), Some(PRIORITIES), None),
-        Run::Plan(PlanEnd::BadStream(Scan::Empty)),
-        "",
+        Run::Plan(Err(SourceFault::Stream(Scan::Empty))),
     ),
     (
         (Some((NO_TYPE, &[], 0)), Some(PRIORITIES), None),
-        Run::Plan(PlanEnd::BadStream(Scan::PictureType(4, 5))),
-        "",
+        Run::Plan(Err(SourceFault::Stream(Scan::PictureType(4, 5)))),
     ),
     // a bad priority file comes before a bad stream
     (
         (Some(EMPTY), Some(NO_LAYERS), None),
-        Run::Plan(PlanEnd::BadPriority(PriorityFault::MissingKey)),
-        "",
+        Run::Plan(Err(SourceFault::Priority(PriorityFault::MissingKey))),
     ),
 ];
 
@@ -127,11 +122,7 @@ const NOT_LEAST: Run = Run::Check(CheckEnd::NotLeast(0));
 
 /// Plan files of the example session.
 static CHECKS: [Row; 7] = [
-    (
-        (Some(EXAMPLE), Some(PRIORITIES), Some(PLAN)),
-        CHECKED,
-        "least 1\n",
-    ),
+    ((Some(EXAMPLE), Some(PRIORITIES), Some(PLAN)), CHECKED),
     (
         (
             Some(EXAMPLE),
@@ -139,17 +130,14 @@ static CHECKS: [Row; 7] = [
             Some("lengths 2x11 1x1 3x1 1x1 5x1 3x1\n"),
         ),
         NOT_LEAST,
-        "",
     ),
     (
         (Some(EXAMPLE), Some(PRIORITIES), Some("lengths 2x012\n")),
         Run::Check(CheckEnd::Text(1)),
-        "",
     ),
     (
         (Some(EXAMPLE), Some(PRIORITIES), Some("")),
         Run::Check(CheckEnd::Lines(0)),
-        "",
     ),
     (
         (
@@ -158,7 +146,6 @@ static CHECKS: [Row; 7] = [
             Some("lengths 2x12 3x1 5x1 3x1\nlengths 2x12 3x1 5x1 3x1"),
         ),
         Run::Check(CheckEnd::Lines(2)),
-        "",
     ),
     // too few words, and too many
     (
@@ -168,7 +155,6 @@ static CHECKS: [Row; 7] = [
             Some("lengths 2x12 3x1 5x1\n"),
         ),
         NOT_LEAST,
-        "",
     ),
     (
         (
@@ -177,7 +163,6 @@ static CHECKS: [Row; 7] = [
             Some("lengths 2x12 3x1 5x1 3x1 4294967295x4294967295\n"),
         ),
         NOT_LEAST,
-        "",
     ),
 ];
 
@@ -188,38 +173,30 @@ fn checks_plans_of_the_example(rt: HostRuntime) {
 
 /// Files that are missing or bad, each judged before the next is read.
 static JUDGED: [Row; 10] = [
-    ((None, None, None), NO_PLACE_CHECKED, ""),
-    ((None, None, None), NO_PLACE, ""),
+    ((None, None, None), NO_PLACE_CHECKED),
+    ((None, None, None), NO_PLACE),
     // a bad priority file, and a stream that is missing
     (
         (None, Some(NO_LAYERS), None),
         Run::Check(CheckEnd::BadPriority(PriorityFault::MissingKey)),
-        "",
     ),
     (
         (None, Some(NO_LAYERS), None),
-        Run::Plan(PlanEnd::BadPriority(PriorityFault::MissingKey)),
-        "",
+        Run::Plan(Err(SourceFault::Priority(PriorityFault::MissingKey))),
     ),
-    ((None, Some(PRIORITIES), None), NO_PLACE_CHECKED, ""),
-    ((None, Some(PRIORITIES), None), NO_PLACE, ""),
+    ((None, Some(PRIORITIES), None), NO_PLACE_CHECKED),
+    ((None, Some(PRIORITIES), None), NO_PLACE),
     // a bad stream, and a plan file that is missing
     (
         (Some(EMPTY), Some(PRIORITIES), None),
         Run::Check(CheckEnd::BadStream(Scan::Empty)),
-        "",
     ),
     (
         (Some(EMPTY), Some(PRIORITIES), None),
-        Run::Plan(PlanEnd::BadStream(Scan::Empty)),
-        "",
+        Run::Plan(Err(SourceFault::Stream(Scan::Empty))),
     ),
-    (
-        (Some(EXAMPLE), Some(PRIORITIES), None),
-        NO_PLACE_CHECKED,
-        "",
-    ),
-    ((Some(EXAMPLE), Some(PRIORITIES), None), PLANNED, PLAN),
+    ((Some(EXAMPLE), Some(PRIORITIES), None), NO_PLACE_CHECKED),
+    ((Some(EXAMPLE), Some(PRIORITIES), None), PLANNED),
 ];
 
 #[test]
@@ -229,43 +206,39 @@ fn judges_one_file_after_the_other(rt: HostRuntime) {
 
 const ALL: Files = (Some(EXAMPLE), Some(PRIORITIES), Some(PLAN));
 
-/// The calls that fail, the command and its end, and what is printed.
-type Failing = ([&'static [u64]; 3], Run, &'static str);
+/// The call of the place that fails, and the command with its end.
+type Failing = (&'static [u64], Run);
 
 /// The number of the first of these rows that is not so of all three files.
 fn first_wrong(alloc: Global, rows: &[Failing]) -> Option<usize> {
     for row in 0..rows.len() {
-        let (calls, run, printed) = rows[row];
-        if !is_so(alloc, &(ALL, calls, run, printed, None, 0)).unwrap_or(false) {
+        let (calls, run) = rows[row];
+        if !is_so(alloc, &(ALL, [calls, &[], &[]], run, "", None, 0)).unwrap_or(false) {
             return Some(row);
         }
     }
     None
 }
 
-/// Of each file there are three calls: it is entered, has all its bytes taken, and is at its end. What is printed is put in one.
-static FAILING: [Failing; 21] = [
-    ([&[0], &[], &[]], NO_PLACE_CHECKED, ""),
-    ([&[1], &[], &[]], NO_PLACE_CHECKED, ""),
-    ([&[2], &[], &[]], NO_PLACE_CHECKED, ""),
-    ([&[3], &[], &[]], NO_PLACE_CHECKED, ""),
-    ([&[4], &[], &[]], NO_PLACE_CHECKED, ""),
-    ([&[5], &[], &[]], NO_PLACE_CHECKED, ""),
-    ([&[6], &[], &[]], NO_PLACE_CHECKED, ""),
-    ([&[7], &[], &[]], NO_PLACE_CHECKED, ""),
-    ([&[8], &[], &[]], NO_PLACE_CHECKED, ""),
-    ([&[9], &[], &[]], CHECKED, "least 1\n"),
-    ([&[0], &[], &[]], NO_PLACE, ""),
-    ([&[1], &[], &[]], NO_PLACE, ""),
-    ([&[2], &[], &[]], NO_PLACE, ""),
-    ([&[3], &[], &[]], NO_PLACE, ""),
-    ([&[4], &[], &[]], NO_PLACE, ""),
-    ([&[5], &[], &[]], NO_PLACE, ""),
-    ([&[6], &[], &[]], PLANNED, PLAN),
-    ([&[], &[], &[0]], Run::Check(CheckEnd::OutFault), ""),
-    ([&[], &[], &[1]], CHECKED, "least 1\n"),
-    ([&[], &[], &[0]], Run::Plan(PlanEnd::OutFault), ""),
-    ([&[], &[], &[1]], PLANNED, PLAN),
+/// Of each file there are three calls: it is entered, has all its bytes taken, and is at its end.
+static FAILING: [Failing; 17] = [
+    (&[0], NO_PLACE_CHECKED),
+    (&[1], NO_PLACE_CHECKED),
+    (&[2], NO_PLACE_CHECKED),
+    (&[3], NO_PLACE_CHECKED),
+    (&[4], NO_PLACE_CHECKED),
+    (&[5], NO_PLACE_CHECKED),
+    (&[6], NO_PLACE_CHECKED),
+    (&[7], NO_PLACE_CHECKED),
+    (&[8], NO_PLACE_CHECKED),
+    (&[9], CHECKED),
+    (&[0], NO_PLACE),
+    (&[1], NO_PLACE),
+    (&[2], NO_PLACE),
+    (&[3], NO_PLACE),
+    (&[4], NO_PLACE),
+    (&[5], NO_PLACE),
+    (&[6], PLANNED),
 ];
 
 #[test]

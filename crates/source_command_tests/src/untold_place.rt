@@ -1,12 +1,12 @@
 //! A place of the tests that tells nothing, and whose stream may be another when it is opened again.
-ghost use Rattle.std.specs.Prelude.{◌≡◌, ◌≤◌};
-ghost use Rattle.pet_base.specs.Causes.{Rose};
+ghost use Rattle.std.specs.Prelude.{◌≡◌, ◌≤◌, true};
+ghost use Rattle.pet_base.specs.Causes.{Rose, one_more};
 
 use pet_base::{Failed, Place};
 use std::alloc::Global;
 
 /// A priority file `f`, a stream `s`, and a file `d` that can be made; at every other name a call fails. Of all this a
-/// caller is told only how often a call failed.
+/// caller is told only how often a call failed, and whether the last one did.
 #[derive(Drop)]
 pub(crate) struct UntoldPlace<'a> {
     alloc: Global,
@@ -17,6 +17,7 @@ pub(crate) struct UntoldPlace<'a> {
     input: Option<&'a [u8]>,
     output: Option<Vec<u8>>,
     faults: u64,
+    failing: bool,
 }
 
 impl<'a> UntoldPlace<'a> {
@@ -35,6 +36,7 @@ impl<'a> UntoldPlace<'a> {
             input: None,
             output: None,
             faults: 0,
+            failing: false,
         }
     }
 
@@ -62,13 +64,15 @@ impl<'a> UntoldPlace<'a> {
         }
     }
 
-    /// Counts a failure. The count stops at the last value of a u64.
+    /// Counts a failure of the last call. The count stops at the last value of a u64.
     fn fail(&mut self) -> Failed
-        ensures same { self.new ≡ record self.old { faults = self.new.faults } }
+        ensures same { self.new ≡ record self.old { faults = self.new.faults; failing = true } }
         ensures later { self.old.faults ≤ self.new.faults }
         ensures rose { Rose self.old.faults self.new.faults }
+        ensures once { self.new.faults ≡ one_more self.old.faults }
     {
         self.faults = self.faults.saturating_add(1);
+        self.failing = true;
         Failed
     }
 }
@@ -85,9 +89,11 @@ impl Place for UntoldPlace<'_> {
       has_output = is_some p.output;
       blamed = None;
       faults = p.faults;
+      failing = p.failing;
     } };
 
     fn enter(&mut self, name: &str) -> Result<(), Failed> {
+        self.failing = false;
         self.input = self.open(name);
         match self.input {
             Some(_) => Ok(()),
@@ -96,6 +102,7 @@ impl Place for UntoldPlace<'_> {
     }
 
     fn take(&mut self, into: &mut [u8]) -> Result<usize, Failed> {
+        self.failing = false;
         let Some(left) = self.input else {
             unreachable!()
         };
@@ -106,6 +113,7 @@ impl Place for UntoldPlace<'_> {
     }
 
     fn create(&mut self, name: &str) -> Result<(), Failed> {
+        self.failing = false;
         if name != "d" {
             self.output = None;
             return Err(self.fail());
@@ -115,6 +123,7 @@ impl Place for UntoldPlace<'_> {
     }
 
     fn put(&mut self, bytes: &[u8]) -> Result<(), Failed> {
+        self.failing = false;
         let Some(output) = &mut self.output else {
             unreachable!()
         };

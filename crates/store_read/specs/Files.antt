@@ -1,5 +1,5 @@
 -- Why the store in a file is not read. This project's own.
-use Rattle.std.specs.Prelude.{ℕ, List, [], ◌∷◌}
+use Rattle.std.specs.Prelude.{ℕ, Bool, true, false, List, [], ◌∷◌}
 use Rattle.pet_base.specs.declared.faults.Stop.{Stop}
 use Rattle.pet_base.specs.declared.faults.Stop.TheVariants as place
 use Rattle.pet_base.specs.Seen.{Seen}
@@ -15,6 +15,12 @@ abbrev pub IsStop : Seen → Seen → List ℕ → StoreStop → Type 0
 IsStop old new name stop.NoMemory = Unit {0}
 IsStop old new name stop.Failed = Failed (reading name ∷ []) old new
 IsStop old new name (stop.At at kind) = HasBadStore old.files name (At at kind)
+
+-- which of these tell of a failure of the place
+abbrev pub has_failed : StoreStop → Bool
+has_failed stop.NoMemory = false
+has_failed stop.Failed = true
+has_failed (stop.At at kind) = false
 
 -- the stop that a place's is, and that the refusal of a store is
 abbrev pub stop_of_place : Stop → StoreStop

@@ -1,7 +1,8 @@
 //! The store in a file of a place.
 ghost use Rattle.std.specs.Prelude.{◌≡◌, ◌≢◌, ◌⊎◌, ◌+◌, ◌≤◌, [], ◌∷◌, map, None, Some, Ok, Err, IfOk, IfErr, OnOk, OnErr};
 ghost use Rattle.pet_base.specs.declared.limits.TheConstants.{MAX_PACKETS};
-ghost use Rattle.pet_base.specs.Seen.{Seen, KeepsOutput, KeepsInput, HasBlame};
+ghost use Rattle.pet_base.specs.Seen.{Seen, KeepsOutput, KeepsInput, HasBlame, PlaceStops};
+ghost use Rattle.pet_base.specs.Causes.{stops};
 ghost use Rattle.command_files.specs.Inputs.{Licensed};
 ghost use Rattle.command_files.specs.Uses.{writing, IsOneOf, Failed as HasFailed};
 ghost use Rattle.command_files.specs.Wrote.{Wrote};
@@ -9,7 +10,7 @@ ghost use Rattle.kept_sets.specs.KeptSet.{IsKeptSet};
 ghost use Rattle.pet_receive.specs.Arrivals.{kept_set, HasKept};
 ghost use Rattle.kept_sets.specs.Union.{frames_in};
 ghost use Rattle.store_read.specs.Reading.{store_steps};
-ghost use Rattle.store_read.specs.Files.{IsStop};
+ghost use Rattle.store_read.specs.Files.{IsStop, has_failed};
 ghost use Rattle.store_text.specs.Files.{HasStore, store_in, store_file};
 
 use crate::read::read_store;
@@ -76,6 +77,7 @@ pub fn read_store_file<'f, F: Rows, P: Place, L: Ledger>(
     ensures sound { IfOk result (λ r. IsKeptSet (kept_set r)) }
     ensures others { KeepsOutput (P.seen place.old) (P.seen place.new) }
     ensures later { (P.seen place.old).faults ≤ (P.seen place.new).faults }
+    ensures once { PlaceStops (stops has_failed result) (P.seen place.old) (P.seen place.new) }
 {
     let bytes = read_file(alloc, name, MAX_STORE, place)?;
     Ok(store_of(alloc, f, bytes.as_slice(), steps)?)

@@ -1,6 +1,8 @@
 //! The file of a store.
-ghost use Rattle.std.specs.Prelude.{◌≡◌, ◌⊎◌, ◌≤◌, [], ◌∷◌, None, Some, Err, IfErr, OnOk, OnErr};
-ghost use Rattle.pet_base.specs.Seen.{Seen, KeepsInput, HasBlame};
+ghost use Rattle.std.specs.Prelude.{◌≡◌, ◌⊎◌, ◌≤◌, [], ◌∷◌, None, Some, Err, is_err, IfErr, OnOk, OnErr};
+ghost use Rattle.pet_base.specs.Seen.{Seen, KeepsInput, HasBlame, PlaceStops};
+ghost use Rattle.pet_base.specs.Causes.{stops};
+ghost use Rattle.command_files.specs.Failures.{has_failed};
 ghost use Rattle.command_files.specs.Inputs.{Licensed};
 ghost use Rattle.command_files.specs.Uses.{writing, IsOneOf, Failed as HasFailed};
 ghost use Rattle.command_files.specs.Wrote.{Wrote};
@@ -29,6 +31,7 @@ pub fn write_store_file<F: Rows, P: Place>(
     ensures cause { IfErr result (Licensed (HasFailed (writing name.now ∷ []) (P.seen place.old)
         (P.seen place.new))) }
     ensures later { (P.seen place.old).faults ≤ (P.seen place.new).faults }
+    ensures once { PlaceStops (stops has_failed result) (P.seen place.old) (P.seen place.new) }
 {
     let mut text = Vec::new(alloc);
     write_store(receiver, &mut text)?;
@@ -44,6 +47,7 @@ fn put_file<P: Place>(name: &str, bytes: &[u8], place: &mut P) -> Result<(), Fai
     ensures input { KeepsInput (P.seen place.old) (P.seen place.new) }
     ensures cause { HasBlame (P.seen place.old) (P.seen place.new) result
         (IsOneOf (writing name.now ∷ [])) }
+    ensures once { PlaceStops (is_err result) (P.seen place.old) (P.seen place.new) }
 {
     place.create(name)?;
     place.put(bytes)

@@ -1,5 +1,5 @@
 -- The session of a stream and a priority file that a place holds, and why there is none. This project's own.
-use Rattle.std.specs.Prelude.{◌≡◌, ◌≢◌, ◌⊎◌, ℕ, List, Option, None, Some}
+use Rattle.std.specs.Prelude.{◌≡◌, ◌≢◌, ◌⊎◌, Bool, true, false, ℕ, List, Option, None, Some}
 use Rattle.pet_base.specs.declared.faults.Stop.{Stop}
 use Rattle.pet_base.specs.declared.faults.Stop.TheVariants as stop
 use Rattle.pet_base.specs.Seen.{Seen, Files, Blame, HadFault}
@@ -58,6 +58,14 @@ pub record BothFiles (files : Option Files) (stream priority : List ℕ) (P : Li
 abbrev pub IsOfSource : Option Files → List ℕ → List ℕ → Blame → Type 0
 IsOfSource files stream priority blame =
     IsRead priority blame ⊎ (IsRead stream blame × (file : List ℕ) × IsFile files priority file × (refusal_of file ≡ None))
+
+-- which of these tell of a failure of the place
+abbrev pub has_failed : SourceFault → Bool
+has_failed NoMemory = false
+has_failed Failed = true
+has_failed (Priority fault) = false
+has_failed (Stream scan) = false
+has_failed (Plan fault) = false
 
 -- When each fault comes: want of memory at any time, a failure where the place had a fault at one of the files, and else
 -- the first refusal, of the priority file, of the stream, or of the plan.

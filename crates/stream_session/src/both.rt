@@ -2,13 +2,14 @@
 ghost use Rattle.std.specs.Prelude.{◌≡◌, ◌<◌, ◌≤◌, ◌^◌, ℕ, List, [], length, true, OnOk, IfOk, IfErr};
 ghost use Rattle.pet_base.specs.declared.limits.TheConstants.{MAX_STREAM};
 ghost use Rattle.pet_base.specs.declared.place.Side.TheVariants.{Read};
-ghost use Rattle.pet_base.specs.Causes.{Blames};
-ghost use Rattle.pet_base.specs.Seen.{Seen, KeepsOutput, OnlyReads, HadFault};
+ghost use Rattle.pet_base.specs.Causes.{Blames, stops};
+ghost use Rattle.pet_base.specs.Seen.{Seen, KeepsOutput, OnlyReads, HadFault, PlaceStops};
 ghost use Rattle.priority_file.specs.Priority.{Priorities};
 ghost use Rattle.priority_file.specs.Refusals.{priorities_of};
 ghost use Rattle.command_files.specs.declared.input.TheConstants.{MAX_PORTION};
+ghost use Rattle.command_files.specs.Failures.{has_failed as stop_failed};
 ghost use Rattle.command_files.specs.Inputs.{IsFrontOf, IsRead, Licensed, HasTakenAll};
-ghost use Rattle.stream_session.specs.Sources.{BothFiles, IsSourceFault};
+ghost use Rattle.stream_session.specs.Sources.{BothFiles, IsSourceFault, has_failed};
 
 use crate::reader::StreamReader;
 use crate::source::SourceFault;
@@ -31,6 +32,7 @@ pub(crate) fn read_both<P: Place, R: StreamReader>(
     ensures later { (P.seen place.old).faults ≤ (P.seen place.new).faults }
     ensures cause { IfErr result (IsSourceFault (P.seen place.old) (P.seen place.new) stream.now
         priority.now) }
+    ensures once { PlaceStops (stops has_failed result) (P.seen place.old) (P.seen place.new) }
 {
     let file = read_file(alloc, priority, u64::from(MAX_PRIORITY_FILE), place)?;
     let rules = read_priority(alloc, &file)?;
@@ -55,6 +57,7 @@ fn read_through<P: Place, R: StreamReader>(
     ensures later { (P.seen place.old).faults ≤ (P.seen place.new).faults }
     ensures cause { IfErr result (Licensed (HadFault (P.seen place.old) (P.seen place.new)
         (IsRead name.now))) }
+    ensures once { PlaceStops (stops stop_failed result) (P.seen place.old) (P.seen place.new) }
 {
     let mut reader = R::begin(alloc, priority, file)?;
     let mut buffer = portion_room(alloc)?;
@@ -77,6 +80,7 @@ fn pass_over<P: Place, R: StreamReader>(
     ensures later { (P.seen place.old).faults ≤ (P.seen place.new).faults }
     ensures cause { IfErr result (Licensed (HadFault (P.seen place.old) (P.seen place.new)
         (Blames Read (P.seen place.old).source))) }
+    ensures once { PlaceStops (stops stop_failed result) (P.seen place.old) (P.seen place.new) }
 {
     let mut read = 0u64;
     while read <= MAX_STREAM {

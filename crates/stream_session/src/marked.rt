@@ -1,8 +1,9 @@
 //! The session of a stream and a priority file, with the marks of the stream's groups.
 ghost use Rattle.std.specs.Prelude.{◌≡◌, ◌≤◌, IfOk, IfErr};
-ghost use Rattle.pet_base.specs.Seen.{Seen, KeepsOutput};
+ghost use Rattle.pet_base.specs.Causes.{stops};
+ghost use Rattle.pet_base.specs.Seen.{Seen, KeepsOutput, PlaceStops};
 ghost use Rattle.priority_file.specs.Refusals.{priorities_of};
-ghost use Rattle.stream_session.specs.Sources.{IsSource, IsSourceFault};
+ghost use Rattle.stream_session.specs.Sources.{IsSource, IsSourceFault, has_failed};
 ghost use Rattle.stream_session.specs.Marks.{marks_of};
 
 use crate::both::read_both;
@@ -39,6 +40,7 @@ pub fn read_marked<P: Place>(
     ensures later { (P.seen place.old).faults ≤ (P.seen place.new).faults }
     ensures cause { IfErr result (IsSourceFault (P.seen place.old) (P.seen place.new) stream.now
         priority.now) }
+    ensures once { PlaceStops (stops has_failed result) (P.seen place.old) (P.seen place.new) }
 {
     let (rules, marked) = read_both::<P, MarkedPass>(alloc, stream, priority, place)?;
     Ok(MarkedSource {

@@ -1,7 +1,8 @@
 //! The session of a stream and a priority file that a place holds.
 ghost use Rattle.std.specs.Prelude.{◌≡◌, ◌≤◌, IfOk, IfErr};
-ghost use Rattle.pet_base.specs.Seen.{Seen, KeepsOutput};
-ghost use Rattle.stream_session.specs.Sources.{IsSource, IsSourceFault};
+ghost use Rattle.pet_base.specs.Causes.{stops};
+ghost use Rattle.pet_base.specs.Seen.{Seen, KeepsOutput, PlaceStops};
+ghost use Rattle.stream_session.specs.Sources.{IsSource, IsSourceFault, has_failed};
 
 use crate::both::read_both;
 use crate::fault::SessionFault;
@@ -109,6 +110,7 @@ pub fn read_source<P: Place>(
     ensures later { (P.seen place.old).faults ≤ (P.seen place.new).faults }
     ensures cause { IfErr result (IsSourceFault (P.seen place.old) (P.seen place.new) stream.now
         priority.now) }
+    ensures once { PlaceStops (stops has_failed result) (P.seen place.old) (P.seen place.new) }
 {
     let (rules, plan) = read_both::<P, Pass>(alloc, stream, priority, place)?;
     Ok(Source::of(rules, plan))

@@ -1,10 +1,10 @@
 -- Laws of what is printed, for the proofs of callers.
-use Rattle.std.proofs.Common.{◌≡◌, ℕ, ◌≤◌, take, List, [], ◌++◌, Option, None, Some, refl, sym, ap, subst, ◌∙◌, append_assoc, arith}
+use Rattle.std.proofs.Common.{◌≡◌, ◌⊎◌, inl, inr, ℕ, ◌≤◌, take, List, [], ◌++◌, Option, None, Some, refl, sym, ap, subst, ◌∙◌, append_assoc, arith}
 use Rattle.std.proofs.lemmas.List.{append-nil}
 use Rattle.std.proofs.Math.Seq.{take-length}
-use Rattle.std.specs.Prelude.{Result, Ok, Err, OnOk, OnErr, length}
+use Rattle.std.specs.Prelude.{Result, Ok, Err, is_err, OnOk, OnErr, length}
 use Rattle.std.specs.Io.KnownBytes.{append_known}
-use Rattle.pet_base.specs.Causes.{Rose, HasCause}
+use Rattle.pet_base.specs.Causes.{Rose, HasCause, count_after, one_more}
 use Rattle.pet_base.specs.declared.faults.Failed.{Failed}
 use Rattle.pet_base.specs.Seen.{Seen, Blame, HadFault}
 use Rattle.pet_base.specs.OutsideSeen.{OutsideSeen}
@@ -32,6 +32,11 @@ pub line_put : (result : Result Unit Failed) (line : List ℕ) (before after : O
     → ((k : ℕ) × (after ≡ append_known before (take k line))) × ((Rose fb fa → ⊥) → after ≡ append_known before line)
 line_put (Ok x) line before after fb fa whole part cause = ((length line, whole ∙ ap (append_known before) (sym (take-length line))), λ _. whole)
 line_put (Err e) line before after fb fa whole part cause = (part, λ well. absurd (well cause.failed))
+
+-- it failed at most once
+pub count_once : {T E : Type 0} (result : Result T E) (before now : ℕ) → now ≡ count_after (is_err result) before → (now ≡ before) ⊎ (now ≡ one_more before)
+count_once (Ok x) before now count = inl count
+count_once (Err e) before now count = inr count
 
 -- Where nothing had a fault in a whole call, nothing had one before its last line, nor in the line.
 module _ (uses : List Blame) (line : List ℕ) (before between after : OutsideSeen) (printed : PrintsLine line between after) (well : IsWell uses before after) where

@@ -1,11 +1,8 @@
 -- Stores of one session are merged, from what each end tells.
 use Rattle.std.proofs.Common.{◌≡◌, ℕ, List, [], ◌∷◌, ◌++◌, length, Option, None, Some, refl, sym, ap, ◌∙◌, inl, inr}
 use Rattle.std.specs.Prelude.{option_map, IfSome}
-use Rattle.std.specs.Io.KnownBytes.{append_known}
 use Rattle.pet_base.specs.declared.limits.TheConstants.{MAX_SESSION}
-use Rattle.pet_base.specs.OutsideSeen.{OutsideSeen}
 use Rattle.pet_base.specs.Seen.{Seen, Files, Blame, HadFault, with_file}
-use Rattle.command_files.specs.Printed.{Printed}
 use Rattle.command_files.specs.Uses.{reading, writing, Failed}
 use Rattle.command_files.specs.Wrote.{with_files}
 use Rattle.pet_encode.specs.Session.{Session}
@@ -24,11 +21,10 @@ use Rattle.met_packets.specs.Met.{Pair}
 use Rattle.met_packets.specs.MetStore.{pairs_store}
 use Rattle.met_packets.specs.laws.SetOfPairs.{IsMetSet, its_frames, met_sets_fit, met_sets_join}
 use Rattle.met_packets.specs.laws.StoreRead.{IsStoreOf, text_is, store_is, read_so, not_refused}
-use Rattle.pet_text.specs.Lines.{merged_text}
-use Rattle.command_merge.specs.Merges.{HasStores, FailedInTurn, WritesUnion, union_of, EndsMerge, Merges}
+use Rattle.command_merge.specs.Merges.{HasStores, FailedInTurn, WritesUnion, union_of, Merges}
 use Rattle.command_merge.specs.MergesSession.{HasStoresOf, CanMerge, MergesSession, CompletesMerge}
 use Rattle.command_merge.specs.declared.command.MergeEnd.{MergeEnd}
-use Rattle.command_merge.specs.declared.command.MergeEnd.TheVariants.{Done, NoMemory, PlaceFault, OutFault, BadFirst, BadSecond, OtherSession, Clash, Full}
+use Rattle.command_merge.specs.declared.command.MergeEnd.TheVariants.{Done, NoMemory, PlaceFault, BadFirst, BadSecond, OtherSession, Clash, Full}
 
 wider : (blame : Blame) {P : Blame → Type 0} → ((b : Blame) → b ≡ blame → P b) → (old new : Seen) → Failed (blame ∷ []) old new → HadFault old new P
 wider blame {P} to old new f = record { rose = f.rose; blame = by new.blamed f.blame }
@@ -46,7 +42,7 @@ in_turn first second out old new (inr (inr f)) = wider (writing out) (λ b is. i
 none_some : {P : Type 0} (fault : Absorb) → None ≡ Some fault → P
 none_some fault e = cc
 
-module _ (s : Session) (first second out : List ℕ) (files : Files) (a b : List Pair) (before after : OutsideSeen) (given : HasStoresOf s first second files a b before.place) where
+module _ (s : Session) (first second out : List ℕ) (files : Files) (a b : List Pair) (old new : Seen) (given : HasStoresOf s first second files a b old) where
   one : (set : KeptSet) × IsStoreOf s a set
   one = store_is s a given.session given.fits
 
@@ -59,24 +55,24 @@ module _ (s : Session) (first second out : List ℕ) (files : Files) (a b : List
   together : IsMetSet gf16_coding s MAX_SESSION (a ++ b) (union one.0 other.0)
   together = met_sets_join gf16_coding s MAX_SESSION MAX_SESSION a b one.0 other.0 one.1.is_met other.1.is_met given.fits
 
-  first_so : (st : HasStores first second before.place) → st.a ≡ one.0
-  first_so st = read_so s files before.place.files first a one.0 st.a given.told given.first_is one.1 st.first_is
+  first_so : (st : HasStores first second old) → st.a ≡ one.0
+  first_so st = read_so s files old.files first a one.0 st.a given.told given.first_is one.1 st.first_is
 
-  second_so : (st : HasStores first second before.place) → st.b ≡ other.0
-  second_so st = read_so s files before.place.files second b other.0 st.b given.told given.second_is other.1 st.second_is
+  second_so : (st : HasStores first second old) → st.b ≡ other.0
+  second_so st = read_so s files old.files second b other.0 st.b given.told given.second_is other.1 st.second_is
 
-  union_so : (st : HasStores first second before.place) → union st.a st.b ≡ union one.0 other.0
+  union_so : (st : HasStores first second old) → union st.a st.b ≡ union one.0 other.0
   union_so st = ap (λ (x : KeptSet). union x st.b) (first_so st) ∙ ap (union one.0) (second_so st)
 
-  joins : (st : HasStores first second before.place) → absorb_fault st.a st.b ≡ None
+  joins : (st : HasStores first second old) → absorb_fault st.a st.b ≡ None
   joins st = ap (λ (x : KeptSet). absorb_fault x st.b) (first_so st) ∙ ap (absorb_fault one.0) (second_so st) ∙ joined
 
-  not_joined : {P : Type 0} (st : HasStores first second before.place) (fault : Absorb) → absorb_fault st.a st.b ≡ Some fault → P
+  not_joined : {P : Type 0} (st : HasStores first second old) (fault : Absorb) → absorb_fault st.a st.b ≡ Some fault → P
   not_joined st fault is = none_some fault (sym (joins st) ∙ is)
 
-  -- what was written and printed
-  session_merged : (w : WritesUnion first second out before.place after.place) → Printed (merged_text (kept_in_all (union_of w.joins))) before after → MergesSession s out files (a ++ b) before after Done
-  session_merged w printed =
+  -- what was written
+  session_merged : (w : WritesUnion first second out old new) (n : ℕ) → n ≡ kept_in_all (union_of w.joins) → MergesSession s out files (a ++ b) new (Done n)
+  session_merged w n is =
       let u = union one.0 other.0 in
       let text : store_text (union_of w.joins) ≡ pairs_store s (a ++ b) = ap store_text (union_so w.joins.stores) ∙ text_is s (a ++ b) u together in
       let many : kept_in_all (union_of w.joins) ≡ length (met_frames s (a ++ b)) =
@@ -86,22 +82,20 @@ module _ (s : Session) (first second out : List ℕ) (files : Files) (a b : List
         file =
             w.file ∙ ap (λ (o : Option Files). option_map (with_files (store_file out (union_of w.joins) ∷ [])) o) given.told
             ∙ ap (λ (t : List ℕ). Some (with_file out t files)) text;
-        ended = refl;
-        printed = printed ∙ ap (λ (n : ℕ). append_known before.written (merged_text n)) many;
+        ended = ap (λ (k : ℕ). Done k) (is ∙ many);
       }
 
   -- by the end
-  pub ends_merged : (end whole : MergeEnd) → whole ≡ end → CanMerge s first second out files a b before after whole → EndsMerge first second out before after end → MergesSession s out files (a ++ b) before after end
-  ends_merged Done whole is can ends = session_merged ends.0 ends.1
-  ends_merged OutFault whole is can ends = absurd (can.well.out ends.1.rose)
-  ends_merged NoMemory whole is can ends = absurd (can.memory is)
-  ends_merged PlaceFault whole is can ends = absurd (can.well.place (in_turn first second out before.place after.place ends.0.0))
-  ends_merged (BadFirst at kind) whole is can ends = not_refused s files before.place.files first a one.0 (At at kind) given.told given.first_is one.1 ends.0.0
-  ends_merged (BadSecond at kind) whole is can ends = not_refused s files before.place.files second b other.0 (At at kind) given.told given.second_is other.1 ends.0.1
-  ends_merged OtherSession whole is can ends = not_joined ends.0.0 absorb.OtherSession ends.0.1
-  ends_merged (Clash group number) whole is can ends = not_joined ends.0.0 (absorb.Clash group number) ends.0.1
-  ends_merged (Full group) whole is can ends = not_joined ends.0.0 (absorb.Full group) ends.0.1
+  pub ends_merged : (end : MergeEnd) → CanMerge s first second out files a b old new end → Merges first second out old new end → MergesSession s out files (a ++ b) new end
+  ends_merged (Done n) can merges = session_merged merges.0 n merges.1
+  ends_merged NoMemory can merges = absurd (can.memory refl)
+  ends_merged PlaceFault can merges = absurd (can.well (in_turn first second out old new merges.0))
+  ends_merged (BadFirst at kind) can merges = not_refused s files old.files first a one.0 (At at kind) given.told given.first_is one.1 merges.0
+  ends_merged (BadSecond at kind) can merges = not_refused s files old.files second b other.0 (At at kind) given.told given.second_is other.1 merges.1
+  ends_merged OtherSession can merges = not_joined merges.0 absorb.OtherSession merges.1
+  ends_merged (Clash group number) can merges = not_joined merges.0 (absorb.Clash group number) merges.1
+  ends_merged (Full group) can merges = not_joined merges.0 (absorb.Full group) merges.1
 
 -- stores of one session are merged, by what `merge` does
-pub completes_merge : (first second out : List ℕ) (before after : OutsideSeen) (end : MergeEnd) → Merges first second out before after end → CompletesMerge first second out before after end
-completes_merge first second out before after end merges = λ s files a b can. ends_merged s first second out files a b before after can.given end end refl can merges.ends
+pub completes_merge : (first second out : List ℕ) (old new : Seen) (end : MergeEnd) → Merges first second out old new end → CompletesMerge first second out old new end
+completes_merge first second out old new end merges = λ s files a b can. ends_merged s first second out files a b old new can.given end can merges

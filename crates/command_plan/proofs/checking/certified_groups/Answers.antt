@@ -2,7 +2,7 @@ use Rattle.std.proofs.Common.{◌≤◌, List, length, map, sym, subst, ◌∙�
 use Rattle.std.proofs.lemmas.Result.{IfOk-weaker, IfErr-weaker}
 use Rattle.pet_base.specs.declared.limits.TheConstants.{MAX_GROUPS}
 use Rattle.stripe_plan.specs.Sizes.{Sizes}
-use Rattle.command_plan.specs.Checks.{IsCause}
+use Rattle.command_plan.specs.Checks.{Checks}
 use Rattle.stream_session.specs.laws.SourceLaws.{session_in, source_few}
 use Rattle.pet_base.specs.laws.Through.{each_err_and}
 use Rattle.command_plan.proofs.CheckCauses.{cause_of_source, no_lists, not_certified, certified, lists_lent}
@@ -21,7 +21,7 @@ returns-in_err-source-clause-cause g c =
     let new = g.P.Place.seen c.read_source.new.place in
     each_err_and c.from_residual.result _ _
     (λ e is.
-    subst (IsCause old new c.args.stream.now c.args.priority.now c.args.plan.now) (sym is)
+    subst (Checks old new c.args.stream.now c.args.priority.now c.args.plan.now) (sym is)
     (cause_of_source old new c.args.stream.now c.args.priority.now c.args.plan.now c.in_err-source.field-0.0 c.in_err-source.ensures.cause))
     c.from_residual.ensures.1
 
@@ -33,7 +33,7 @@ returns-in_err-lists-clause-cause g c =
     let session = session_in old c.args.stream.now c.args.priority.now c.in_ok-source.source c.in_ok-source.ensures.source in
     each_err_and c.from_residual-in_err-lists.result _ _
     (λ e is.
-    subst (IsCause old new c.args.stream.now c.args.priority.now c.args.plan.now) (sym is)
+    subst (Checks old new c.args.stream.now c.args.priority.now c.args.plan.now) (sym is)
     (no_lists old between new c.args.stream.now c.args.priority.now c.args.plan.now c.in_err-lists.field-0.0 session c.read_source.ensures.others.files c.read_source.ensures.later c.in_err-lists.ensures.cause))
     c.from_residual-in_err-lists.ensures.1
 

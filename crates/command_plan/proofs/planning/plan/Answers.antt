@@ -1,44 +1,23 @@
-use Rattle.std.proofs.Common.{refl, sym, subst, arith}
-use Rattle.command_plan.specs.Plans.{PlanTells}
-use Rattle.command_plan.specs.SessionPlan.{session_plan}
+use Rattle.std.proofs.Common.{◌≡◌, Bool, sym, ap, subst, ◌∙◌}
+use Rattle.pet_base.specs.Seen.{PlaceStops}
+use Rattle.command_plan.specs.Ends.{plan_failed}
+use Rattle.command_plan.specs.Plans.{PlanEnds}
 use Rattle.command_plan.specs.laws.PlanLaws.{plans_session}
-use Rattle.command_plan.proofs.PutTexts.{put_whole, put_front}
-use Rattle.command_plan.proofs.PlanEnds.{plan_refused}
+use Rattle.command_plan.proofs.PlanEnds.{plan_refused, failed_alike}
 use Rattle.command_plan.proofs.planning.plan.Goals as goal
 
-pub returns-in-Ok-put-clause-plans : goal.returns-in-Ok-put-clause-plans
-returns-in-Ok-put-clause-plans g c = record {
-  only = record { files = c.text_of_files.ensures.files; link = refl; steps = refl; later = c.put.ensures.cause.later };
-  tells = put_whole (λ s. session_plan s.priority_bytes s.stream_bytes) _ _ _ _ c.as_slice.ensures.value c.in-Ok.ensures.text c.in-Ok-put.ensures.written;
-}
-
-pub returns-in-Ok-put-clause-completes : goal.returns-in-Ok-put-clause-completes
-returns-in-Ok-put-clause-completes g c = plans_session c.args.stream.now c.args.priority.now _ _ _ (returns-in-Ok-put-clause-plans g c)
-
-pub returns-in-Ok-clause-plans : goal.returns-in-Ok-clause-plans
-returns-in-Ok-clause-plans g c =
-    let read = c.in-Ok.ensures.text in
-    let part = c.in-Err-put.ensures.part in
-    record {
-      only = record { files = c.text_of_files.ensures.files; link = refl; steps = refl; later = c.put.ensures.cause.later };
-      tells = (
-        read.0,
-        record {
-          count = part.0;
-          printed = put_front (λ s. session_plan s.priority_bytes s.stream_bytes) _ _ _ _ c.as_slice.ensures.value read part.0 part.1;
-          rose = c.in-Err-put.ensures.cause.failed;
-        },
-      );
-    }
-
 pub returns-in-Ok-clause-completes : goal.returns-in-Ok-clause-completes
-returns-in-Ok-clause-completes g c = plans_session c.args.stream.now c.args.priority.now _ _ _ (returns-in-Ok-clause-plans g c)
+returns-in-Ok-clause-completes g c = plans_session c.args.stream.now c.args.priority.now _ _ _ c.in-Ok.ensures.text
 
-pub returns-clause-plans : goal.returns-clause-plans
-returns-clause-plans g c = record {
-  only = record { files = c.text_of_files.ensures.files; link = refl; steps = refl; later = omega arith };
-  tells = subst (PlanTells c.args.stream.now c.args.priority.now _ _) (sym c.from.ensures) (plan_refused c.args.stream.now c.args.priority.now _ _ c.in-Err.fault c.in-Err.ensures.cause refl);
+pub returns-in-Err-clause-plans : goal.returns-in-Err-clause-plans
+returns-in-Err-clause-plans g c = record {
+  files = c.text_of_files.ensures.files;
+  ends = subst (PlanEnds c.args.stream.now c.args.priority.now _ _) (sym c.from.ensures) (plan_refused c.args.stream.now c.args.priority.now _ _ c.in-Err.fault c.in-Err.ensures.cause);
 }
 
-pub returns-clause-completes : goal.returns-clause-completes
-returns-clause-completes g c = plans_session c.args.stream.now c.args.priority.now _ _ _ (returns-clause-plans g c)
+pub returns-in-Err-clause-completes : goal.returns-in-Err-clause-completes
+returns-in-Err-clause-completes g c = plans_session c.args.stream.now c.args.priority.now _ _ _ (returns-in-Err-clause-plans g c).ends
+
+pub returns-in-Err-clause-once : goal.returns-in-Err-clause-once
+returns-in-Err-clause-once g c =
+    subst (λ (failed : Bool). PlaceStops failed (g.P.Place.seen c.args.place.now) (g.P.Place.seen c.text_of_files.new.place)) (failed_alike c.in-Err.fault ∙ ap plan_failed (sym c.from.ensures)) c.in-Err.ensures.once

@@ -1,9 +1,12 @@
-use Rattle.std.proofs.Common.{refl, sym, subst}
+use Rattle.std.proofs.Common.{Bool, refl, sym, ap, subst, ◌∙◌}
+use Rattle.pet_base.specs.Seen.{PlaceStops}
+use Rattle.pet_base.specs.LinkSeen.{LinkStops}
+use Rattle.command_receive.specs.Failures.{end_of_place, end_of_link}
 use Rattle.command_receive.specs.Receives.{Receives}
 use Rattle.pet_base.specs.Lent.{seen}
 use Rattle.pet_base.specs.OutsideSeen.{outside_seen}
 use Rattle.datagram_route.specs.Way.{way_of}
-use Rattle.command_receive.proofs.Ends.{receives_all}
+use Rattle.command_receive.proofs.Ends.{receives_all, place_alike, link_alike, line_calm}
 use Rattle.command_receive.proofs.Stops.{bound_at_stop}
 use Rattle.command_receive.specs.laws.NamedLaws.{names_what_it_stores}
 use Rattle.command_receive.specs.laws.SessionReceived.{completes_receive}
@@ -43,3 +46,19 @@ returns-in-Err-clause-completes g c = completes_receive (way_of c.args.from) c.a
 pub returns-in-Err-clause-named : goal.returns-in-Err-clause-named
 returns-in-Err-clause-named g c =
     names_what_it_stores (way_of c.args.from) c.args.session c.args.layers.now c.args.store.now _ _ c.stopped.result (returns-in-Err-clause-receives g c).ends
+
+pub returns-in-Ok-clause-once_place : goal.returns-in-Ok-clause-once_place
+returns-in-Ok-clause-once_place g c =
+    subst (λ (failed : Bool). PlaceStops failed (seen c.args.outside.now).place (seen c.read_all.new.outside).place) (sym (line_calm c.in-Ok.totals _ _ _ _ c.print_numbers.result c.print_numbers.ensures.ends).0) c.in-Ok.ensures.once_place
+
+pub returns-in-Ok-clause-once_link : goal.returns-in-Ok-clause-once_link
+returns-in-Ok-clause-once_link g c =
+    subst (λ (failed : Bool). LinkStops failed (seen c.args.outside.now).link (seen c.read_all.new.outside).link) (sym (line_calm c.in-Ok.totals _ _ _ _ c.print_numbers.result c.print_numbers.ensures.ends).1) c.in-Ok.ensures.once_link
+
+pub returns-in-Err-clause-once_place : goal.returns-in-Err-clause-once_place
+returns-in-Err-clause-once_place g c =
+    subst (λ (failed : Bool). PlaceStops failed (seen c.args.outside.now).place (seen c.read_all.new.outside).place) (place_alike c.in-Err.stop ∙ ap end_of_place (sym c.stopped.ensures)) c.in-Err.ensures.once_place
+
+pub returns-in-Err-clause-once_link : goal.returns-in-Err-clause-once_link
+returns-in-Err-clause-once_link g c =
+    subst (λ (failed : Bool). LinkStops failed (seen c.args.outside.now).link (seen c.read_all.new.outside).link) (link_alike c.in-Err.stop ∙ ap end_of_link (sym c.stopped.ensures)) c.in-Err.ensures.once_link

@@ -14,6 +14,8 @@ loop-turn-init g c = record {
   so_far = so_far_start (g.P.Place.seen c.args.place.now) (coming (way_of c.args.from) (g.P.Place.seen c.args.place.now) (g.K.Link.seen c.args.link.now)) c.args.receiver.now c.args.steps.now c.requires.held;
   sound = c.requires.sound;
   input = c.requires.input;
+  calm_place = refl;
+  calm_link = refl;
   place_later = omega arith;
   link_later = omega arith;
   names = KeepsNames-same (g.P.Place.seen c.args.place.now);
@@ -32,7 +34,7 @@ returns-in_err-next_datagram-clause-stopped g c =
     let link_now = g.K.Link.seen c.next_datagram.new.link in
     let failed = c.in_err-next_datagram.field-0.0 in
     stop_is (StoppedSoFar from set first now link_first link_now) c.from_residual.result (stop_of_route failed) c.from_residual.ensures.1
-    (stopped_so_far failed from set c.loop-turn.turn first before now link_first link_before link_now c.loop-turn.receiver c.args.steps.now c.loop-turn.steps c.loop-turn.invariant.so_far c.in_err-next_datagram.ensures.feed
+    (stopped_so_far failed from set c.loop-turn.turn first before now link_first link_before link_now c.loop-turn.receiver c.args.steps.now c.loop-turn.steps c.loop-turn.invariant.so_far (omega arith) c.in_err-next_datagram.ensures.feed
     c.next_datagram.ensures.others.place.files c.in_err-next_datagram.ensures.cause)
 
 pub returns-in_err-next_datagram-clause-link : goal.returns-in_err-next_datagram-clause-link
@@ -75,7 +77,7 @@ returns-in_err-receive_one-in-Datagram-clause-stopped g c =
     let stop = c.in_err-receive_one-in-Datagram.field-0.0 in
     stop_is (StoppedSoFar from set first now link_first link_now) c.from_residual-in_err-receive_one-in-Datagram.result (stop_of_place stop) c.from_residual-in_err-receive_one-in-Datagram.ensures.1
     (stopped_at_one stop from set c.loop-turn.turn (c.loop-turn.turn + 1) c.in-Datagram.len into first before between now link_first link_before link_now c.loop-turn.receiver c.args.steps.now c.loop-turn.steps
-    c.loop-turn.invariant.so_far refl c.loop-turn.invariant.names step c.next_datagram.ensures.others.place c.in_err-receive_one-in-Datagram.ensures.part)
+    c.loop-turn.invariant.so_far (omega arith) refl c.loop-turn.invariant.names step c.next_datagram.ensures.others.place c.in_err-receive_one-in-Datagram.ensures.part)
 
 pub returns-in_err-receive_one-in-Datagram-clause-link : goal.returns-in_err-receive_one-in-Datagram-clause-link
 returns-in_err-receive_one-in-Datagram-clause-link g c =
@@ -104,6 +106,8 @@ loop-turn-preserved g c =
           c.args.steps.now c.loop-turn.steps c.receive_one.new.steps held.so_far refl held.names step takes.place writes one.puts one.set one.held one.cost);
       sound = one.sound;
       input = input_kept from before now (writes.has_input ∙ takes.place.has_input) held.input;
+      calm_place = one.once ∙ c.in_ok-next_datagram.ensures.once_place ∙ held.calm_place;
+      calm_link = c.in_ok-next_datagram.ensures.once_link ∙ held.calm_link;
       place_later = omega (arith, held.place_later, takes.place_later, c.receive_one.ensures.later);
       link_later = omega (arith, held.link_later, takes.link_later);
       names = KeepsNames-then first between now (KeepsNames-then first before between held.names (OnlyReads-KeepsNames before between takes.place)) (OnlyWrites-KeepsNames between now writes);

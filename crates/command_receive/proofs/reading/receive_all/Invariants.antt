@@ -1,4 +1,4 @@
-use Rattle.std.proofs.Common.{◌≤◌}
+use Rattle.std.proofs.Common.{◌≡◌, ◌≤◌}
 use Rattle.pet_base.specs.Seen.{KeepsNames}
 use Rattle.datagram_route.specs.Way.{way_of}
 use Rattle.datagram_route.specs.Coming.{coming, HasInput}
@@ -12,6 +12,8 @@ invariant-loop-turn g l = record {
   so_far : SoFar (kept_set l.initial.receiver) l.turn (g.P.Place.seen l.initial.place) (g.P.Place.seen l.place) (coming (way_of l.from) (g.P.Place.seen l.initial.place) (g.K.Link.seen l.initial.link)) (coming (way_of l.from) (g.P.Place.seen l.place) (g.K.Link.seen l.link)) l.receiver l.initial.steps l.steps;
   sound : IsKeptSet (kept_set l.receiver);
   input : HasInput (way_of l.from) (g.P.Place.seen l.place);
+  calm_place : (g.P.Place.seen l.place).faults ≡ (g.P.Place.seen l.initial.place).faults;
+  calm_link : (g.K.Link.seen l.link).faults ≡ (g.K.Link.seen l.initial.link).faults;
   place_later : (g.P.Place.seen l.initial.place).faults ≤ (g.P.Place.seen l.place).faults;
   link_later : (g.K.Link.seen l.initial.link).faults ≤ (g.K.Link.seen l.link).faults;
   names : KeepsNames (g.P.Place.seen l.initial.place) (g.P.Place.seen l.place);

@@ -1,4 +1,4 @@
-use Rattle.std.proofs.Common.{refl, ◌≡◌, ◌++◌, length, take, arith}
+use Rattle.std.proofs.Common.{refl, ◌∙◌, ◌≡◌, ◌++◌, length, take, arith}
 use Rattle.std.proofs.lemmas.List.{length-append, length-take-le}
 use Rattle.pet_base.specs.laws.Through.{on_any_err}
 use Rattle.command_send.proofs.GroupsSoFar.{stands_known}
@@ -62,5 +62,7 @@ loop-read-preserved g c =
       few = omega (arith, length-append i.stream portion, len, i.count, c.loop-read-test.true, c.in_ok-count.ensures.few);
       stands = c.in_ok-feed.ensures.stands i.stream first (stands_read (way_of c.args.found.now.to) source marks i.stream c.loop-read.pass.change c.loop-read.pass.groups first before after c.take_portion.ensures.others refl i.stands);
       others = passes_then first after now (passes_then first before after i.others (passes_reads before after c.take_portion.ensures.others refl c.take_portion.ensures.cause.later)) (passes_grows after now c.feed.ensures.others);
+      calm_place = c.in_ok-feed.ensures.once_place ∙ c.in_ok-count.ensures.once ∙ i.calm_place;
+      calm_link = c.in_ok-feed.ensures.once_link ∙ i.calm_link;
       left = omega (arith, i.left, c.in_ok-feed.ensures.left);
     }

@@ -14,6 +14,8 @@ invariant-loop-read g l = record {
   few : length stream ≤ MAX_STREAM + 1;
   stands : HasReached (way_of l.found.to) l.found.source l.found.marks.items stream l.pass.change l.pass.groups (routes g.P.Place g.K.Link l.initial.place l.initial.link) (routes g.P.Place g.K.Link l.place l.link);
   others : OnlyPasses (routes g.P.Place g.K.Link l.initial.place l.initial.link) (routes g.P.Place g.K.Link l.place l.link);
+  calm_place : (g.P.Place.seen l.place).faults ≡ (g.P.Place.seen l.initial.place).faults;
+  calm_link : (g.K.Link.seen l.link).faults ≡ (g.K.Link.seen l.initial.link).faults;
   left : l.steps + cost_left l.found.source.tables.items l.pass.groups.sent ≤ l.initial.steps + cost_left l.found.source.tables.items l.initial.pass.groups.sent;
 }
 

@@ -17,6 +17,8 @@ loop-group-init g c = record {
   known = c.requires.known;
   gone = λ stream first h. h;
   others = grows_same (routes g.P.Place g.K.Link c.args.place.now c.args.link.now);
+  calm_place = refl;
+  calm_link = refl;
   left = omega arith;
 }
 
@@ -71,6 +73,8 @@ loop-group-preserved g c =
           (λ given cut. subst (λ (o : Option CutGroup). HasCut c.next.new.self source.priority stream (given ++ groups_in o)) c.in-Some.is (c.in_ok-group.ensures.cut source.priority stream given cut))
           refl sends c.send_group.ensures.others.place.target;
       others = grows_then (routes g.P.Place g.K.Link c.args.place.now c.args.link.now) before after c.loop-group.invariant.others c.send_group.ensures.others;
+      calm_place = c.in_ok-change.ensures.once_place ∙ c.loop-group.invariant.calm_place;
+      calm_link = c.in_ok-change.ensures.once_link ∙ c.loop-group.invariant.calm_link;
       left = omega (arith, c.send_group.ensures.cost, c.loop-group.invariant.left, cost_next source.tables.items c.loop-group.groups.sent);
     }
 

@@ -1,4 +1,4 @@
-use Rattle.std.proofs.Common.{ℕ, ◌+◌, ◌≤◌, List}
+use Rattle.std.proofs.Common.{◌≡◌, ℕ, ◌+◌, ◌≤◌, List}
 use Rattle.datagram_route.specs.Sending.{Routes, OnlyGrows}
 use Rattle.group_cutter.specs.Cutting.{pieces_left}
 use Rattle.command_send.specs.Second.{Knows, HasGone, cost_left}
@@ -11,6 +11,8 @@ invariant-loop-group g l = record {
   known : Knows l.groups.cutter l.found.source.priority;
   gone : (stream : List ℕ) (first : Routes) → HasGone (way_of l.found.to) l.found.source l.found.marks.items stream l.initial.groups first (routes g.P.Place g.K.Link l.initial.place l.initial.link) → HasGone (way_of l.found.to) l.found.source l.found.marks.items stream l.groups first (routes g.P.Place g.K.Link l.place l.link);
   others : OnlyGrows (routes g.P.Place g.K.Link l.initial.place l.initial.link) (routes g.P.Place g.K.Link l.place l.link);
+  calm_place : (g.P.Place.seen l.place).faults ≡ (g.P.Place.seen l.initial.place).faults;
+  calm_link : (g.K.Link.seen l.link).faults ≡ (g.K.Link.seen l.initial.link).faults;
   left : l.steps + cost_left l.found.source.tables.items l.groups.sent ≤ l.initial.steps + cost_left l.found.source.tables.items l.initial.groups.sent;
 }
 

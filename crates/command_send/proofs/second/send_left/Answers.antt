@@ -46,6 +46,8 @@ loop-group-preserved g c =
           left_more way source marks before c.args.groups.now c.loop-group.group-index c.args.from number group first old new
           c.loop-group-test.true (sym c.group-item.is) at c.loop-group.invariant.count (c.loop-group.invariant.sent first before at h) sends c.send_group.ensures.others.place.target;
       others = grows_then (routes g.P.Place g.K.Link c.args.place.now c.args.link.now) old new c.loop-group.invariant.others c.send_group.ensures.others;
+      calm_place = c.in_ok-change.ensures.once_place ∙ c.loop-group.invariant.calm_place;
+      calm_link = c.in_ok-change.ensures.once_link ∙ c.loop-group.invariant.calm_link;
       left = omega (arith, c.send_group.ensures.cost, c.loop-group.invariant.left, cost_next source.tables.items number);
     }
 

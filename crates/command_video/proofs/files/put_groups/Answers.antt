@@ -21,6 +21,7 @@ loop-group-init g c =
       shown = ([], no_groups (kept_set c.args.receiver.now), puts_nothing s s refl, refl);
       few = omega arith;
       others = record { rest = refl; source = refl; target = refl; has_input = refl; has_output = refl };
+      calm = refl;
       later = omega arith;
     }
 
@@ -64,5 +65,6 @@ loop-group-preserved g c =
       );
       few = omega (arith, one, c.loop-group.invariant.few);
       others = OnlyWrites-then first before after c.loop-group.invariant.others c.put_group_video.ensures.others;
+      calm = c.in_ok-put_group_video.ensures.once ∙ c.loop-group.invariant.calm;
       later = omega (arith, c.loop-group.invariant.later, c.put_group_video.ensures.later);
     }

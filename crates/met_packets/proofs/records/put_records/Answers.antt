@@ -12,6 +12,7 @@ loop-shown-init g c =
       puts = puts_nothing s s refl;
       others = record { rest = refl; source = refl; target = refl; has_input = refl; has_output = refl };
       later = omega arith;
+      calm = refl;
       blamed = refl;
     }
 
@@ -32,5 +33,6 @@ loop-shown-preserved g c =
           c.loop-shown-test.true c.loop-shown.invariant.others.target c.loop-shown.invariant.puts c.in_ok-put_record.ensures.files;
       others = OnlyWrites-then first before after c.loop-shown.invariant.others c.put_record.ensures.others;
       later = omega (arith, c.loop-shown.invariant.later, c.put_record.ensures.cause.later);
+      calm = c.in_ok-put_record.ensures.once ∙ c.loop-shown.invariant.calm;
       blamed = c.in_ok-put_record.ensures.cause.kept ∙ c.loop-shown.invariant.blamed;
     }

@@ -9,5 +9,6 @@ invariant-loop-shown g l = record {
   puts : Puts (records_text l.arrival l.group (take l.shown-index l.layers)) (g.P.Place.seen l.initial.place) (g.P.Place.seen l.place);
   others : OnlyWrites (g.P.Place.seen l.initial.place) (g.P.Place.seen l.place);
   later : (g.P.Place.seen l.initial.place).faults ≤ (g.P.Place.seen l.place).faults;
+  calm : (g.P.Place.seen l.place).faults ≡ (g.P.Place.seen l.initial.place).faults;
   blamed : (g.P.Place.seen l.place).blamed ≡ (g.P.Place.seen l.initial.place).blamed;
 }

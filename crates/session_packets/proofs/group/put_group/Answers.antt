@@ -16,6 +16,8 @@ loop-first-init g c =
       within = omega arith;
       sends = sends_nothing (way_of c.args.to) r r refl refl;
       others = grows_same r;
+      calm_place = refl;
+      calm_link = refl;
       cost = omega arith;
     }
 
@@ -48,5 +50,7 @@ loop-first-preserved g c =
       within = omega (arith, c.min-count.ensures, c.from.ensures, c.loop-first.invariant.within);
       sends = sends_range (way_of c.args.to) e c.loop-first.first c.min-count.result first before after c.loop-first.invariant.others.place.target c.loop-first.invariant.sends c.in_ok-put_range.ensures.sends;
       others = grows_then first before after c.loop-first.invariant.others c.put_range.ensures.others;
+      calm_place = c.in_ok-put_range.ensures.once_place ∙ c.loop-first.invariant.calm_place;
+      calm_link = c.in_ok-put_range.ensures.once_link ∙ c.loop-first.invariant.calm_link;
       cost = omega (arith, c.loop-first.invariant.cost, c.put_range.ensures.cost);
     }

@@ -1,4 +1,4 @@
-use Rattle.std.proofs.Common.{◌≤◌, ◌+◌, ◌-◌, ◌*◌, length}
+use Rattle.std.proofs.Common.{◌≡◌, ◌≤◌, ◌+◌, ◌-◌, ◌*◌, length}
 use Rattle.stripe_plan.specs.Layers.{needs_of}
 use Rattle.datagram_route.specs.Sending.{routes, Sends, OnlyGrows}
 use Rattle.datagram_route.specs.Way.{way_of}
@@ -10,6 +10,8 @@ invariant-loop-first g l = record {
   within : l.first ≤ l.packets;
   sends : Sends (way_of l.to) (first_datagrams l.encoder l.first) (routes g.P.Place g.K.Link l.initial.place l.initial.link) (routes g.P.Place g.K.Link l.place l.link);
   others : OnlyGrows (routes g.P.Place g.K.Link l.initial.place l.initial.link) (routes g.P.Place g.K.Link l.place l.link);
+  calm_place : (g.P.Place.seen l.place).faults ≡ (g.P.Place.seen l.initial.place).faults;
+  calm_link : (g.K.Link.seen l.link).faults ≡ (g.K.Link.seen l.initial.link).faults;
   cost : l.steps ≤ l.initial.steps + l.first * length (needs_of l.encoder.header.table.layers);
 }
 

@@ -1,4 +1,4 @@
-use Rattle.std.proofs.Common.{◌+◌, ◌-◌, ◌<◌, ◌≤◌, length, take, drop, refl, arith, rules}
+use Rattle.std.proofs.Common.{◌+◌, ◌-◌, ◌<◌, ◌≤◌, length, take, drop, refl, arith, rules, ◌∙◌}
 use Rattle.pet_base.specs.laws.Through.{on_any_err}
 use Rattle.datagram_route.specs.Sending.{routes}
 use Rattle.datagram_route.specs.Way.{way_of}
@@ -20,6 +20,8 @@ loop-init g c =
       place = omega arith;
       sends = sends_nothing (way_of c.args.to) r r refl refl;
       others = grows_same r;
+      calm_place = refl;
+      calm_link = refl;
     }
 
 pub slice_bounds-put_packet-end : goal.slice_bounds-put_packet-end
@@ -58,4 +60,6 @@ loop-preserved g c =
           _ _ c.deref.result.now c.clear.ensures.items c.in_ok-range.ensures.ok c.deref.ensures.value c.loop.counter at (at + len - at) (omega arith) c.loop.invariant.place (omega arith))
           c.loop.invariant.others.place.target c.loop.invariant.sends c.in_ok-put_packet.ensures.sends;
       others = grows_then first before after c.loop.invariant.others c.put_packet.ensures.others;
+      calm_place = c.in_ok-put_packet.ensures.once_place ∙ c.loop.invariant.calm_place;
+      calm_link = c.in_ok-put_packet.ensures.once_link ∙ c.loop.invariant.calm_link;
     }

@@ -1,0 +1,22 @@
+-- Which ends of `receive` tell of a failure of the place, and which of one of the link. This project's own.
+use Rattle.std.specs.Prelude.{Bool, true, false}
+use Rattle.command_receive.specs.declared.command.ReceiveEnd.{ReceiveEnd}
+use Rattle.command_receive.specs.declared.command.ReceiveEnd.TheVariants.{Done, NoMemory, PlaceFault, LinkFault, OutFault, Incomplete, TurnsSpent}
+
+abbrev pub end_of_place : ReceiveEnd → Bool
+end_of_place Done = false
+end_of_place NoMemory = false
+end_of_place PlaceFault = true
+end_of_place LinkFault = false
+end_of_place OutFault = false
+end_of_place Incomplete = false
+end_of_place TurnsSpent = false
+
+abbrev pub end_of_link : ReceiveEnd → Bool
+end_of_link Done = false
+end_of_link NoMemory = false
+end_of_link PlaceFault = false
+end_of_link LinkFault = true
+end_of_link OutFault = false
+end_of_link Incomplete = false
+end_of_link TurnsSpent = false

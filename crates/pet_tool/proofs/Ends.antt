@@ -1,0 +1,125 @@
+-- What each end tells of failures, as its status does, and so that the first failure ended the run.
+use Rattle.std.proofs.Common.{◌≡◌, ◌≢◌, ℕ, Bool, false, List, [], refl, sym, subst, ◌∙◌}
+use Rattle.pet_base.specs.OutsideSeen.{OutsideSeen}
+use Rattle.pet_base.specs.Seen.{PlaceStops}
+use Rattle.pet_base.specs.LinkSeen.{LinkStops}
+use Rattle.command_files.specs.Failures.{EndsAtOnce}
+use Rattle.stream_session.specs.declared.fault.SessionFault.{SessionFault}
+use Rattle.stream_session.specs.declared.fault.SessionFault.TheVariants as session
+use Rattle.command_plan.specs.Ends.{plan_failed, check_failed}
+use Rattle.command_plan.specs.declared.checking.CheckEnd.{CheckEnd}
+use Rattle.command_plan.specs.declared.checking.CheckEnd.TheVariants as check
+use Rattle.command_plan.specs.declared.planning.PlanEnd.{PlanEnd}
+use Rattle.command_plan.specs.declared.planning.PlanEnd.TheVariants as plan
+use Rattle.command_merge.specs.Ends.{has_failed as merge_failed}
+use Rattle.command_merge.specs.declared.command.MergeEnd.{MergeEnd}
+use Rattle.command_merge.specs.declared.command.MergeEnd.TheVariants as merge
+use Rattle.command_video.specs.Ends.{has_failed as video_failed}
+use Rattle.command_video.specs.declared.command.VideoEnd.{VideoEnd}
+use Rattle.command_video.specs.declared.command.VideoEnd.TheVariants as video
+use Rattle.command_send.specs.Failures.{end_of_place as send_place, end_of_link as send_link}
+use Rattle.command_send.specs.declared.command.SendEnd.{SendEnd}
+use Rattle.command_send.specs.declared.command.SendEnd.TheVariants as send
+use Rattle.command_receive.specs.Failures.{end_of_place as receive_place, end_of_link as receive_link}
+use Rattle.command_receive.specs.declared.command.ReceiveEnd.{ReceiveEnd}
+use Rattle.command_receive.specs.declared.command.ReceiveEnd.TheVariants as receive
+use Rattle.pet_text.specs.declared.status.Status.{Status}
+use Rattle.pet_text.specs.declared.status.Status.TheVariants.{Done}
+use Rattle.pet_tool.specs.declared.end.End.{End}
+use Rattle.pet_tool.specs.Does.{Runs}
+use Rattle.pet_tool.specs.Lines.{line_of, line_of_plan, line_of_check, line_of_merge, line_of_video}
+use Rattle.pet_tool.specs.Statuses.{of_place, of_link, status_of, status_of_session, status_of_plan, status_of_check, status_of_send, status_of_receive, status_of_merge, status_of_video}
+use Rattle.pet_tool.specs.Told.{Tells}
+use Rattle.pet_tool.proofs.Telling.{strikes}
+
+-- The status tells of a failure of the place, or of the link, where the end does; and an end that has a line tells of none.
+pub record Agrees (failed_place failed_link : Bool) (line : List ℕ) (status : Status) : Type 0 where
+  pub place : of_place status ≡ failed_place
+  pub link : of_link status ≡ failed_link
+  pub lined : line ≢ [] → (failed_place ≡ false) × (failed_link ≡ false)
+
+lined : (line : List ℕ) → Agrees false false line Done
+lined line = record { place = refl; link = refl; lined = λ some. (refl, refl) }
+
+unlined : {failed_place failed_link : Bool} {status : Status} → of_place status ≡ failed_place → of_link status ≡ failed_link → Agrees failed_place failed_link [] status
+unlined place link = record { place = place; link = link; lined = λ some. absurd (some refl) }
+
+of_session : (fault : SessionFault) → Agrees false false [] (status_of_session fault)
+of_session (session.GroupTooLong group) = unlined refl refl
+of_session session.TooManyGroups = unlined refl refl
+of_session (session.TooWide group) = unlined refl refl
+of_session (session.TooLarge group) = unlined refl refl
+of_session session.NoMemory = unlined refl refl
+
+pub plan_agrees : (end : PlanEnd) → Agrees (plan_failed end) false (line_of_plan end) (status_of_plan end)
+plan_agrees (plan.Done text) = lined text.items
+plan_agrees plan.NoMemory = unlined refl refl
+plan_agrees plan.PlaceFault = unlined refl refl
+plan_agrees (plan.BadPriority fault) = unlined refl refl
+plan_agrees (plan.BadStream scan) = unlined refl refl
+plan_agrees (plan.BadPlan fault) = of_session fault
+
+pub check_agrees : (end : CheckEnd) → Agrees (check_failed end) false (line_of_check end) (status_of_check end)
+check_agrees (check.Done groups) = lined (line_of_check (check.Done groups))
+check_agrees check.NoMemory = unlined refl refl
+check_agrees check.PlaceFault = unlined refl refl
+check_agrees (check.BadPriority fault) = unlined refl refl
+check_agrees (check.BadStream scan) = unlined refl refl
+check_agrees (check.BadPlan fault) = of_session fault
+check_agrees check.PlanLong = unlined refl refl
+check_agrees (check.Text line) = unlined refl refl
+check_agrees (check.Lines lines) = unlined refl refl
+check_agrees (check.NotLeast group) = unlined refl refl
+
+pub merge_agrees : (end : MergeEnd) → Agrees (merge_failed end) false (line_of_merge end) (status_of_merge end)
+merge_agrees (merge.Done packets) = lined (line_of_merge (merge.Done packets))
+merge_agrees merge.NoMemory = unlined refl refl
+merge_agrees merge.PlaceFault = unlined refl refl
+merge_agrees (merge.BadFirst at kind) = unlined refl refl
+merge_agrees (merge.BadSecond at kind) = unlined refl refl
+merge_agrees merge.OtherSession = unlined refl refl
+merge_agrees (merge.Clash group number) = unlined refl refl
+merge_agrees (merge.Full group) = unlined refl refl
+
+pub video_agrees : (end : VideoEnd) → Agrees (video_failed end) false (line_of_video end) (status_of_video end)
+video_agrees (video.Done bytes) = lined (line_of_video (video.Done bytes))
+video_agrees video.NoMemory = unlined refl refl
+video_agrees video.PlaceFault = unlined refl refl
+video_agrees (video.BadStore at kind) = unlined refl refl
+video_agrees (video.BadTable group) = unlined refl refl
+
+pub send_agrees : (end : SendEnd) → Agrees (send_place end) (send_link end) [] (status_of_send end)
+send_agrees send.Done = unlined refl refl
+send_agrees send.NoMemory = unlined refl refl
+send_agrees send.PlaceFault = unlined refl refl
+send_agrees send.LinkFault = unlined refl refl
+send_agrees send.OutFault = unlined refl refl
+send_agrees (send.BadPriority fault) = unlined refl refl
+send_agrees (send.BadStream scan) = unlined refl refl
+send_agrees (send.BadPlan fault) = of_session fault
+send_agrees (send.Changed change) = unlined refl refl
+
+pub receive_agrees : (end : ReceiveEnd) → Agrees (receive_place end) (receive_link end) [] (status_of_receive end)
+receive_agrees receive.Done = unlined refl refl
+receive_agrees receive.NoMemory = unlined refl refl
+receive_agrees receive.PlaceFault = unlined refl refl
+receive_agrees receive.LinkFault = unlined refl refl
+receive_agrees receive.OutFault = unlined refl refl
+receive_agrees receive.Incomplete = unlined refl refl
+receive_agrees receive.TurnsSpent = unlined refl refl
+
+-- a command did this, the first failure ended it, and then the run told of its end
+pub runs_with : {E : Type 0} (of : E → End) (Did : OutsideSeen → OutsideSeen → E → Type 0) (p k : Bool) (before between after : OutsideSeen) (status : Status) (e : E)
+    → Agrees p k (line_of (of e)) (status_of (of e)) → Did before between e → EndsAtOnce p k before between → Tells (line_of (of e)) (status_of (of e)) between after status → Runs of Did before after status
+runs_with of Did p k before between after status e agrees did once tells = record {
+  between = between;
+  end = e;
+  did = did;
+  tells = tells;
+  once =
+      strikes (line_of (of e)) (status_of (of e)) before between after status tells (λ some. let none = agrees.lined some in (agrees.place ∙ none.0, agrees.link ∙ none.1))
+      (record {
+        place = subst (λ (b : Bool). PlaceStops b before.place between.place) (sym agrees.place) once.place;
+        link = subst (λ (b : Bool). LinkStops b before.link between.link) (sym agrees.link) once.link;
+      });
+}

@@ -1,0 +1,62 @@
+-- The line that each end prints, or the text. This project's own.
+use Rattle.std.specs.Prelude.{ℕ, List, []}
+use Rattle.command_plan.specs.declared.checking.CheckEnd.{CheckEnd}
+use Rattle.command_plan.specs.declared.checking.CheckEnd.TheVariants as check
+use Rattle.command_plan.specs.declared.planning.PlanEnd.{PlanEnd}
+use Rattle.command_plan.specs.declared.planning.PlanEnd.TheVariants as plan
+use Rattle.plan_text.specs.PlanLines.{least_text}
+use Rattle.command_merge.specs.declared.command.MergeEnd.{MergeEnd}
+use Rattle.command_merge.specs.declared.command.MergeEnd.TheVariants as merge
+use Rattle.command_video.specs.declared.command.VideoEnd.{VideoEnd}
+use Rattle.command_video.specs.declared.command.VideoEnd.TheVariants as video
+use Rattle.pet_text.specs.Lines.{merged_text, video_text}
+use Rattle.pet_tool.specs.declared.end.End.{End}
+use Rattle.pet_tool.specs.declared.end.End.TheVariants.{Usage, NoMemory, Plan, Check, Send, Receive, Merge, Video}
+
+abbrev pub line_of_plan : PlanEnd → List ℕ
+line_of_plan (plan.Done text) = text.items
+line_of_plan plan.NoMemory = []
+line_of_plan plan.PlaceFault = []
+line_of_plan (plan.BadPriority fault) = []
+line_of_plan (plan.BadStream scan) = []
+line_of_plan (plan.BadPlan fault) = []
+
+abbrev pub line_of_check : CheckEnd → List ℕ
+line_of_check (check.Done groups) = least_text groups
+line_of_check check.NoMemory = []
+line_of_check check.PlaceFault = []
+line_of_check (check.BadPriority fault) = []
+line_of_check (check.BadStream scan) = []
+line_of_check (check.BadPlan fault) = []
+line_of_check check.PlanLong = []
+line_of_check (check.Text line) = []
+line_of_check (check.Lines lines) = []
+line_of_check (check.NotLeast group) = []
+
+abbrev pub line_of_merge : MergeEnd → List ℕ
+line_of_merge (merge.Done packets) = merged_text packets
+line_of_merge merge.NoMemory = []
+line_of_merge merge.PlaceFault = []
+line_of_merge (merge.BadFirst at kind) = []
+line_of_merge (merge.BadSecond at kind) = []
+line_of_merge merge.OtherSession = []
+line_of_merge (merge.Clash group number) = []
+line_of_merge (merge.Full group) = []
+
+abbrev pub line_of_video : VideoEnd → List ℕ
+line_of_video (video.Done bytes) = video_text bytes
+line_of_video video.NoMemory = []
+line_of_video video.PlaceFault = []
+line_of_video (video.BadStore at kind) = []
+line_of_video (video.BadTable group) = []
+
+-- `send` and `receive` still print theirs themselves
+abbrev pub line_of : End → List ℕ
+line_of Usage = []
+line_of NoMemory = []
+line_of (Plan end) = line_of_plan end
+line_of (Check end) = line_of_check end
+line_of (Send end) = []
+line_of (Receive end) = []
+line_of (Merge end) = line_of_merge end
+line_of (Video end) = line_of_video end

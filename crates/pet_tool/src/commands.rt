@@ -1,0 +1,187 @@
+//! The command that the words give is run.
+ghost use Rattle.std.specs.Prelude.{◌≡◌, ◌≢◌, ℕ, List, Some};
+ghost use Rattle.pet_base.specs.OutsideSeen.{OutsideSeen};
+ghost use Rattle.pet_base.specs.Lent.{seen, AreSame};
+ghost use Rattle.command_merge.specs.Merges.{Merges};
+ghost use Rattle.command_plan.specs.Checks.{Checks};
+ghost use Rattle.command_plan.specs.Plans.{PlanEnds};
+ghost use Rattle.command_receive.specs.Receives.{Receives};
+ghost use Rattle.command_send.specs.Sends.{IsOther, Sends};
+ghost use Rattle.command_video.specs.Videos.{Videos};
+ghost use Rattle.datagram_route.specs.Way.{way_of};
+ghost use Rattle.pet_text.specs.Words.{command_of};
+ghost use Rattle.pet_tool.specs.Does.{Does, Runs, OnFiles, OnRead};
+ghost use Rattle.pet_tool.specs.Lines.{line_of};
+ghost use Rattle.pet_tool.specs.Told.{Tells};
+ghost use Rattle.pet_tool.specs.Statuses.{status_of};
+ghost use Rattle.pet_text.specs.declared.status.Status.{Status};
+
+use crate::end::End;
+use command_merge::merge;
+use command_plan::{check, plan};
+use command_receive::receive;
+use command_send::send;
+use command_video::video;
+use datagram_route::Route;
+use pet_base::{Link, Outside, Place, Sink};
+use pet_text::Command;
+use std::alloc::Global;
+use std::sync::ledger::Ledger;
+
+/// Runs a command that words give. Nothing is printed yet of its end.
+pub(crate) fn run_command<P: Place, K: Link, S: Sink, L: Ledger>(
+    alloc: Global,
+    command: &Command,
+    outside: &mut Outside<P, K, S, L>,
+) -> End
+    requires given { (words : List (List ℕ)) × (command_of words ≡ Some command.now) }
+    ensures does { (told : OutsideSeen) (status : Status) → Tells (line_of result) (status_of result) (seen outside.new) told status
+        → Does (Some command.now) (seen outside.old) told status }
+    ensures known { result ≢ End.Usage }
+    ensures same { AreSame outside.old outside.new }
+{
+    match command {
+        Command::Plan { stream, priority } => {
+            run_plan(alloc, stream.as_str(), priority.as_str(), outside)
+        }
+        Command::Check {
+            stream,
+            priority,
+            plan,
+        } => run_check(
+            alloc,
+            stream.as_str(),
+            priority.as_str(),
+            plan.as_str(),
+            outside,
+        ),
+        Command::Send {
+            stream,
+            priority,
+            to,
+        } => run_send(
+            alloc,
+            stream.as_str(),
+            priority.as_str(),
+            to.route(),
+            outside,
+        ),
+        Command::Receive {
+            from,
+            session,
+            layers,
+            store,
+        } => run_receive(
+            alloc,
+            from.route(),
+            *session,
+            layers.as_str(),
+            store.as_str(),
+            outside,
+        ),
+        Command::Merge { first, second, out } => run_merge(
+            alloc,
+            first.as_str(),
+            second.as_str(),
+            out.as_str(),
+            outside,
+        ),
+        Command::Video { store, out } => run_video(alloc, store.as_str(), out.as_str(), outside),
+    }
+}
+
+/// Runs `plan`.
+fn run_plan<P: Place, K: Link, S: Sink, L: Ledger>(
+    alloc: Global,
+    stream: &str,
+    priority: &str,
+    outside: &mut Outside<P, K, S, L>,
+) -> End
+    ensures does { (told : OutsideSeen) (status : Status) → Tells (line_of result) (status_of result) (seen outside.new) told status
+        → Runs End.Plan (OnRead (PlanEnds stream.now priority.now)) (seen outside.old) told status }
+    ensures known { result ≢ End.Usage }
+    ensures same { AreSame outside.old outside.new }
+{
+    End::Plan(plan(alloc, stream, priority, outside.place))
+}
+
+/// Runs `check`.
+fn run_check<P: Place, K: Link, S: Sink, L: Ledger>(
+    alloc: Global,
+    stream: &str,
+    priority: &str,
+    plan: &str,
+    outside: &mut Outside<P, K, S, L>,
+) -> End
+    ensures does { (told : OutsideSeen) (status : Status) → Tells (line_of result) (status_of result) (seen outside.new) told status
+        → Runs End.Check (OnRead (λ old new. Checks old new stream.now priority.now plan.now)) (seen outside.old) told status }
+    ensures known { result ≢ End.Usage }
+    ensures same { AreSame outside.old outside.new }
+{
+    End::Check(check(alloc, stream, priority, plan, outside.place))
+}
+
+/// Runs `send`.
+fn run_send<P: Place, K: Link, S: Sink, L: Ledger>(
+    alloc: Global,
+    stream: &str,
+    priority: &str,
+    to: Route<'_>,
+    outside: &mut Outside<P, K, S, L>,
+) -> End
+    requires differ { IsOther (way_of to) stream.now }
+    ensures does { (told : OutsideSeen) (status : Status) → Tells (line_of result) (status_of result) (seen outside.new) told status
+        → Runs End.Send (Sends stream.now priority.now (way_of to.entry)) (seen outside.old) told status }
+    ensures known { result ≢ End.Usage }
+    ensures same { AreSame outside.old outside.new }
+{
+    End::Send(send(alloc, stream, priority, to, outside))
+}
+
+/// Runs `receive`.
+fn run_receive<P: Place, K: Link, S: Sink, L: Ledger>(
+    alloc: Global,
+    from: Route<'_>,
+    session: [u8; 8],
+    layers: &str,
+    store: &str,
+    outside: &mut Outside<P, K, S, L>,
+) -> End
+    ensures does { (told : OutsideSeen) (status : Status) → Tells (line_of result) (status_of result) (seen outside.new) told status
+        → Runs End.Receive (Receives (way_of from.entry) session layers.now store.now) (seen outside.old) told status }
+    ensures known { result ≢ End.Usage }
+    ensures same { AreSame outside.old outside.new }
+{
+    End::Receive(receive(alloc, from, session, layers, store, outside))
+}
+
+/// Runs `merge`.
+fn run_merge<P: Place, K: Link, S: Sink, L: Ledger>(
+    alloc: Global,
+    first: &str,
+    second: &str,
+    out: &str,
+    outside: &mut Outside<P, K, S, L>,
+) -> End
+    ensures does { (told : OutsideSeen) (status : Status) → Tells (line_of result) (status_of result) (seen outside.new) told status
+        → Runs End.Merge (OnFiles (Merges first.now second.now out.now)) (seen outside.old) told status }
+    ensures known { result ≢ End.Usage }
+    ensures same { AreSame outside.old outside.new }
+{
+    End::Merge(merge(alloc, first, second, out, outside.place, outside.steps))
+}
+
+/// Runs `video`.
+fn run_video<P: Place, K: Link, S: Sink, L: Ledger>(
+    alloc: Global,
+    store: &str,
+    out: &str,
+    outside: &mut Outside<P, K, S, L>,
+) -> End
+    ensures does { (told : OutsideSeen) (status : Status) → Tells (line_of result) (status_of result) (seen outside.new) told status
+        → Runs End.Video (OnFiles (Videos store.now out.now)) (seen outside.old) told status }
+    ensures known { result ≢ End.Usage }
+    ensures same { AreSame outside.old outside.new }
+{
+    End::Video(video(alloc, store, out, outside.place, outside.steps))
+}

@@ -1,0 +1,75 @@
+//! How each command ended, the line that it prints, and its status.
+ghost use Rattle.std.specs.Prelude.{◌≡◌, ◌≢◌, []};
+ghost use Rattle.pet_tool.specs.Lines.{line_of};
+ghost use Rattle.pet_tool.specs.Statuses.{status_of};
+
+use crate::statuses::{
+    check_status, merge_status, plan_status, receive_status, send_status, video_status,
+};
+use arrayvec::ArrayVec;
+use command_merge::MergeEnd;
+use command_plan::{CheckEnd, PlanEnd};
+use command_receive::ReceiveEnd;
+use command_send::SendEnd;
+use command_video::VideoEnd;
+use pet_text::{Status, least_line, merged_line, video_line};
+
+/// How a run ended, before its line and that of its status are printed.
+#[derive(Debug, Drop)]
+pub enum End {
+    /// The words have the form of no command.
+    Usage,
+    /// No memory was found to read the words.
+    NoMemory,
+    /// A run of `plan`.
+    Plan(PlanEnd),
+    /// A run of `check`.
+    Check(CheckEnd),
+    /// A run of `send`.
+    Send(SendEnd),
+    /// A run of `receive`.
+    Receive(ReceiveEnd),
+    /// A run of `merge`.
+    Merge(MergeEnd),
+    /// A run of `video`.
+    Video(VideoEnd),
+}
+
+/// The status of each end.
+pub(crate) fn end_status(end: &End) -> Status
+    ensures status { result ≡ status_of end.now }
+    ensures known { end.now ≢ End.Usage → result ≢ Status.Usage }
+{
+    match end {
+        End::Usage => Status::Usage,
+        End::NoMemory => Status::NoMemory,
+        End::Plan(end) => plan_status(end),
+        End::Check(end) => check_status(end),
+        End::Send(end) => send_status(end),
+        End::Receive(end) => receive_status(end),
+        End::Merge(end) => merge_status(end),
+        End::Video(end) => video_status(end),
+    }
+}
+
+/// The line of each end, or its text; it is made in `room`, which must be empty, where the end does not have it. It takes no memory.
+pub(crate) fn end_line<'a>(end: &'a End, room: &'a mut ArrayVec<u8, 64>) -> &'a [u8]
+    requires { room.old.items ≡ [] }
+    ensures { result.now ≡ line_of end.now }
+{
+    match end {
+        End::Plan(PlanEnd::Done(text)) => return text.as_slice(),
+        End::Check(CheckEnd::Done(groups)) => least_line(*groups, room),
+        End::Merge(MergeEnd::Done(packets)) => merged_line(*packets, room),
+        End::Video(VideoEnd::Done(bytes)) => video_line(*bytes, room),
+        End::Usage
+        | End::NoMemory
+        | End::Plan(_)
+        | End::Check(_)
+        | End::Send(_)
+        | End::Receive(_)
+        | End::Merge(_)
+        | End::Video(_) => {}
+    }
+    room.as_slice()
+}
