@@ -120,6 +120,7 @@ fn puts_each_layer_before_the_next_datagram(rt: HostRuntime) -> Result<(), Fail>
     let asked = Cell::new(0);
     let mut link = UntoldLink {
         feed: &feed,
+        later: &[],
         asked: &asked,
         port: 0,
     };
@@ -131,5 +132,27 @@ fn puts_each_layer_before_the_next_datagram(rt: HostRuntime) -> Result<(), Fail>
     // each record is put in two
     assert!(rt; place.moments.as_slice() == [3, 3, 4, 4, 6, 6].as_slice());
     assert!(rt; out.bytes() == b"bound 7\nread 7 kept 6 shown 3\n".as_slice());
+    Ok(())
+}
+
+#[test]
+fn asks_a_link_for_nothing_once_it_was_quiet(rt: HostRuntime) -> Result<(), Fail> {
+    let alloc = rt.alloc();
+    let feed = feed_of(alloc, FIRST)?;
+    let later = feed_of(alloc, ALL)?;
+    let asked = Cell::new(0);
+    let mut link = UntoldLink {
+        feed: &feed,
+        later: &later,
+        asked: &asked,
+        port: 0,
+    };
+    let mut place = UntoldPlace::new(alloc, &asked);
+    let mut out = MemorySink::new(alloc, Vec::new(alloc));
+    let ended = runs::<Brand>(alloc, DONE, &mut place, &mut link, &mut out, Blank::new(1));
+    assert!(rt; ended);
+    // three datagrams, and the quiet behind them
+    assert!(rt; asked.get() == 4);
+    assert!(rt; out.bytes() == b"bound 7\nread 3 kept 2 shown 1\n".as_slice());
     Ok(())
 }

@@ -5,10 +5,12 @@ use pet_base::{Failed, Got, Link, Place};
 use std::alloc::Global;
 use std::cell::Cell;
 
-/// A link that receives these datagrams, and counts on a shared counter how often it is asked for one.
+/// A link that receives these datagrams, is quiet once, and then receives the later ones. It counts on a shared counter how often
+/// it is asked for one.
 #[derive(Drop)]
 pub(crate) struct UntoldLink<'a> {
     pub(crate) feed: &'a [Vec<u8>],
+    pub(crate) later: &'a [Vec<u8>],
     pub(crate) asked: &'a Cell<u32>,
     pub(crate) port: u16,
 }
@@ -36,6 +38,8 @@ impl Link for UntoldLink<'_> {
     fn next(&mut self, into: &mut [u8]) -> Result<Got, Failed> {
         self.asked.set(self.asked.get().wrapping_add(1));
         let [datagram, feed @ ..] = self.feed else {
+            self.feed = self.later;
+            self.later = &[];
             return Ok(Got::Quiet);
         };
         self.feed = feed;
