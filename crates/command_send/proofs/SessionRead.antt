@@ -1,11 +1,10 @@
 -- The session that was read with its marks, and what of it was sent.
 use Rattle.std.proofs.Common.{◌≡◌, ℕ, ◌+◌, ◌*◌, ◌≤◌, List, [], ◌∷◌, length, Option, Some, None, refl, sym, ap, subst, ◌∙◌, inl, inr, arith}
-use Rattle.std.proofs.lemmas.List.{append-nil}
-use Rattle.std.specs.Prelude.{◌⊎◌, IfSome, option_map}
+use Rattle.std.specs.Prelude.{◌⊎◌, option_map}
 use Rattle.std.specs.List.{sum_by}
 use Rattle.datagram_route.specs.declared.fault.RouteStop.TheVariants as stop
 use Rattle.datagram_route.specs.RouteFaults.{AimedFailed}
-use Rattle.datagram_route.specs.Sending.{Routes, Sent, SentFirst}
+use Rattle.datagram_route.specs.Sending.{Routes}
 use Rattle.datagram_route.specs.Way.{Way, OnFile, OnLink}
 use Rattle.pet_base.specs.LinkSeen.{LinkSeen}
 use Rattle.pet_base.specs.Seen.{Seen, Files, Blame}
@@ -16,26 +15,27 @@ use Rattle.priority_file.specs.Refusals.{priorities_of}
 use Rattle.stream_session.specs.declared.mark.GroupMark.{GroupMark}
 use Rattle.stream_session.specs.declared.source.Source.{Source}
 use Rattle.stream_session.specs.Marks.{mark_at, marks_of}
-use Rattle.stream_session.specs.Number.{session_number}
 use Rattle.stream_session.specs.Sources.{IsSource}
-use Rattle.plan_text.specs.PlanLines.{send_text}
 use Rattle.command_files.specs.Inputs.{IsFile}
 use Rattle.command_files.specs.Wrote.{File, Wrote, with_files}
-use Rattle.command_files.specs.laws.WroteLaws.{Wrote-as_front, Wrote-nothing}
+use Rattle.command_files.specs.laws.WroteLaws.{Wrote-nothing}
 use Rattle.command_send.specs.declared.fault.SendFault.{SendFault}
 use Rattle.command_send.specs.declared.fault.SendFault.TheVariants as fault
 use Rattle.command_send.specs.declared.sent_group.Change.{Change}
+use Rattle.command_send.specs.declared.session.Sent.{Sent as SentNumbers}
 use Rattle.command_send.specs.Sending.{words_cost, AgreeBelow, AreFound, IsLeastChange, IsFirstPass, IsNext, IsLost}
 use Rattle.command_send.specs.SendParts.{IsOfReopened, IsReadFrom, SessionSent, SessionLeft, SessionStops, IsSendFault}
-use Rattle.command_send.specs.Sends.{packets_file, sent_line_text, packets_in, HasPackets, HasSentBefore, KeepsLink, LeavesFront, LinkSentAll, LinkSentFirst, MayBlame, Costs}
+use Rattle.command_send.specs.Sends.{packets_file, HasPackets, HasSentBefore, IsSentOf, KeepsLink, LeavesFront, LinkSentAll, LinkSentFirst, MayBlame, Costs}
 use Rattle.stream_session.specs.Sessions.{HasSession, tables_in}
 
--- the line of a session that was read
-pub line_of_pass : (p b : List ℕ) (source : Source) (marks : List GroupMark) → IsFirstPass p b source marks → send_text source.number (length source.tables.items) (length source.tables.items * source.priority.packets) ≡ sent_line_text p b
-line_of_pass p b source marks first =
-    ap (λ (n : List ℕ). send_text n (length source.tables.items) (length source.tables.items * source.priority.packets)) first.number
-    ∙ ap (λ (r : Priorities). send_text (session_number p b) (length source.tables.items) (length source.tables.items * r.packets)) first.rules
-    ∙ ap (λ (ts : List Sizes). send_text (session_number p b) (length ts) (length ts * (priorities_of p).packets)) first.tables
+-- the numbers of a session that was read
+pub numbers_of_pass : (p b : List ℕ) (source : Source) (marks : List GroupMark) (sent : SentNumbers) → IsFirstPass p b source marks → sent.session ≡ source.number → sent.groups ≡ length source.tables.items
+    → sent.datagrams ≡ length source.tables.items * source.priority.packets → IsSentOf p b sent
+numbers_of_pass p b source marks sent first session groups datagrams = record {
+  session = session ∙ first.number;
+  groups = groups ∙ ap (λ (ts : List Sizes). length ts) first.tables;
+  datagrams = datagrams ∙ ap (λ (ts : List Sizes). length ts * source.priority.packets) first.tables ∙ ap (λ (r : Priorities). length (tables_in p b) * r.packets) first.rules;
+}
 
 pub session_read : (old : Seen) (stream priority : List ℕ) (source : Source) (marks : List GroupMark) → (is : IsSource old.files stream priority source) × (marks ≡ marks_of (priorities_of is.file) is.bytes)
     → IsReadFrom old stream priority source marks
@@ -140,25 +140,6 @@ module _ (old mid new : Routes) {stream priority : List ℕ} {source : Source} {
 -- how many steps it may have counted
 pub costs_to : {old : Seen} {stream priority : List ℕ} {source : Source} {marks : List GroupMark} → IsReadFrom old stream priority source marks → (before after : ℕ) → after ≤ before + sum_by words_cost source.tables.items → Costs stream priority old before after
 costs_to read before after few = inr (read.session, subst (λ (ts : List Sizes). after ≤ before + sum_by words_cost ts) read.first.tables few)
-
--- nothing is printed of a session that was sent, where no memory is found for the line
-pub sent_left : (source : Source) (marks : List GroupMark) (stream : List ℕ) (way : Way) (old new : Routes) → SessionSent source marks stream way old new → SessionLeft source marks stream way old new
-sent_left source marks stream (OnFile to) old new sent = λ p b first is. inr (Wrote-as_front [] (packets_file to p b) old.place new.place (sent p b first is))
-sent_left source marks stream (OnLink address) old new sent = (λ p b first is. inr (all_first address p b old.place.files old.link new.link (sent.0 p b first is)), sent.1)
-  where
-    told_first : (p b : List ℕ) (files : Option Files) (old new : LinkSeen) (datagrams : List (List ℕ)) → Sent datagrams old new → IfSome files (λ _. datagrams ≡ packets_in p b) → IfSome files (λ _. SentFirst (packets_in p b) old new)
-    told_first p b None old new datagrams sent told = tt
-    told_first p b (Some f) old new datagrams sent told = (packets_in p b, ([], sym (append-nil (packets_in p b))), subst (λ (ds : List (List ℕ)). Sent ds old new) told sent)
-
-    all_first : (address p b : List ℕ) (files : Option Files) (old new : LinkSeen) → LinkSentAll address p b files old new → LinkSentFirst address p b files old new
-    all_first address p b files old new all = record {
-      groups = all.groups;
-      datagrams = all.datagrams;
-      resent = all.resent;
-      aimed = all.aimed;
-      sent = (all.datagrams, ([], sym (append-nil all.datagrams)), all.sent);
-      told = told_first p b files old new all.datagrams all.sent all.told;
-    }
 
 -- where the link is as before, before it is used
 pub keeps_since : (way : Way) (old mid new : LinkSeen) → mid ≡ old → KeepsLink way mid new → KeepsLink way old new

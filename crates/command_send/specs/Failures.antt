@@ -18,22 +18,20 @@ fault_of_link (Source fault) = false
 fault_of_link (Changed change) = false
 
 abbrev pub end_of_place : SendEnd → Bool
-end_of_place end.Done = false
+end_of_place (end.Done sent) = false
 end_of_place end.NoMemory = false
 end_of_place end.PlaceFault = true
 end_of_place end.LinkFault = false
-end_of_place end.OutFault = false
 end_of_place (end.BadPriority fault) = false
 end_of_place (end.BadStream scan) = false
 end_of_place (end.BadPlan fault) = false
 end_of_place (end.Changed change) = false
 
 abbrev pub end_of_link : SendEnd → Bool
-end_of_link end.Done = false
+end_of_link (end.Done sent) = false
 end_of_link end.NoMemory = false
 end_of_link end.PlaceFault = false
 end_of_link end.LinkFault = true
-end_of_link end.OutFault = false
 end_of_link (end.BadPriority fault) = false
 end_of_link (end.BadStream scan) = false
 end_of_link (end.BadPlan fault) = false

@@ -1,7 +1,5 @@
 -- What the parts of `send` do: the files are opened again, and the groups of the stream are sent. This project's own.
-use Rattle.std.specs.Prelude.{◌≡◌, ◌⊎◌, ℕ, ◌≤◌, List, [], ◌∷◌, true, take, Option, None, Some, option_map}
-use Rattle.std.specs.Io.KnownBytes.{append_known}
-use Rattle.pet_base.specs.Causes.{Rose}
+use Rattle.std.specs.Prelude.{◌≡◌, ◌⊎◌, ℕ, ◌≤◌, List, [], ◌∷◌, true, None, Some, option_map}
 use Rattle.pet_base.specs.Seen.{Seen, Blame, Names, HadFault, bytes_at, with_file}
 use Rattle.stream_session.specs.declared.mark.GroupMark.{GroupMark}
 use Rattle.stream_session.specs.declared.source.Source.{Source}
@@ -17,7 +15,7 @@ use Rattle.datagram_route.specs.Way.{Way, OnFile, OnLink}
 use Rattle.datagram_route.specs.declared.fault.RouteStop.{RouteStop}
 use Rattle.datagram_route.specs.declared.fault.RouteStop.TheVariants as stop
 use Rattle.command_send.specs.declared.command.SendEnd.{SendEnd}
-use Rattle.command_send.specs.declared.command.SendEnd.TheVariants.{Done, NoMemory, PlaceFault, LinkFault, OutFault, BadPriority, BadStream, BadPlan, Changed}
+use Rattle.command_send.specs.declared.command.SendEnd.TheVariants.{NoMemory, PlaceFault, LinkFault, BadPriority, BadStream, BadPlan, Changed}
 use Rattle.command_send.specs.declared.fault.SendFault.{SendFault}
 use Rattle.command_send.specs.declared.fault.SendFault.TheVariants as fault
 use Rattle.command_send.specs.Sending.{IsLeastChange, IsFirstPass}
@@ -110,20 +108,14 @@ end_of_refusal (source.Priority fault) = BadPriority fault
 end_of_refusal (source.Stream scan) = BadStream scan
 end_of_refusal (source.Plan fault) = BadPlan fault
 
--- the end that each makes
-abbrev pub end_of_early : RouteStop → SendEnd
-end_of_early stop.NoMemory = NoMemory
-end_of_early stop.Place = PlaceFault
-end_of_early stop.Link = LinkFault
-end_of_early stop.Out = OutFault
+-- the end that each makes; no output is used, so none can fail
+abbrev pub IsEndOfStop : RouteStop → SendEnd → Type 0
+IsEndOfStop stop.NoMemory end = end ≡ NoMemory
+IsEndOfStop stop.Place end = end ≡ PlaceFault
+IsEndOfStop stop.Link end = end ≡ LinkFault
+IsEndOfStop stop.Out end = ⊥
 
-abbrev pub end_of_fault : SendFault → SendEnd
-end_of_fault (fault.Stopped stop) = end_of_early stop
-end_of_fault (fault.Source refused) = end_of_refusal refused
-end_of_fault (fault.Changed change) = Changed change
-
--- what printing the line comes to
-abbrev pub PutsLine : List ℕ → Option (List ℕ) → Option (List ℕ) → ℕ → ℕ → SendEnd → Type 0
-PutsLine text before after fb fa Done = after ≡ append_known before text
-PutsLine text before after fb fa OutFault = ((k : ℕ) × (after ≡ append_known before (take k text))) × Rose fb fa
-PutsLine text before after fb fa _ = ⊥
+abbrev pub IsEndOf : SendFault → SendEnd → Type 0
+IsEndOf (fault.Stopped stop) end = IsEndOfStop stop end
+IsEndOf (fault.Source refused) end = end ≡ end_of_refusal refused
+IsEndOf (fault.Changed change) end = end ≡ Changed change

@@ -14,7 +14,6 @@ use Rattle.stream_session.specs.Sources.{IsOfSource, IsSourceFault}
 use Rattle.stream_session.specs.declared.source.Source.{Source}
 use Rattle.stream_session.specs.declared.source.SourceFault.TheVariants as source
 use Rattle.plan_text.specs.PlanLines.{send_text}
-use Rattle.command_files.specs.Printed.{Printed, Unprinted, PrintedFront}
 use Rattle.command_files.specs.Uses.{writing}
 use Rattle.command_files.specs.Wrote.{File, Wrote}
 use Rattle.datagram_route.specs.RouteFaults.{AimedFailed}
@@ -22,8 +21,9 @@ use Rattle.datagram_route.specs.Sending.{Routes, Sent, SentFirst}
 use Rattle.datagram_route.specs.Way.{Way, OnFile, OnLink}
 use Rattle.pet_encode.specs.Datagrams.{datagrams_text, session_datagrams}
 use Rattle.command_send.specs.declared.command.SendEnd.{SendEnd}
-use Rattle.command_send.specs.declared.command.SendEnd.TheVariants.{Done, NoMemory, PlaceFault, LinkFault, OutFault, BadPriority, BadStream, BadPlan, Changed}
+use Rattle.command_send.specs.declared.command.SendEnd.TheVariants.{Done, NoMemory, PlaceFault, LinkFault, BadPriority, BadStream, BadPlan, Changed}
 use Rattle.command_send.specs.declared.sent_group.Change.{Change}
+use Rattle.command_send.specs.declared.session.Sent.{Sent as SentNumbers}
 use Rattle.command_send.specs.Sending.{words_cost, sent_datagrams, AgreeBelow, HaveTables, IsFirstPass, IsLeastChange}
 use Rattle.stream_session.specs.Sessions.{HasSession, tables_in}
 
@@ -39,6 +39,12 @@ packets_in priority stream = session_datagrams (session_of priority stream)
 abbrev pub sent_line_text : List ℕ → List ℕ → List ℕ
 sent_line_text priority stream =
     send_text (session_number priority stream) (length (tables_in priority stream)) (length (tables_in priority stream) * (priorities_of priority).packets)
+
+-- the numbers that this line tells
+pub record IsSentOf (priority stream : List ℕ) (sent : SentNumbers) : Type 0 where
+  pub session : sent.session ≡ session_number priority stream
+  pub groups : sent.groups ≡ length (tables_in priority stream)
+  pub datagrams : sent.datagrams ≡ length (tables_in priority stream) * (priorities_of priority).packets
 
 -- where a file is written, it is another than the stream
 abbrev pub IsOther : Way → List ℕ → Type 0
@@ -121,27 +127,24 @@ pub record StreamChanged (old new : Routes) (stream priority : List ℕ) (way : 
   pub untold : old.place.files ≡ None
   pub sent : HasSentBefore session.priority_bytes session.stream_bytes least.before way old.link new.link
 
--- What each end tells: all packets of the session were sent, and the line was printed, or a front of it where the output failed.
--- At every other end its cause holds and nothing was printed; a refusal comes before any file is written or any datagram sent,
--- and what stops `send` later leaves a front of the packets.
+-- What each end tells: all packets of the session were sent, and which these are. At every other end its cause holds; a refusal
+-- comes before any file is written or any datagram sent, and what stops `send` later leaves a front of the packets.
 abbrev pub SendTells : List ℕ → List ℕ → Way → OutsideSeen → OutsideSeen → SendEnd → Type 0
-SendTells stream priority way before after Done =
-    (s : HasSession before.place stream priority) × HasPackets (routes_in before) s way (routes_in after) × Printed (sent_line_text s.priority_bytes s.stream_bytes) before after
-SendTells stream priority way before after OutFault =
-    (s : HasSession before.place stream priority) × HasPackets (routes_in before) s way (routes_in after) × PrintedFront (sent_line_text s.priority_bytes s.stream_bytes) before after
-SendTells stream priority way before after NoMemory = LeavesFront stream priority way (routes_in before) (routes_in after) × Unprinted before after
+SendTells stream priority way before after (Done sent) =
+    (s : HasSession before.place stream priority) × HasPackets (routes_in before) s way (routes_in after) × IsSentOf s.priority_bytes s.stream_bytes sent
+SendTells stream priority way before after NoMemory = LeavesFront stream priority way (routes_in before) (routes_in after)
 SendTells stream priority way before after PlaceFault =
-    HadFault before.place after.place (MayBlame stream priority way before.place) × LeavesFront stream priority way (routes_in before) (routes_in after) × Unprinted before after
+    HadFault before.place after.place (MayBlame stream priority way before.place) × LeavesFront stream priority way (routes_in before) (routes_in after)
 SendTells stream priority way before after LinkFault =
-    AimedFailed way before.link after.link × HasSession before.place stream priority × LeavesFront stream priority way (routes_in before) (routes_in after) × Unprinted before after
+    AimedFailed way before.link after.link × HasSession before.place stream priority × LeavesFront stream priority way (routes_in before) (routes_in after)
 SendTells stream priority way before after (BadPriority fault) =
-    IsSourceFault before.place after.place stream priority (source.Priority fault) × SendsNothing (routes_in before) (routes_in after) × Unprinted before after
+    IsSourceFault before.place after.place stream priority (source.Priority fault) × SendsNothing (routes_in before) (routes_in after)
 SendTells stream priority way before after (BadStream scan) =
-    IsSourceFault before.place after.place stream priority (source.Stream scan) × SendsNothing (routes_in before) (routes_in after) × Unprinted before after
+    IsSourceFault before.place after.place stream priority (source.Stream scan) × SendsNothing (routes_in before) (routes_in after)
 SendTells stream priority way before after (BadPlan fault) =
-    IsSourceFault before.place after.place stream priority (source.Plan fault) × SendsNothing (routes_in before) (routes_in after) × Unprinted before after
+    IsSourceFault before.place after.place stream priority (source.Plan fault) × SendsNothing (routes_in before) (routes_in after)
 SendTells stream priority way before after (Changed change) =
-    StreamChanged (routes_in before) (routes_in after) stream priority way change × LeavesFront stream priority way (routes_in before) (routes_in after) × Unprinted before after
+    StreamChanged (routes_in before) (routes_in after) stream priority way change × LeavesFront stream priority way (routes_in before) (routes_in after)
 
 -- No step was counted, or the two files are a session, and each group has taken at most packets times words.
 abbrev pub Costs : List ℕ → List ℕ → Seen → ℕ → ℕ → Type 0
@@ -159,9 +162,10 @@ abbrev pub KeepsLink : Way → LinkSeen → LinkSeen → Type 0
 KeepsLink (OnFile to) old new = new ≡ old
 KeepsLink (OnLink address) old new = OnlySendsOn old new
 
--- what `send` does; faults do not fall
+-- what `send` does: nothing is printed
 pub record Sends (stream priority : List ℕ) (way : Way) (before after : OutsideSeen) (end : SendEnd) : Type 0 where
   pub link : KeepsLink way before.link after.link
-  pub later : before.out_faults ≤ after.out_faults
+  pub written : after.written ≡ before.written
+  pub out_faults : after.out_faults ≡ before.out_faults
   pub costs : Costs stream priority before.place before.steps after.steps
   pub tells : SendTells stream priority way before after end

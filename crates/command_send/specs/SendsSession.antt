@@ -2,15 +2,15 @@
 use Rattle.std.specs.Prelude.{◌≡◌, ◌≢◌, ℕ, List, [], ◌∷◌, None}
 use Rattle.pet_base.specs.Seen.{Blame}
 use Rattle.pet_base.specs.OutsideSeen.{OutsideSeen}
-use Rattle.command_files.specs.Printed.{Printed}
-use Rattle.command_files.specs.Uses.{reading, writing, IsWell}
+use Rattle.command_files.specs.Uses.{reading, writing, Failed}
 use Rattle.command_files.specs.Wrote.{Wrote}
 use Rattle.datagram_route.specs.RouteFaults.{AimedFailed}
 use Rattle.datagram_route.specs.Sending.{Sent}
 use Rattle.datagram_route.specs.Way.{Way, OnFile, OnLink}
 use Rattle.command_send.specs.declared.command.SendEnd.{SendEnd}
 use Rattle.command_send.specs.declared.command.SendEnd.TheVariants.{Done, NoMemory}
-use Rattle.command_send.specs.Sends.{packets_file, packets_in, sent_line_text, IsAimedAt}
+use Rattle.command_send.specs.declared.session.Sent.{Sent as SentNumbers}
+use Rattle.command_send.specs.Sends.{packets_file, packets_in, IsAimedAt, IsSentOf}
 use Rattle.stream_session.specs.Sessions.{IsGiven}
 
 -- the files that are used: two are read, and TO is written where it is one
@@ -18,11 +18,10 @@ abbrev pub uses : List ℕ → List ℕ → Way → List Blame
 uses stream priority (OnFile to) = reading stream ∷ reading priority ∷ writing to ∷ []
 uses stream priority (OnLink address) = reading stream ∷ reading priority ∷ []
 
--- Memory was found, neither the place nor the link nor the output had a fault of this call, and the two files are told and a
--- session.
+-- Memory was found, neither the place nor the link had a fault of this call, and the two files are told and a session.
 pub record CanSend (stream priority : List ℕ) (way : Way) (p b : List ℕ) (before after : OutsideSeen) (end : SendEnd) : Type 0 where
   pub memory : end ≢ NoMemory
-  pub well : IsWell (uses stream priority way) before after
+  pub well : Failed (uses stream priority way) before.place after.place → ⊥
   pub link : AimedFailed way before.link after.link → ⊥
   pub given : IsGiven before.place stream priority p b
 
@@ -31,11 +30,12 @@ abbrev pub SendsAll : Way → List ℕ → List ℕ → OutsideSeen → OutsideS
 SendsAll (OnFile to) p b before after = Wrote (packets_file to p b ∷ []) None before.place after.place
 SendsAll (OnLink address) p b before after = Sent (packets_in p b) before.link after.link × IsAimedAt address before.link after.link × (after.place.files ≡ before.place.files)
 
--- and the line was printed
+-- and it is done, with their numbers
 pub record HasSent (way : Way) (p b : List ℕ) (before after : OutsideSeen) (end : SendEnd) : Type 0 where
-  pub ended : end ≡ Done
+  pub sent : SentNumbers
+  pub ended : end ≡ Done sent
   pub packets : SendsAll way p b before after
-  pub printed : Printed (sent_line_text p b) before after
+  pub is : IsSentOf p b sent
 
 -- then it is done
 abbrev pub SendsSession : List ℕ → List ℕ → Way → OutsideSeen → OutsideSeen → SendEnd → Type 0

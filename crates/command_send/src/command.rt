@@ -1,16 +1,14 @@
 //! The command `send`.
-ghost use Rattle.std.specs.Prelude.{◌≤◌, List, ℕ};
 ghost use Rattle.pet_base.specs.Lent.{seen, AreSame};
 ghost use Rattle.pet_base.specs.Seen.{PlaceStops};
 ghost use Rattle.pet_base.specs.LinkSeen.{LinkStops};
 ghost use Rattle.command_send.specs.Failures.{end_of_place, end_of_link};
-ghost use Rattle.command_send.specs.SendParts.{PutsLine};
 ghost use Rattle.datagram_route.specs.Way.{way_of};
 ghost use Rattle.command_send.specs.Sends.{IsOther, Sends};
 ghost use Rattle.command_send.specs.SendsSession.{SendsSession};
 
 use crate::sent_group::Change;
-use crate::session::sent_line;
+use crate::session::{Sent, send_all};
 use datagram_route::Route;
 use mpeg_scan::Scan;
 use pet_base::{Link, Outside, Place, Sink};
@@ -22,16 +20,14 @@ use stream_session::SessionFault;
 /// How `send` ended.
 #[derive(Clone, Copy, Debug, PartialEq, Eq)]
 pub enum SendEnd {
-    /// All packets were sent, and the line was printed.
-    Done,
+    /// All packets were sent.
+    Done(Sent),
     /// No memory was found.
     NoMemory,
     /// A file could not be read, made or written.
     PlaceFault,
     /// The address of a link cannot be used, or the link could not send.
     LinkFault,
-    /// All packets were sent, but the line could not be printed.
-    OutFault,
     /// The priority file is refused.
     BadPriority(PriorityFault),
     /// The stream is refused.
@@ -43,8 +39,8 @@ pub enum SendEnd {
 }
 
 /// Sends the packets of the session that STREAM and PRIORITY are to the datagram file TO, or by the link to the address TO, each
-/// packet once, by group, then number, and prints how many they are. STREAM is read twice, and TO, which is another file where it
-/// is one, is made, or the link aimed, before it is read again.
+/// packet once, by group, then number, and answers how many they are. STREAM is read twice, and TO, which is another file where it
+/// is one, is made, or the link aimed, before it is read again. The first failure of a file or of the link ends it.
 pub fn send<P: Place, K: Link, S: Sink, L: Ledger>(
     alloc: Global,
     stream: &str,
@@ -63,7 +59,7 @@ pub fn send<P: Place, K: Link, S: Sink, L: Ledger>(
         (seen outside.new).link }
     ensures same { AreSame outside.old outside.new }
 {
-    let sent = sent_line(
+    let sent = send_all(
         alloc,
         stream,
         priority,
@@ -73,19 +69,7 @@ pub fn send<P: Place, K: Link, S: Sink, L: Ledger>(
         outside.steps,
     );
     match sent {
-        Ok(line) => put_line(line.as_slice(), outside.out),
+        Ok(sent) => SendEnd::Done(sent),
         Err(fault) => fault.end(),
-    }
-}
-
-/// Prints the line of what was sent.
-fn put_line<S: Sink>(line: &[u8], out: &mut S) -> SendEnd
-    ensures puts { PutsLine line.now (S.written out.old) (S.written out.new) (S.faults out.old)
-        (S.faults out.new) result }
-    ensures later { S.faults out.old ≤ S.faults out.new }
-{
-    match out.put(line) {
-        Ok(()) => SendEnd::Done,
-        Err(_) => SendEnd::OutFault,
     }
 }

@@ -1,6 +1,6 @@
 //! Why `send` stops.
-ghost use Rattle.std.specs.Prelude.{◌≡◌};
-ghost use Rattle.command_send.specs.SendParts.{end_of_early, end_of_fault, end_of_refusal};
+ghost use Rattle.std.specs.Prelude.{◌≡◌, ◌≢◌};
+ghost use Rattle.command_send.specs.SendParts.{IsEndOf, IsEndOfStop, end_of_refusal};
 
 use crate::command::SendEnd;
 use crate::sent_group::Change;
@@ -51,9 +51,10 @@ impl From<RouteStop> for SendFault {
 }
 
 impl SendFault {
-    /// The end that it makes.
+    /// The end that it makes. No output is used, so none can have failed.
     pub(crate) fn end(&self) -> SendEnd
-        ensures { result ≡ end_of_fault self.now }
+        requires { self.now ≢ SendFault.Stopped RouteStop.Out }
+        ensures { IsEndOf self.now result }
     {
         match self {
             SendFault::Stopped(stop) => end_of_stop(*stop),
@@ -65,13 +66,14 @@ impl SendFault {
 
 /// The end that a failure or want of memory makes.
 fn end_of_stop(stop: RouteStop) -> SendEnd
-    ensures { result ≡ end_of_early stop }
+    requires { stop ≢ RouteStop.Out }
+    ensures { IsEndOfStop stop result }
 {
     match stop {
         RouteStop::NoMemory => SendEnd::NoMemory,
         RouteStop::Place => SendEnd::PlaceFault,
         RouteStop::Link => SendEnd::LinkFault,
-        RouteStop::Out => SendEnd::OutFault,
+        RouteStop::Out => unreachable!(),
     }
 }
 

@@ -17,3 +17,4 @@ mod session;
 
 pub use command::{SendEnd, send};
 pub use sent_group::Change;
+pub use session::Sent;

@@ -3,7 +3,6 @@ ghost use Rattle.std.specs.Prelude.{◌≡◌, ◌+◌, ◌≤◌, ◌*◌, ℕ,
 ghost use Rattle.std.specs.List.{sum_by};
 ghost use Rattle.pet_base.specs.Seen.{Seen, KeepsOutput, HadFault, PlaceStops};
 ghost use Rattle.stream_session.specs.Sources.{IsSourceFault};
-ghost use Rattle.plan_text.specs.PlanLines.{send_text};
 ghost use Rattle.pet_base.specs.Causes.{stops};
 ghost use Rattle.pet_base.specs.LinkSeen.{LinkStops};
 ghost use Rattle.datagram_route.specs.RouteFaults.{IsStop, AimedFailed, stop_of_a_place, stop_of_a_link};
@@ -11,7 +10,7 @@ ghost use Rattle.command_send.specs.Failures.{fault_of_place, fault_of_link};
 ghost use Rattle.stream_session.specs.Sources.{has_failed as source_failed};
 ghost use Rattle.datagram_route.specs.Sending.{routes};
 ghost use Rattle.datagram_route.specs.Way.{way_of};
-ghost use Rattle.command_send.specs.Sends.{Costs, HasPackets, IsOther, KeepsLink, LeavesFront, sent_line_text};
+ghost use Rattle.command_send.specs.Sends.{Costs, HasPackets, IsOther, IsSentOf, KeepsLink, LeavesFront};
 ghost use Rattle.command_send.specs.SendParts.{IsReadFrom, IsReopened, IsLeftEmpty, IsOfReopened, IsSendFault, SessionSent, SessionLeft, SessionStops};
 ghost use Rattle.command_send.specs.Sending.{words_cost};
 ghost use Rattle.stream_session.specs.Sessions.{HasSession};
@@ -20,15 +19,24 @@ use crate::fault::SendFault;
 use crate::first::FirstPass;
 use crate::second::send_groups;
 use datagram_route::{Route, RouteStop, open_route};
-use pet_base::{Link, NoMemory, Place, Steps};
+use pet_base::{Link, Place, Steps};
 use pet_tables::Gf16Tables;
-use plan_text::send_line;
 use std::alloc::Global;
 use std::sync::ledger::Ledger;
 use stream_session::{SourceFault, read_marked};
 
-/// Reads both files, sends all packets, and makes the line that is then printed.
-pub(crate) fn sent_line<P: Place, K: Link, L: Ledger>(
+/// What was sent.
+#[derive(Clone, Copy, Debug, PartialEq, Eq)]
+pub struct Sent {
+    /// The number of the session.
+    pub session: [u8; 8],
+    pub groups: u32,
+    /// The packets of all groups.
+    pub datagrams: u32,
+}
+
+/// Reads both files, and sends all packets.
+pub(crate) fn send_all<P: Place, K: Link, L: Ledger>(
     alloc: Global,
     stream: &str,
     priority: &str,
@@ -36,11 +44,11 @@ pub(crate) fn sent_line<P: Place, K: Link, L: Ledger>(
     place: &mut P,
     link: &mut K,
     steps: &mut Steps<L>,
-) -> Result<Vec<u8>, SendFault>
+) -> Result<Sent, SendFault>
     requires differ { IsOther (way_of to) stream.now }
-    ensures line { IfOk result (λ line. (s : HasSession (P.seen place.old) stream.now priority.now)
+    ensures sent { IfOk result (λ sent. (s : HasSession (P.seen place.old) stream.now priority.now)
         × HasPackets (routes P.Place K.Link place.old link.old) s (way_of to.entry) (routes P.Place K.Link place.new link.new)
-        × (line.items ≡ sent_line_text s.priority_bytes s.stream_bytes)) }
+        × IsSentOf s.priority_bytes s.stream_bytes sent) }
     ensures cause { IfErr result (IsSendFault (routes P.Place K.Link place.old link.old)
         (routes P.Place K.Link place.new link.new) stream.now priority.now (way_of to.entry)) }
     ensures left { OnErr result (LeavesFront stream.now priority.now (way_of to.entry)
@@ -53,7 +61,7 @@ pub(crate) fn sent_line<P: Place, K: Link, L: Ledger>(
 {
     let found = read_first(alloc, stream, priority, to, place)?;
     send_session(alloc, stream, &found, place, link, steps)?;
-    Ok(line_of(alloc, &found)?)
+    Ok(sent_of(&found))
 }
 
 /// Reads both files.
@@ -139,15 +147,16 @@ fn reopen<P: Place, K: Link>(
     Ok(())
 }
 
-/// The line for the packets of a session: each group has as many as the priority says.
-fn line_of(alloc: Global, found: &FirstPass<'_>) -> Result<Vec<u8>, NoMemory>
-    ensures { IfOk result (λ line. line.items
-        ≡ send_text found.now.source.number (length found.now.source.tables.items)
-        (length found.now.source.tables.items * found.now.source.priority.packets)) }
+/// The packets of a session: each group has as many as the priority says.
+fn sent_of(found: &FirstPass<'_>) -> Sent
+    ensures session { result.session ≡ found.now.source.number }
+    ensures groups { result.groups ≡ length found.now.source.tables.items }
+    ensures datagrams { result.datagrams ≡ length found.now.source.tables.items * found.now.source.priority.packets }
 {
     let groups = found.source.tables.len() as u32;
-    let datagrams = groups * u32::from(found.source.priority.packets);
-    let mut line = Vec::new(alloc);
-    send_line(alloc, &found.source.number, groups, datagrams, &mut line)?;
-    Ok(line)
+    Sent {
+        session: found.source.number,
+        groups,
+        datagrams: groups * u32::from(found.source.priority.packets),
+    }
 }

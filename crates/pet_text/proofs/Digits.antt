@@ -6,6 +6,9 @@ use Rattle.std.proofs.lemmas.Fmt.{length-decimal-le, decimal_step}
 pub number_fits : (n : ℕ) → n < 2 ^ 64 → length (decimal n) ≤ 20
 number_fits n small = length-decimal-le 20 n (omega arith) (omega (arith, small)) small
 
+pub count_fits : (n : ℕ) → n < 2 ^ 32 → length (decimal n) ≤ 10
+count_fits n small = length-decimal-le 10 n (omega arith) (omega (arith, small)) (omega (arith, small))
+
 pub byte_fits : (n : ℕ) → n < 2 ^ 8 → length (decimal n) ≤ 3
 byte_fits n small = length-decimal-le 3 n (omega arith) (omega (arith, small)) (omega (arith, small))
 

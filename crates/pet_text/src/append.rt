@@ -1,8 +1,10 @@
-//! The pieces of a fault line, which take no memory.
+//! The pieces of a line, which take no memory.
 ghost use Rattle.std.specs.Prelude.{◌≡◌, ◌+◌, ◌≤◌, ◌++◌, length, decimal};
 ghost use Rattle.arrayvec.specs.ArrayVec.{array_vec_len};
+ghost use Rattle.plan_text.specs.PlanLines.{hex_text};
 
 use arrayvec::ArrayVec;
+use plan_text::hexadecimal_digit;
 
 /// Appends a text, for which there must be room.
 pub fn append_text(text: &str, into: &mut ArrayVec<u8, 64>)
@@ -21,6 +23,29 @@ pub fn append_number(number: u64, into: &mut ArrayVec<u8, 64>)
     ensures len { array_vec_len into.new ≤ array_vec_len into.old + 20 }
 {
     append_digits(number, into);
+}
+
+/// Appends a number below 2^32 in decimal digits, of which there are at most 10.
+#[tactic(auto, using(crate::proofs::Digits::count_fits))]
+pub fn append_count(number: u32, into: &mut ArrayVec<u8, 64>)
+    requires { array_vec_len into.old + 10 ≤ 64 }
+    ensures text { into.new.items ≡ into.old.items ++ decimal number }
+    ensures len { array_vec_len into.new ≤ array_vec_len into.old + 10 }
+{
+    append_digits(u64::from(number), into);
+}
+
+/// Appends the number of a session in hexadecimal digits, of which there are 16.
+pub fn append_session(session: &[u8], into: &mut ArrayVec<u8, 64>)
+    requires whole { length session.now ≡ 8 }
+    requires room { array_vec_len into.old + 16 ≤ 64 }
+    ensures text { into.new.items ≡ into.old.items ++ hex_text session.now }
+    ensures len { array_vec_len into.new ≡ array_vec_len into.old + 16 }
+{
+    for byte in session {
+        into.push(hexadecimal_digit(*byte / 16));
+        into.push(hexadecimal_digit(*byte % 16));
+    }
 }
 
 /// Appends a byte in decimal digits, of which there are at most 3.

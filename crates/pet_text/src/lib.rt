@@ -1,10 +1,9 @@
-//! The texts of the program: the command words that it takes, the lines of `check`, `receive`,
-//! `merge` and `video`, and the statuses that it ends with. The lines of `plan` and `send` are
-//! those of plan_text.
+//! The texts of the program: the command words that it takes, the lines of `check`, `send`, `receive`, `merge` and `video`,
+//! and the statuses that it ends with. The text of `plan` is that of plan_text.
 //!
-//! `read_words` reads exactly the words of a form. `least_line`, `merged_line`, `video_line` and
-//! `fault_line`, which take no memory, leave exactly the defined line; `bound_line` and
-//! `receive_line` append exactly theirs, or leave what they were to extend as it was.
+//! `read_words` reads exactly the words of a form. `least_line`, `send_line`, `merged_line`, `video_line` and `fault_line`,
+//! which take no memory, leave exactly the defined line; `bound_line` and `receive_line` append exactly theirs, or leave
+//! what they were to extend as it was.
 #![tactic(auto)]
 
 mod append;
@@ -17,7 +16,7 @@ mod status;
 mod words;
 
 pub use end::End;
-pub use lines::{bound_line, least_line, merged_line, receive_line, video_line};
+pub use lines::{bound_line, least_line, merged_line, receive_line, send_line, video_line};
 pub use name::Name;
 pub use status::{PlanKind, Status, fault_line};
 pub use words::{Command, WordsFault, read_words};

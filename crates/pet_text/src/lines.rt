@@ -1,9 +1,9 @@
 //! The printed lines.
 ghost use Rattle.std.specs.Prelude.{◌≡◌, ◌++◌, [], OnOk, OnErr};
-ghost use Rattle.plan_text.specs.PlanLines.{least_text};
+ghost use Rattle.plan_text.specs.PlanLines.{least_text, send_text};
 ghost use Rattle.pet_text.specs.Lines.{bound_text, receive_text, merged_text, video_text};
 
-use crate::append::{append_number, append_text};
+use crate::append::{append_count, append_number, append_session, append_text};
 use arrayvec::ArrayVec;
 use pet_base::NoMemory;
 use std::alloc::Global;
@@ -42,6 +42,21 @@ pub fn least_line(groups: u32, into: &mut ArrayVec<u8, 64>)
 {
     append_text("least ", into);
     append_number(u64::from(groups), into);
+    append_text("\n", into);
+}
+
+/// Leaves the line of `send` in `into`, which must be empty: the session's number in hexadecimal digits, its groups, and the
+/// datagrams of all of them. It takes no memory.
+pub fn send_line(session: &[u8; 8], groups: u32, datagrams: u32, into: &mut ArrayVec<u8, 64>)
+    requires { into.old.items ≡ [] }
+    ensures { into.new.items ≡ send_text session.now groups datagrams }
+{
+    append_text("session ", into);
+    append_session(session, into);
+    append_text(" groups ", into);
+    append_count(groups, into);
+    append_text(" datagrams ", into);
+    append_count(datagrams, into);
     append_text("\n", into);
 }
 

@@ -6,12 +6,17 @@ use Rattle.std.specs.Io.KnownBytes.{append_known}
 use Rattle.pet_base.specs.Causes.{Rose}
 use Rattle.pet_base.specs.Entries.{datagrams}
 use Rattle.pet_base.specs.OutsideSeen.{OutsideSeen}
+use Rattle.pet_base.specs.LinkSeen.{LinkSeen}
 use Rattle.pet_base.specs.Seen.{Files, Seen, with_file}
 use Rattle.command_files.specs.Uses.{reading, writing, Failed}
+use Rattle.command_files.specs.Wrote.{Wrote}
 use Rattle.pet_encode.specs.Session.{IsSession}
 use Rattle.pet_encode.specs.Datagrams.{datagrams_text, IsItsDatagram}
 use Rattle.pet_encode.specs.laws.SentLaws.{sent_are_packets}
+use Rattle.plan_text.specs.PlanLines.{send_text}
 use Rattle.stream_session.specs.Accepted.{session_of}
+use Rattle.stream_session.specs.Number.{session_number}
+use Rattle.stream_session.specs.Sessions.{tables_in}
 use Rattle.stream_session.specs.laws.SessionOfLaws.{is_session, session_fits}
 use Rattle.command_plan.specs.Checks.{Checks}
 use Rattle.command_plan.specs.Plans.{PlanEnds}
@@ -27,28 +32,30 @@ use Rattle.command_receive.specs.ReceivesSession.{HasPacketsOf}
 use Rattle.command_receive.specs.laws.LineLaws.{can_receive_before, received_with_line}
 use Rattle.command_receive.specs.laws.SessionReceived.{completes_receive}
 use Rattle.command_merge.specs.Merges.{Merges}
-use Rattle.command_merge.specs.declared.command.MergeEnd.{MergeEnd}
 use Rattle.command_merge.specs.laws.SessionMerged.{completes_merge}
 use Rattle.command_video.specs.Videos.{Videos}
 use Rattle.command_video.specs.VideosSession.{HasStoreOf, VideosSession}
 use Rattle.command_video.specs.laws.SessionVideo.{completes_video}
 use Rattle.command_video.specs.StreamVideo.{stream_video}
-use Rattle.command_video.specs.declared.command.VideoEnd.{VideoEnd}
 use Rattle.met_packets.specs.Met.{Pair, all_shown}
-use Rattle.command_send.specs.Sends.{Sends}
-use Rattle.command_send.specs.laws.EndLaws.{sends_session, sent_before_line}
+use Rattle.command_send.specs.Sends.{IsAimedAt, IsSentOf, Sends, packets_file, packets_in, sent_line_text}
+use Rattle.command_send.specs.SendsSession.{SendsAll, uses}
+use Rattle.command_send.specs.declared.session.Sent.{Sent as SentNumbers}
+use Rattle.command_send.specs.laws.EndLaws.{sends_session}
 use Rattle.pet_text.specs.declared.status.Status.{Status}
 use Rattle.pet_text.specs.declared.status.Status.TheVariants.{Done, Incomplete, TurnsSpent}
 use Rattle.pet_text.specs.declared.words.Command.{Command}
 use Rattle.pet_text.specs.declared.words.Command.TheVariants.{Plan, Check, Send, Receive, Merge, Video}
-use Rattle.datagram_route.specs.Way.{Way}
+use Rattle.datagram_route.specs.RouteFaults.{AimedFailed}
+use Rattle.datagram_route.specs.Sending.{Sent}
+use Rattle.datagram_route.specs.Way.{Way, OnFile, OnLink}
 use Rattle.pet_text.specs.Ends.{way_in}
 use Rattle.pet_text.specs.Lines.{fault_text, video_text}
-use Rattle.pet_tool.specs.Completes.{Completes, CompletesPlan, CompletesCheck, CompletesSend, CompletesMerge, ShowsStream, GivesStream}
+use Rattle.pet_tool.specs.Completes.{Completes, CompletesPlan, CompletesCheck, CompletesSend, CompletesMerge}
 use Rattle.pet_tool.specs.declared.end.End.{End}
 use Rattle.pet_tool.specs.declared.end.End.TheVariants as end
 use Rattle.pet_tool.specs.Does.{Does, Runs, OnFiles, OnRead}
-use Rattle.pet_tool.specs.Lines.{line_of, line_of_plan, line_of_check, line_of_merge, line_of_video}
+use Rattle.pet_tool.specs.Lines.{line_of, line_of_plan, line_of_check, line_of_send, line_of_merge, line_of_video}
 use Rattle.pet_tool.proofs.Telling.{silent, told, Told}
 use Rattle.pet_tool.specs.Headline.{Headline, HasWhatWasSent, NamesWhatItStores, ReceivesWhatWasSent}
 use Rattle.pet_tool.specs.Statuses.{status_of, status_of_plan, status_of_check, status_of_send, status_of_receive, status_of_merge, status_of_video}
@@ -61,13 +68,13 @@ ends_with status now lines before after ended printed = record {
   printed = printed ∙ ap (λ (s : Status). append_known before.written (lines ++ fault_text s)) ended;
 }
 
--- what was told of a command on files, of which the line is known
-module _ {E : Type 0} (of : E → End) (Did : Seen → Seen → E → Type 0) (before between after : OutsideSeen) (e : E) (status : Status) (line : List ℕ) (did : OnFiles Did before between e)
+-- what was told of a command that printed nothing itself, of which the line is known
+module _ {E : Type 0} (of : E → End) (before between after : OutsideSeen) (e : E) (status : Status) (line : List ℕ) (written : between.written ≡ before.written)
     (said : Told (line_of (of e)) (status_of (of e)) between after status) (ended : status_of (of e) ≡ Done) (is : line_of (of e) ≡ line) where
   done_with : EndsWith Done line before after status
   done_with =
       ends_with Done status line before after (said.ended ∙ ended)
-      (said.printed ∙ ap (λ (o : Option (List ℕ)). append_known o (line_of (of e) ++ fault_text status)) did.written ∙ ap (λ (l : List ℕ). append_known before.written (l ++ fault_text status)) is)
+      (said.printed ∙ ap (λ (o : Option (List ℕ)). append_known o (line_of (of e) ++ fault_text status)) written ∙ ap (λ (l : List ℕ). append_known before.written (l ++ fault_text status)) is)
 
 plan_completes : (stream priority : List ℕ) (before after : OutsideSeen) (status : Status) → Runs end.Plan (OnRead (PlanEnds stream priority)) before after status → CompletesPlan stream priority before after status
 plan_completes stream priority before after status runs = λ p b calm given.
@@ -78,7 +85,7 @@ plan_completes stream priority before after status runs = λ p b calm given.
       well = λ had. calm.well.place (subst (λ (now : Seen). Failed (reading stream ∷ reading priority ∷ []) before.place now) (sym said.place) had);
       given = given;
     }) in
-    done_with end.Plan (PlanEnds stream priority) before runs.between after runs.end status _ only said (ap status_of_plan planned.ended) (ap line_of_plan planned.ended ∙ planned.is)
+    done_with end.Plan before runs.between after runs.end status _ only.written said (ap status_of_plan planned.ended) (ap line_of_plan planned.ended ∙ planned.is)
 
 check_completes : (stream priority plan : List ℕ) (before after : OutsideSeen) (status : Status) → Runs end.Check (OnRead (λ old new. Checks old new stream priority plan)) before after status → CompletesCheck stream priority plan before after status
 check_completes stream priority plan before after status runs = λ p b calm given there.
@@ -90,14 +97,36 @@ check_completes stream priority plan before after status runs = λ p b calm give
       given = given;
       plan_there = there;
     }) in
-    done_with end.Check (λ old new. Checks old new stream priority plan) before runs.between after runs.end status _ only said (ap status_of_check ended) (ap line_of_check ended)
+    done_with end.Check before runs.between after runs.end status _ only.written said (ap status_of_check ended) (ap line_of_check ended)
+
+-- the line of what was sent
+sent_text : (p b : List ℕ) (sent : SentNumbers) → IsSentOf p b sent → send_text sent.session sent.groups sent.datagrams ≡ sent_line_text p b
+sent_text p b sent is =
+    ap (λ (n : List ℕ). send_text n sent.groups sent.datagrams) is.session
+    ∙ ap (λ (g : ℕ). send_text (session_number p b) g sent.datagrams) is.groups
+    ∙ ap (λ (d : ℕ). send_text (session_number p b) (length (tables_in p b)) d) is.datagrams
+
+-- it stays sent, whatever is printed behind
+still_sent : (to : Way) (p b : List ℕ) (before between after : OutsideSeen) → after.place ≡ between.place → after.link ≡ between.link → SendsAll to p b before between → SendsAll to p b before after
+still_sent (OnFile name) p b before between after place link sent = subst (λ (s : Seen). Wrote (packets_file name p b ∷ []) None before.place s) (sym place) sent
+still_sent (OnLink address) p b before between after place link sent = (
+  subst (λ (l : LinkSeen). Sent (packets_in p b) before.link l) (sym link) sent.0,
+  subst (λ (l : LinkSeen). IsAimedAt address before.link l) (sym link) sent.1,
+  ap (λ (s : Seen). s.files) place ∙ sent.2,
+)
 
 send_completes : (stream priority : List ℕ) (to : Way) (before after : OutsideSeen) (status : Status) → Runs end.Send (Sends stream priority to) before after status → CompletesSend stream priority to before after status
 send_completes stream priority to before after status runs = λ p b calm given.
-    let said = silent (status_of_send runs.end) runs.between after status runs.tells in
-    let completes = sends_session stream priority to before runs.between runs.end runs.did in
-    let sent = sent_before_line stream priority to (fault_text status) before runs.between after runs.end completes runs.did.later said.1 p b (λ none. calm.calm.memory (said.0 ∙ ap status_of_send none)) calm.calm.well calm.link given in
-    (sent.packets, ends_with Done status _ before after (said.0 ∙ ap status_of_send sent.ended) sent.printed)
+    let said = told (line_of_send runs.end) (status_of_send runs.end) runs.between after status runs.tells (λ rose. calm.calm.well.out (subst (λ (n : ℕ). Rose n after.out_faults) runs.did.out_faults rose)) in
+    let sent = sends_session stream priority to before runs.between runs.end runs.did p b (record {
+      memory = λ none. calm.calm.memory (said.ended ∙ ap status_of_send none);
+      well = λ had. calm.calm.well.place (subst (λ (now : Seen). Failed (uses stream priority to) before.place now) (sym said.place) had);
+      link = λ had. calm.link (subst (λ (l : LinkSeen). AimedFailed to before.link l) (sym said.link) had);
+      given = given;
+    }) in (
+      still_sent to p b before runs.between after said.place said.link sent.packets,
+      done_with end.Send before runs.between after runs.end status _ runs.did.written said (ap status_of_send sent.ended) (ap line_of_send sent.ended ∙ sent_text p b sent.sent sent.is),
+    )
 
 -- the status of the end by whether all layers are shown
 shown_status : (all : Bool) → status_of_receive (if all then receive.Done else receive.Incomplete) ≡ (if all then Done else Incomplete)
@@ -181,7 +210,7 @@ merge_completes first second out before after status runs = λ s files a b calm 
       given = given;
     }) in (
       ap (λ (now : Seen). now.files) said.place ∙ merged.file,
-      done_with end.Merge (Merges first second out) before runs.between after runs.end status _ only said (ap status_of_merge merged.ended) (ap line_of_merge merged.ended),
+      done_with end.Merge before runs.between after runs.end status _ only.written said (ap status_of_merge merged.ended) (ap line_of_merge merged.ended),
     )
 
 -- what `video` completed, and what was told of it
@@ -200,7 +229,7 @@ module _ (store out : List ℕ) (before after : OutsideSeen) (status : Status) (
   video_shown : (after.place.files ≡ Some (with_file out (stream_video p b pairs) files)) × EndsWith Done (video_text (length (stream_video p b pairs))) before after status
   video_shown = (
     ap (λ (now : Seen). now.files) video_told.place ∙ video_done.file,
-    done_with end.Video (Videos store out) before runs.between after runs.end status _ runs.did video_told (ap status_of_video video_done.ended) (ap line_of_video video_done.ended),
+    done_with end.Video before runs.between after runs.end status _ runs.did.written video_told (ap status_of_video video_done.ended) (ap line_of_video video_done.ended),
   )
 
   video_whole : all_shown (session_of p b) pairs ≡ true → (after.place.files ≡ Some (with_file out b files)) × EndsWith Done (video_text (length b)) before after status

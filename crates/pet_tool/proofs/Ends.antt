@@ -27,7 +27,7 @@ use Rattle.pet_text.specs.declared.status.Status.{Status}
 use Rattle.pet_text.specs.declared.status.Status.TheVariants.{Done}
 use Rattle.pet_tool.specs.declared.end.End.{End}
 use Rattle.pet_tool.specs.Does.{Runs}
-use Rattle.pet_tool.specs.Lines.{line_of, line_of_plan, line_of_check, line_of_merge, line_of_video}
+use Rattle.pet_tool.specs.Lines.{line_of, line_of_plan, line_of_check, line_of_send, line_of_merge, line_of_video}
 use Rattle.pet_tool.specs.Statuses.{of_place, of_link, status_of, status_of_session, status_of_plan, status_of_check, status_of_send, status_of_receive, status_of_merge, status_of_video}
 use Rattle.pet_tool.specs.Told.{Tells}
 use Rattle.pet_tool.proofs.Telling.{strikes}
@@ -88,12 +88,11 @@ video_agrees video.PlaceFault = unlined refl refl
 video_agrees (video.BadStore at kind) = unlined refl refl
 video_agrees (video.BadTable group) = unlined refl refl
 
-pub send_agrees : (end : SendEnd) → Agrees (send_place end) (send_link end) [] (status_of_send end)
-send_agrees send.Done = unlined refl refl
+pub send_agrees : (end : SendEnd) → Agrees (send_place end) (send_link end) (line_of_send end) (status_of_send end)
+send_agrees (send.Done sent) = lined (line_of_send (send.Done sent))
 send_agrees send.NoMemory = unlined refl refl
 send_agrees send.PlaceFault = unlined refl refl
 send_agrees send.LinkFault = unlined refl refl
-send_agrees send.OutFault = unlined refl refl
 send_agrees (send.BadPriority fault) = unlined refl refl
 send_agrees (send.BadStream scan) = unlined refl refl
 send_agrees (send.BadPlan fault) = of_session fault

@@ -1,5 +1,5 @@
 -- Every command may end so before it has done anything: no memory was found to read its words.
-use Rattle.std.proofs.Common.{◌≡◌, List, [], Option, Some, None, refl, inl, arith}
+use Rattle.std.proofs.Common.{◌≡◌, [], Option, Some, None, refl, inl, arith}
 use Rattle.pet_base.specs.OutsideSeen.{OutsideSeen}
 use Rattle.command_files.specs.laws.WroteLaws.{Wrote-nothing}
 use Rattle.command_plan.specs.declared.planning.PlanEnd.TheVariants as plan
@@ -29,14 +29,14 @@ module _ (before after : OutsideSeen) (status : Status) (tells : Tells [] NoMemo
   no_memory (Send stream priority (File to)) = record {
     between = before;
     end = send.NoMemory;
-    did = record { link = refl; later = omega arith; costs = inl refl; tells = (inl (Wrote-nothing before.place before.place refl), refl) };
+    did = record { link = refl; written = refl; out_faults = refl; costs = inl refl; tells = inl (Wrote-nothing before.place before.place refl) };
     tells = tells;
     once = no_failure;
   }
   no_memory (Send stream priority (Udp to)) = record {
     between = before;
     end = send.NoMemory;
-    did = record { link = record { feed = refl; port = refl; bound = refl; later = omega arith }; later = omega arith; costs = inl refl; tells = ((inl refl, refl), refl) };
+    did = record { link = record { feed = refl; port = refl; bound = refl; later = omega arith }; written = refl; out_faults = refl; costs = inl refl; tells = (inl refl, refl) };
     tells = tells;
     once = no_failure;
   }

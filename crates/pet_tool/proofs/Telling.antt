@@ -1,22 +1,22 @@
 -- What was printed of an end, and that it changes nothing else.
-use Rattle.std.proofs.Common.{◌≡◌, ◌≢◌, ◌⊎◌, ◌↔◌, ℕ, ◌≤◌, Bool, true, false, List, [], ◌++◌, Option, refl, sym, ap, subst, ◌∙◌, arith, inl, inr}
+use Rattle.std.proofs.Common.{◌≡◌, ◌≢◌, ◌⊎◌, ◌↔◌, ℕ, Bool, false, List, [], ◌++◌, Option, refl, sym, ap, subst, ◌∙◌, arith, inl, inr}
 use Rattle.std.specs.Io.KnownBytes.{append_known}
 use Rattle.pet_base.specs.Causes.{Rose}
 use Rattle.pet_base.specs.OutsideSeen.{OutsideSeen}
 use Rattle.pet_base.specs.Seen.{Seen, PlaceStops}
 use Rattle.pet_base.specs.LinkSeen.{LinkSeen, LinkStops}
 use Rattle.command_files.specs.Failures.{EndsAtOnce}
-use Rattle.command_files.specs.Printed.{Printed, PrintsLine}
+use Rattle.command_files.specs.Printed.{PrintsLine}
 use Rattle.command_files.specs.laws.PrintedLaws.{append_known-twice, append_known-nil}
 use Rattle.pet_text.specs.declared.status.Status.{Status}
-use Rattle.pet_text.specs.declared.status.Status.TheVariants.{Usage, OutFault}
+use Rattle.pet_text.specs.declared.status.Status.TheVariants.{Usage}
 use Rattle.pet_text.specs.Lines.{fault_text}
 use Rattle.pet_tool.specs.Does.{Refuses, Strikes}
 use Rattle.pet_tool.specs.declared.end.End.{End}
 use Rattle.pet_tool.specs.declared.end.End.TheVariants as end
 use Rattle.pet_tool.specs.Lines.{line_of}
 use Rattle.pet_tool.specs.Statuses.{status_of, of_place, of_link}
-use Rattle.pet_tool.specs.Told.{OnlyTells, PrintedWhole, PrintedShort, Tells}
+use Rattle.pet_tool.specs.Told.{PrintedWhole, PrintedShort, Tells}
 
 same_seen : (a b : OutsideSeen) → b.place ≡ a.place → b.link ≡ a.link → b.written ≡ a.written → b.out_faults ≡ a.out_faults → b.steps ≡ a.steps → b ≡ a
 same_seen a b place link written faults steps = λ i. record { place = place i; link = link i; written = written i; out_faults = faults i; steps = steps i }

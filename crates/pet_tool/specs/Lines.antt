@@ -4,7 +4,9 @@ use Rattle.command_plan.specs.declared.checking.CheckEnd.{CheckEnd}
 use Rattle.command_plan.specs.declared.checking.CheckEnd.TheVariants as check
 use Rattle.command_plan.specs.declared.planning.PlanEnd.{PlanEnd}
 use Rattle.command_plan.specs.declared.planning.PlanEnd.TheVariants as plan
-use Rattle.plan_text.specs.PlanLines.{least_text}
+use Rattle.plan_text.specs.PlanLines.{least_text, send_text}
+use Rattle.command_send.specs.declared.command.SendEnd.{SendEnd}
+use Rattle.command_send.specs.declared.command.SendEnd.TheVariants as send
 use Rattle.command_merge.specs.declared.command.MergeEnd.{MergeEnd}
 use Rattle.command_merge.specs.declared.command.MergeEnd.TheVariants as merge
 use Rattle.command_video.specs.declared.command.VideoEnd.{VideoEnd}
@@ -33,6 +35,16 @@ line_of_check (check.Text line) = []
 line_of_check (check.Lines lines) = []
 line_of_check (check.NotLeast group) = []
 
+abbrev pub line_of_send : SendEnd → List ℕ
+line_of_send (send.Done sent) = send_text sent.session sent.groups sent.datagrams
+line_of_send send.NoMemory = []
+line_of_send send.PlaceFault = []
+line_of_send send.LinkFault = []
+line_of_send (send.BadPriority fault) = []
+line_of_send (send.BadStream scan) = []
+line_of_send (send.BadPlan fault) = []
+line_of_send (send.Changed change) = []
+
 abbrev pub line_of_merge : MergeEnd → List ℕ
 line_of_merge (merge.Done packets) = merged_text packets
 line_of_merge merge.NoMemory = []
@@ -50,13 +62,13 @@ line_of_video video.PlaceFault = []
 line_of_video (video.BadStore at kind) = []
 line_of_video (video.BadTable group) = []
 
--- `send` and `receive` still print theirs themselves
+-- `receive` prints its lines itself
 abbrev pub line_of : End → List ℕ
 line_of Usage = []
 line_of NoMemory = []
 line_of (Plan end) = line_of_plan end
 line_of (Check end) = line_of_check end
-line_of (Send end) = []
+line_of (Send end) = line_of_send end
 line_of (Receive end) = []
 line_of (Merge end) = line_of_merge end
 line_of (Video end) = line_of_video end

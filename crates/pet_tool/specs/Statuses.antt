@@ -50,11 +50,10 @@ status_of_check (check.Lines lines) = BadPlan kind.Lines lines
 status_of_check (check.NotLeast group) = NotLeast group
 
 abbrev pub status_of_send : SendEnd → Status
-status_of_send send.Done = Done
+status_of_send (send.Done sent) = Done
 status_of_send send.NoMemory = NoMemory
 status_of_send send.PlaceFault = PlaceFault
 status_of_send send.LinkFault = LinkFault
-status_of_send send.OutFault = OutFault
 status_of_send (send.BadPriority fault) = BadPriority fault
 status_of_send (send.BadStream scan) = BadStream scan
 status_of_send (send.BadPlan fault) = status_of_session fault

@@ -12,7 +12,7 @@ use command_plan::{CheckEnd, PlanEnd};
 use command_receive::ReceiveEnd;
 use command_send::SendEnd;
 use command_video::VideoEnd;
-use pet_text::{Status, least_line, merged_line, video_line};
+use pet_text::{Status, least_line, merged_line, send_line, video_line};
 
 /// How a run ended, before its line and that of its status are printed.
 #[derive(Debug, Drop)]
@@ -60,6 +60,9 @@ pub(crate) fn end_line<'a>(end: &'a End, room: &'a mut ArrayVec<u8, 64>) -> &'a 
     match end {
         End::Plan(PlanEnd::Done(text)) => return text.as_slice(),
         End::Check(CheckEnd::Done(groups)) => least_line(*groups, room),
+        End::Send(SendEnd::Done(sent)) => {
+            send_line(&sent.session, sent.groups, sent.datagrams, room)
+        }
         End::Merge(MergeEnd::Done(packets)) => merged_line(*packets, room),
         End::Video(VideoEnd::Done(bytes)) => video_line(*bytes, room),
         End::Usage

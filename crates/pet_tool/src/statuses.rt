@@ -51,11 +51,10 @@ pub(crate) fn send_status(end: &SendEnd) -> Status
     ensures known { result ≢ Status.Usage }
 {
     match end {
-        SendEnd::Done => Status::Done,
+        SendEnd::Done(_) => Status::Done,
         SendEnd::NoMemory => Status::NoMemory,
         SendEnd::PlaceFault => Status::PlaceFault,
         SendEnd::LinkFault => Status::LinkFault,
-        SendEnd::OutFault => Status::OutFault,
         SendEnd::BadPriority(fault) => Status::BadPriority(*fault),
         SendEnd::BadStream(scan) => Status::BadStream(*scan),
         SendEnd::BadPlan(fault) => session_status(fault),

@@ -2,3 +2,4 @@ pub mod Pieces
 pub mod Rows
 pub mod Parts
 pub mod PlanTexts
+pub mod HexDigits

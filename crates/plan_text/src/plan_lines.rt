@@ -1,6 +1,6 @@
-//! The lines of `plan` and `send`.
+//! The lines of `plan`.
 ghost use Rattle.std.specs.Prelude.{◌≡◌, ◌<◌, ◌++◌, OnOk, OnErr, IfOk, string_bytes};
-ghost use Rattle.plan_text.specs.PlanLines.{hex_digit, hex_text, plan_session_text, send_text, plan_group_text, plan_layer_text};
+ghost use Rattle.plan_text.specs.PlanLines.{hex_digit, hex_text, plan_session_text, plan_group_text, plan_layer_text};
 
 use pet_base::NoMemory;
 use std::alloc::Global;
@@ -21,25 +21,6 @@ pub fn plan_session_line(
 {
     let session = hexadecimal(alloc, session)?;
     let line = format!(in alloc; "session {session} groups {groups} packets {packets}\n")?;
-    into.extend_from_slice(line.as_bytes())?;
-    Ok(())
-}
-
-/// Appends the line of a session that was sent: its number in hexadecimal digits, its groups, and the datagrams of all of
-/// them. After a refusal `into` is as before.
-pub fn send_line(
-    alloc: Global,
-    session: &[u8; 8],
-    groups: u32,
-    datagrams: u32,
-    into: &mut Vec<u8>,
-) -> Result<(), NoMemory>
-    ensures ok { OnOk result (into.new.items ≡ into.old.items
-        ++ send_text session.now groups datagrams) }
-    ensures err { OnErr result (into.new.items ≡ into.old.items) }
-{
-    let session = hexadecimal(alloc, session)?;
-    let line = format!(in alloc; "session {session} groups {groups} datagrams {datagrams}\n")?;
     into.extend_from_slice(line.as_bytes())?;
     Ok(())
 }
@@ -94,20 +75,20 @@ fn hexadecimal(alloc: Global, bytes: &[u8]) -> Result<String, NoMemory>
 {
     let mut text = String::new(alloc);
     for byte in bytes {
-        text.push(hexadecimal_digit(byte / 16))?;
-        text.push(hexadecimal_digit(byte % 16))?;
+        text.push(hexadecimal_digit(byte / 16) as char)?;
+        text.push(hexadecimal_digit(byte % 16) as char)?;
     }
     Ok(text)
 }
 
-/// The digit of a value below 16.
-fn hexadecimal_digit(value: u8) -> char
+/// The lower-case hexadecimal digit of a value, which must be below 16.
+pub fn hexadecimal_digit(value: u8) -> u8
     requires { value < 16 }
     ensures { result ≡ hex_digit value }
 {
     if value < 10 {
-        (b'0' + value) as char
+        b'0' + value
     } else {
-        (b'a' + value - 10) as char
+        b'a' + value - 10
     }
 }

@@ -4,7 +4,7 @@ use arrayvec::ArrayVec;
 use pet_base::NoMemory;
 use pet_text::{
     Command, End, Status, WordsFault, bound_line, fault_line, least_line, merged_line, read_words,
-    receive_line, video_line,
+    receive_line, send_line, video_line,
 };
 use std::alloc::{AllocError, Global};
 
@@ -332,7 +332,12 @@ fn prints_the_lines_of_receive(rt: HostRuntime) {
 }
 
 #[test]
-fn prints_the_lines_of_check_merge_and_video(rt: HostRuntime) {
+fn prints_the_lines_of_check_send_merge_and_video(rt: HostRuntime) {
+    let session = [0xA5, 0xAC, 0x94, 0x61, 0xB0, 0x3B, 0xCF, 0x36];
+    let mut room: ArrayVec<u8, 64> = ArrayVec::new();
+    send_line(&session, u32::MAX, u32::MAX, &mut room);
+    let longest = b"session a5ac9461b03bcf36 groups 4294967295 datagrams 4294967295\n";
+    assert!(rt; room.as_slice() == longest.as_slice());
     let mut room: ArrayVec<u8, 64> = ArrayVec::new();
     least_line(3, &mut room);
     assert!(rt; room.as_slice() == b"least 3\n".as_slice());

@@ -5,7 +5,7 @@ use example_session::PRIORITIES;
 use pet_base::NoMemory;
 use plan_text::{
     PlanFault, Repeat, lengths_line, plan_group_line, plan_layer_line, plan_session_line,
-    plan_text, read_plan, send_line,
+    plan_text, read_plan,
 };
 use priority_file::{Priority, read_priority};
 use std::alloc::Global;
@@ -197,20 +197,19 @@ fn prints_the_plan_of_two_groups(rt: HostRuntime) {
 const SESSION: [u8; 8] = [0xa5, 0xac, 0x94, 0x61, 0xb0, 0x3b, 0xcf, 0x36];
 
 const LINES: &[u8] =
-    b"session a5ac9461b03bcf36 groups 1 packets 6\ngroup 0 words 35 stripes 15 bound 16 datagram 89\nlayer 0 base bytes 46 need 2 count 2\nsession a5ac9461b03bcf36 groups 1 datagrams 6\n";
+    b"session a5ac9461b03bcf36 groups 1 packets 6\ngroup 0 words 35 stripes 15 bound 16 datagram 89\nlayer 0 base bytes 46 need 2 count 2\n";
 
-/// The lines of a session, a group and a layer, and that of `send`.
+/// The lines of a session, a group and a layer.
 fn lines(alloc: Global) -> Result<Vec<u8>, NoMemory> {
     let mut text = Vec::new(alloc);
     plan_session_line(alloc, &SESSION, 1, 6, &mut text)?;
     plan_group_line(alloc, 0, 35, 15, 16, 89, &mut text)?;
     plan_layer_line(alloc, 0, "base", &layer(46, 2), 2, &mut text)?;
-    send_line(alloc, &SESSION, 1, 6, &mut text)?;
     Ok(text)
 }
 
 #[test]
-fn prints_the_lines_of_plan_and_send(rt: HostRuntime) {
+fn prints_the_lines_of_plan(rt: HostRuntime) {
     let text = lines(rt.alloc()).expect(&rt, "memory");
     assert!(rt; text.as_slice() == LINES);
 }

@@ -63,7 +63,7 @@ type Row = (Files, Run);
 fn first_other(alloc: Global, rows: &[Row]) -> Option<usize> {
     for row in 0..rows.len() {
         let (files, run) = rows[row];
-        if !is_so(alloc, &(files, ALL_GO, run, "", None, 0)).unwrap_or(false) {
+        if !is_so(alloc, &(files, ALL_GO, run, None, 0)).unwrap_or(false) {
             return Some(row);
         }
     }
@@ -213,7 +213,7 @@ type Failing = (&'static [u64], Run);
 fn first_wrong(alloc: Global, rows: &[Failing]) -> Option<usize> {
     for row in 0..rows.len() {
         let (calls, run) = rows[row];
-        if !is_so(alloc, &(ALL, [calls, &[], &[]], run, "", None, 0)).unwrap_or(false) {
+        if !is_so(alloc, &(ALL, [calls, &[]], run, None, 0)).unwrap_or(false) {
             return Some(row);
         }
     }

@@ -1,23 +1,19 @@
--- Laws of the ends of `send`: it is done where no cause of another end holds, also where a line of a caller is printed behind.
-use Rattle.std.proofs.Common.{◌≡◌, ◌≢◌, ℕ, ◌≤◌, List, [], ◌∷◌, ◌++◌, Option, None, Some, refl, sym, ap, subst, ◌∙◌, inl, inr, arith}
+-- Laws of the ends of `send`: it is done where no cause of another end holds.
+use Rattle.std.proofs.Common.{◌≡◌, ◌≢◌, ℕ, List, [], ◌∷◌, Option, None, Some, refl, ap, subst, ◌∙◌, inl, inr, arith}
 use Rattle.std.specs.Prelude.{IfSome}
-use Rattle.std.specs.Io.KnownBytes.{append_known}
-use Rattle.pet_base.specs.LinkSeen.{LinkSeen}
-use Rattle.pet_base.specs.Seen.{Seen, Blame, Files}
+use Rattle.pet_base.specs.Seen.{Blame, Files}
 use Rattle.pet_base.specs.laws.SeenLaws.{HadFault-since}
 use Rattle.pet_base.specs.OutsideSeen.{OutsideSeen}
-use Rattle.command_files.specs.Printed.{PrintsLine}
-use Rattle.command_files.specs.Uses.{IsOneOf, IsWell}
+use Rattle.command_files.specs.Uses.{IsOneOf}
 use Rattle.command_files.specs.Wrote.{File, Wrote}
-use Rattle.command_files.specs.laws.PrintedLaws.{append_known-twice, well_before, well_since}
 use Rattle.command_send.specs.declared.command.SendEnd.{SendEnd}
-use Rattle.command_send.specs.declared.command.SendEnd.TheVariants.{Done, NoMemory, PlaceFault, LinkFault, OutFault, BadPriority, BadStream, BadPlan, Changed}
-use Rattle.command_send.specs.Sends.{packets_file, packets_in, routes_in, sent_line_text, HasPackets, IsAimedAt, LinkSentAll, MayBlame, SendTells, Sends}
+use Rattle.command_send.specs.declared.session.Sent.{Sent as SentNumbers}
+use Rattle.command_send.specs.declared.command.SendEnd.TheVariants.{Done, NoMemory, PlaceFault, LinkFault, BadPriority, BadStream, BadPlan, Changed}
+use Rattle.command_send.specs.Sends.{packets_file, packets_in, routes_in, HasPackets, IsSentOf, LinkSentAll, MayBlame, SendTells, Sends}
 use Rattle.command_send.specs.SendsSession.{uses, CanSend, SendsAll, HasSent, SendsSession}
-use Rattle.datagram_route.specs.RouteFaults.{AimedFailed}
 use Rattle.datagram_route.specs.Sending.{Sent}
 use Rattle.datagram_route.specs.Way.{Way, OnFile, OnLink}
-use Rattle.stream_session.specs.Sessions.{HasSession, IsGiven}
+use Rattle.stream_session.specs.Sessions.{HasSession}
 use Rattle.stream_session.specs.laws.SourceLaws.{priority_is, stream_is, none_refused}
 use Rattle.stream_session.specs.Sources.{IsSourceFault}
 use Rattle.stream_session.specs.declared.source.SourceFault.{SourceFault}
@@ -58,23 +54,23 @@ module _ (stream priority : List ℕ) (way : Way) (before after : OutsideSeen) w
     packets_sent (OnFile to) s has = subst (λ (f : File). Wrote (f ∷ []) None before.place after.place) (file_of to s) has
     packets_sent (OnLink address) s has = (sent_told address s has.0, has.0.aimed, has.1)
 
-    line_of : (s : HasSession before.place stream priority) → sent_line_text s.priority_bytes s.stream_bytes ≡ sent_line_text p b
-    line_of s =
-        ap (λ (x : List ℕ). sent_line_text x s.stream_bytes) (priority_is before.place after.place stream priority p b can.given s.priority_bytes s.priority_file)
-        ∙ ap (λ (x : List ℕ). sent_line_text p x) (stream_is before.place after.place stream priority p b can.given s.stream_bytes s.stream_file)
+    numbers_of : (s : HasSession before.place stream priority) (sent : SentNumbers) → IsSentOf s.priority_bytes s.stream_bytes sent → IsSentOf p b sent
+    numbers_of s sent is =
+        subst (λ (x : List ℕ). IsSentOf p x sent) (stream_is before.place after.place stream priority p b can.given s.stream_bytes s.stream_file)
+        (subst (λ (x : List ℕ). IsSentOf x s.stream_bytes sent) (priority_is before.place after.place stream priority p b can.given s.priority_bytes s.priority_file) is)
 
     no_refusal : (fault : SourceFault) → fault ≢ source.NoMemory → fault ≢ source.Failed → IsSourceFault before.place after.place stream priority fault → ⊥
     no_refusal = none_refused before.place after.place stream priority p b can.given
 
     done : (told : SendEnd) → end ≡ told → SendTells stream priority way before after told → HasSent way p b before after told
-    done Done same tells = record {
+    done (Done sent) same tells = record {
+      sent = sent;
       ended = refl;
       packets = packets_sent way tells.0 tells.1;
-      printed = tells.2 ∙ ap (append_known before.written) (line_of tells.0);
+      is = numbers_of tells.0 sent tells.2;
     }
-    done OutFault same tells = absurd (can.well.out tells.2.rose)
     done NoMemory same tells = absurd (can.memory same)
-    done PlaceFault same tells = absurd (can.well.place (HadFault-since before.place before.place after.place _ _ (omega arith) (used way) tells.0))
+    done PlaceFault same tells = absurd (can.well (HadFault-since before.place before.place after.place _ _ (omega arith) (used way) tells.0))
     done LinkFault same tells = absurd (can.link tells.0)
     done (BadPriority fault) same tells = absurd (no_refusal (source.Priority fault) (λ is. cc) (λ is. cc) tells.0)
     done (BadStream scan) same tells = absurd (no_refusal (source.Stream scan) (λ is. cc) (λ is. cc) tells.0)
@@ -83,34 +79,3 @@ module _ (stream priority : List ℕ) (way : Way) (before after : OutsideSeen) w
 
   pub sends_session : (end : SendEnd) → Sends stream priority way before after end → SendsSession stream priority way before after end
   sends_session end sends p b can = done p b end can end refl sends.tells
-
--- The command and then this line: all packets of the session were sent, and its line and then this one were printed.
-pub record HasSentBefore (line : List ℕ) (way : Way) (p b : List ℕ) (before after : OutsideSeen) (end : SendEnd) : Type 0 where
-  pub ended : end ≡ Done
-  pub packets : SendsAll way p b before after
-  pub printed : after.written ≡ append_known before.written (sent_line_text p b ++ line)
-
--- what was sent before a line
-all_before : (way : Way) (line p b : List ℕ) (before between after : OutsideSeen) → PrintsLine line between after → SendsAll way p b before between → SendsAll way p b before after
-all_before (OnFile to) line p b before between after prints sent = subst (λ (s : Seen). Wrote (packets_file to p b ∷ []) None before.place s) (sym prints.place) sent
-all_before (OnLink address) line p b before between after prints sent = (
-  subst (λ (l : LinkSeen). Sent (packets_in p b) before.link l) (sym prints.link) sent.0,
-  subst (λ (l : LinkSeen). IsAimedAt address before.link l) (sym prints.link) sent.1,
-  ap (λ (s : Seen). s.files) prints.place ∙ sent.2,
-)
-
--- Where memory was found, and nothing had a fault up to the end of the line, `send` is done.
-pub sent_before_line : (stream priority : List ℕ) (way : Way) (line : List ℕ) (before between after : OutsideSeen) (end : SendEnd) → SendsSession stream priority way before between end → before.out_faults ≤ between.out_faults → PrintsLine line between after
-    → (p b : List ℕ) → end ≢ NoMemory → IsWell (uses stream priority way) before after → (AimedFailed way before.link after.link → ⊥) → IsGiven before.place stream priority p b → HasSentBefore line way p b before after end
-sent_before_line stream priority way line before between after end completes later prints p b memory well link given =
-    let files = uses stream priority way in
-    let sent = completes p b
-    (record { memory = memory; well = well_before files line before between after prints well; link = λ had. link (subst (λ (l : LinkSeen). AimedFailed way before.link l) (sym prints.link) had); given = given }) in
-    record {
-      ended = sent.ended;
-      packets = all_before way line p b before between after prints sent.packets;
-      printed =
-          prints.whole (well_since files line before between after prints well later)
-          ∙ ap (λ (t : Option (List ℕ)). append_known t line) sent.printed
-          ∙ append_known-twice before.written (sent_line_text p b) line;
-    }

@@ -1,4 +1,4 @@
-use Rattle.std.proofs.Common.{Option, None, Err, sym, ap, subst}
+use Rattle.std.proofs.Common.{Option, Err, sym, ap, subst}
 use Rattle.pet_text.specs.declared.words.WordsFault.{WordsFault}
 use Rattle.pet_base.specs.Lent.{seen}
 use Rattle.pet_text.specs.Words.{texts_of, command_of}

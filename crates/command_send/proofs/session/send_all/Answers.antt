@@ -1,15 +1,14 @@
-use Rattle.std.proofs.Common.{◌∙◌, ap, inl, subst, refl}
+use Rattle.std.proofs.Common.{ap, inl, subst, refl}
 use Rattle.command_files.specs.laws.WroteLaws.{Wrote-nothing}
 use Rattle.pet_base.specs.laws.Through.{on_any_err}
 use Rattle.datagram_route.specs.Sending.{routes}
-use Rattle.datagram_route.specs.declared.fault.RouteStop.TheVariants.{NoMemory}
 use Rattle.datagram_route.specs.Way.{Way, way_of}
-use Rattle.command_send.proofs.SessionRead.{line_of_pass, left_to, sent_to, stops_to, costs_to, sent_left, keeps_same, leaves_nothing}
+use Rattle.command_send.proofs.SessionRead.{numbers_of_pass, left_to, sent_to, stops_to, costs_to, keeps_same, leaves_nothing}
 use Rattle.command_send.proofs.Passes.{handed_on}
-use Rattle.command_send.specs.declared.fault.SendFault.TheVariants.{Source, Stopped}
+use Rattle.command_send.specs.declared.fault.SendFault.TheVariants.{Source}
 use Rattle.command_send.specs.SendParts.{IsSendFault}
 use Rattle.command_send.specs.Sends.{KeepsLink}
-use Rattle.command_send.proofs.session.sent_line.Goals as goal
+use Rattle.command_send.proofs.session.send_all.Goals as goal
 
 pub returns-in_err-found-clause-left : goal.returns-in_err-found-clause-left
 returns-in_err-found-clause-left g c =
@@ -51,30 +50,8 @@ returns-in_err-send_session-clause-cause g c =
 pub returns-in_err-send_session-clause-costs : goal.returns-in_err-send_session-clause-costs
 returns-in_err-send_session-clause-costs g c = costs_to c.in_ok-found.ensures.read c.args.steps.now c.send_session.new.steps c.send_session.ensures.cost
 
-pub returns-in_err-line_of-clause-left : goal.returns-in_err-line_of-clause-left
-returns-in_err-line_of-clause-left g c =
-    let old = routes g.P.Place g.K.Link c.args.place.now c.args.link.now in
-    let mid = routes g.P.Place g.K.Link c.read_first.new.place c.args.link.now in
-    let new = routes g.P.Place g.K.Link c.send_session.new.place c.send_session.new.link in
-    let found = c.in_ok-found.found in
-    on_any_err c.from_residual-in_err-line_of.result
-    (left_to old mid new c.in_ok-found.ensures.read c.read_first.ensures.others.files refl (ap way_of c.in_ok-found.ensures.to) (sent_left found.source found.marks.items c.args.stream.now (way_of found.to) mid new c.in_ok-send_session.ensures.sent))
-
-pub returns-in_err-line_of-clause-cause : goal.returns-in_err-line_of-clause-cause
-returns-in_err-line_of-clause-cause g c =
-    let old = routes g.P.Place g.K.Link c.args.place.now c.args.link.now in
-    let new = routes g.P.Place g.K.Link c.send_session.new.place c.send_session.new.link in
-    handed_on (IsSendFault old new c.args.stream.now c.args.priority.now (way_of c.args.to)) c.from_residual-in_err-line_of.result (Stopped NoMemory) c.from_residual-in_err-line_of.ensures.1 tt
-
-pub returns-in_err-line_of-clause-link : goal.returns-in_err-line_of-clause-link
-returns-in_err-line_of-clause-link g c =
-    subst (λ (w : Way). KeepsLink w (g.K.Link.seen c.args.link.now) (g.K.Link.seen c.send_session.new.link)) (ap way_of c.in_ok-found.ensures.to) c.send_session.ensures.link
-
-pub returns-in_err-line_of-clause-costs : goal.returns-in_err-line_of-clause-costs
-returns-in_err-line_of-clause-costs g c = costs_to c.in_ok-found.ensures.read c.args.steps.now c.send_session.new.steps c.send_session.ensures.cost
-
-pub returns-clause-line : goal.returns-clause-line
-returns-clause-line g c =
+pub returns-clause-sent : goal.returns-clause-sent
+returns-clause-sent g c =
     let old = routes g.P.Place g.K.Link c.args.place.now c.args.link.now in
     let mid = routes g.P.Place g.K.Link c.read_first.new.place c.args.link.now in
     let new = routes g.P.Place g.K.Link c.send_session.new.place c.send_session.new.link in
@@ -82,7 +59,7 @@ returns-clause-line g c =
     let read = c.in_ok-found.ensures.read in (
       read.session,
       sent_to old mid new c.in_ok-found.ensures.read c.read_first.ensures.others.files refl (ap way_of c.in_ok-found.ensures.to) c.in_ok-send_session.ensures.sent,
-      c.in_ok-line_of.ensures ∙ line_of_pass read.session.priority_bytes read.session.stream_bytes found.source found.marks.items read.first,
+      numbers_of_pass read.session.priority_bytes read.session.stream_bytes found.source found.marks.items c.sent_of.result read.first c.sent_of.ensures.session c.sent_of.ensures.groups c.sent_of.ensures.datagrams,
     )
 
 pub returns-clause-link : goal.returns-clause-link

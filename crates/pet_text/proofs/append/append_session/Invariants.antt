@@ -1,0 +1,10 @@
+use Rattle.std.proofs.Common.{◌≡◌, ◌+◌, ◌*◌, ◌++◌, drop}
+use Rattle.arrayvec.specs.ArrayVec.{array_vec_len}
+use Rattle.plan_text.specs.PlanLines.{hex_text}
+use Rattle.pet_text.proofs.append.append_session.Given as goal
+
+abbrev pub invariant-loop-byte : goal.invariant-loop-byte
+invariant-loop-byte l = record {
+  text : l.into.items ++ hex_text (drop l.byte-index l.session) ≡ l.initial.into.items ++ hex_text l.session;
+  len : array_vec_len l.into ≡ array_vec_len l.initial.into + 2 * l.byte-index;
+}
