@@ -4,14 +4,14 @@ use Rattle.std.specs.Prelude.{IfErr, IsErrAnd, MatchResult}
 use Rattle.pet_base.specs.Seen.{Seen, Files, Blame, HadFault}
 use Rattle.pet_base.specs.declared.faults.Stop.{Stop}
 use Rattle.pet_base.specs.declared.faults.Stop.TheVariants as stop
-use Rattle.command_files.specs.Inputs.{Licensed}
-use Rattle.command_files.specs.Uses.{writing, Failed}
-use Rattle.command_files.specs.Wrote.{Wrote}
-use Rattle.command_files.specs.laws.WroteLaws.{Wrote-nothing, Wrote-then}
-use Rattle.kept_sets.specs.KeptSet.{KeptSet, kept_in_all}
-use Rattle.kept_sets.specs.Union.{union, absorb_fault}
-use Rattle.kept_sets.specs.declared.union.Absorb.{Absorb}
-use Rattle.kept_sets.specs.declared.union.Absorb.TheVariants as absorb
+use Rattle.outside_files.specs.Inputs.{Licensed}
+use Rattle.outside_files.specs.Uses.{writing, Failed}
+use Rattle.outside_files.specs.Wrote.{Wrote}
+use Rattle.outside_files.specs.laws.WroteLaws.{Wrote-nothing, Wrote-then}
+use Rattle.packet_verdicts.specs.KeptSet.{KeptSet, kept_in_all}
+use Rattle.packet_verdicts.specs.Union.{union, absorb_fault}
+use Rattle.packet_verdicts.specs.declared.union.Absorb.{Absorb}
+use Rattle.packet_verdicts.specs.declared.union.Absorb.TheVariants as absorb
 use Rattle.store_read.specs.Files.{IsStop}
 use Rattle.store_text.specs.Files.{HasBadStore, HasStore, store_file}
 use Rattle.store_text.specs.declared.fault.BadStore.TheVariants.{At}

@@ -2,8 +2,8 @@
 use Rattle.std.specs.Prelude.{Bool, true, false}
 use Rattle.pet_base.specs.declared.faults.Stop.{Stop}
 use Rattle.pet_base.specs.declared.faults.Stop.TheVariants as stop
-use Rattle.kept_sets.specs.declared.union.Absorb.{Absorb}
-use Rattle.kept_sets.specs.declared.union.Absorb.TheVariants as absorb
+use Rattle.packet_verdicts.specs.declared.union.Absorb.{Absorb}
+use Rattle.packet_verdicts.specs.declared.union.Absorb.TheVariants as absorb
 use Rattle.store_read.specs.declared.files.StoreStop.{StoreStop}
 use Rattle.store_read.specs.declared.files.StoreStop.TheVariants as unread
 use Rattle.command_merge.specs.declared.files.Which.{Which}

@@ -1,11 +1,11 @@
 -- What `merge` leaves at each of its ends. This project's own.
 use Rattle.std.specs.Prelude.{◌≡◌, ◌⊎◌, ℕ, List, [], ◌∷◌, None, Some}
 use Rattle.pet_base.specs.Seen.{Seen}
-use Rattle.command_files.specs.Uses.{reading, writing, Failed}
-use Rattle.command_files.specs.Wrote.{Wrote}
-use Rattle.kept_sets.specs.KeptSet.{KeptSet, kept_in_all}
-use Rattle.kept_sets.specs.Union.{union, absorb_fault}
-use Rattle.kept_sets.specs.declared.union.Absorb.TheVariants as absorb
+use Rattle.outside_files.specs.Uses.{reading, writing, Failed}
+use Rattle.outside_files.specs.Wrote.{Wrote}
+use Rattle.packet_verdicts.specs.KeptSet.{KeptSet, kept_in_all}
+use Rattle.packet_verdicts.specs.Union.{union, absorb_fault}
+use Rattle.packet_verdicts.specs.declared.union.Absorb.TheVariants as absorb
 use Rattle.store_text.specs.Files.{HasStore, HasBadStore, store_file}
 use Rattle.store_text.specs.declared.fault.BadStore.TheVariants.{At}
 use Rattle.command_merge.specs.declared.command.MergeEnd.{MergeEnd}

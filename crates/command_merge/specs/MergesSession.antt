@@ -2,11 +2,11 @@
 use Rattle.std.specs.Prelude.{◌≡◌, ◌≢◌, ℕ, List, [], ◌∷◌, ◌++◌, length, Some}
 use Rattle.pet_base.specs.declared.limits.TheConstants.{MAX_SESSION}
 use Rattle.pet_base.specs.Seen.{Seen, Files, with_file}
-use Rattle.command_files.specs.Uses.{reading, writing, Failed}
-use Rattle.pet_encode.specs.Session.{Session, IsSession, Fits}
-use Rattle.met_packets.specs.Gf16.{met_frames}
-use Rattle.met_packets.specs.Met.{Pair}
-use Rattle.met_packets.specs.MetStore.{pairs_store}
+use Rattle.outside_files.specs.Uses.{reading, writing, Failed}
+use Rattle.packet_session.specs.Session.{Session, IsSession, Fits}
+use Rattle.packet_met.specs.Gf16.{met_frames}
+use Rattle.packet_met.specs.Met.{Pair}
+use Rattle.packet_met.specs.MetStore.{pairs_store}
 use Rattle.command_merge.specs.declared.command.MergeEnd.{MergeEnd}
 use Rattle.command_merge.specs.declared.command.MergeEnd.TheVariants.{Done, NoMemory}
 

@@ -2,14 +2,14 @@
 ghost use Rattle.std.specs.Prelude.{◌≡◌, IfOk, IfErr};
 ghost use Rattle.pet_base.specs.Causes.{stops};
 ghost use Rattle.pet_base.specs.Seen.{Seen, PlaceStops};
-ghost use Rattle.kept_sets.specs.KeptSet.{kept_in_all};
+ghost use Rattle.packet_verdicts.specs.KeptSet.{kept_in_all};
 ghost use Rattle.command_merge.specs.Ends.{store_end, has_failed};
 ghost use Rattle.command_merge.specs.Merges.{Merges, WritesUnion, union_of};
 
 use crate::command::MergeEnd;
-use kept_sets::Absorb;
+use packet_verdicts::Absorb;
 use pet_base::{NoMemory, Place, Steps, Stop};
-use pet_tables::Gf16Tables;
+use pet_field::Gf16Tables;
 use std::alloc::Global;
 use std::sync::ledger::Ledger;
 use store_read::{StoreStop, read_store_file};

@@ -3,11 +3,11 @@ use Rattle.std.proofs.Common.{◌≡◌, ◌≢◌, ℕ, ◌≤◌, List, length
 use Rattle.pet_base.specs.Seen.{Seen, Files}
 use Rattle.pet_base.specs.laws.SeenLaws.{HadFault-since}
 use Rattle.stripe_plan.specs.Sizes.{Sizes}
-use Rattle.command_files.specs.Inputs.{IsFile}
+use Rattle.outside_files.specs.Inputs.{IsFile}
 use Rattle.stream_session.specs.Sources.{IsSourceFault}
 use Rattle.stream_session.specs.declared.source.SourceFault.{SourceFault}
 use Rattle.stream_session.specs.declared.source.SourceFault.TheVariants as source
-use Rattle.plan_text.specs.declared.plan_file.Repeat.{Repeat}
+use Rattle.text_plan.specs.declared.plan_file.Repeat.{Repeat}
 use Rattle.command_plan.specs.declared.checking.CheckEnd.{CheckEnd}
 use Rattle.command_plan.specs.declared.checking.CheckEnd.TheVariants.{Done, NoMemory, PlaceFault, BadPriority, BadStream, BadPlan, PlanLong, Text, Lines, NotLeast}
 use Rattle.command_plan.specs.Certified.{AreLeast, HasPlanFile, IsCertified, IsFirstNotLeast, Lists, tables_of_files}

@@ -4,7 +4,7 @@ use Rattle.std.specs.Prelude.{IsTrue, ◌↔◌, slice_get, option_map, Some}
 use Rattle.std.proofs.lemmas.Bool.{cases_lt}
 use Rattle.std.proofs.lemmas.Option.{slice_get-map, slice_get_read, same_Some}
 use Rattle.stripe_plan.specs.Sizes.{Sizes}
-use Rattle.plan_text.specs.declared.plan_file.Repeat.{Repeat}
+use Rattle.text_plan.specs.declared.plan_file.Repeat.{Repeat}
 use Rattle.command_plan.specs.Certified.{IsLeastAt, IsFirstNotLeast}
 use Rattle.command_plan.specs.Least.{IsLeast}
 

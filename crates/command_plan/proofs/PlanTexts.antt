@@ -7,7 +7,7 @@ use Rattle.stripe_plan.specs.Sizes.{Sizes}
 use Rattle.stream_session.specs.Number.{session_number}
 use Rattle.stream_session.specs.Sources.{IsSource}
 use Rattle.stream_session.specs.declared.source.Source.{Source}
-use Rattle.plan_text.specs.PlanText.{plan_text}
+use Rattle.text_plan.specs.PlanText.{plan_text}
 use Rattle.command_plan.specs.SessionPlan.{session_plan}
 
 pub plan_of_source : (files : Option Files) (stream priority : List ℕ) (source : Source) (is : IsSource files stream priority source)

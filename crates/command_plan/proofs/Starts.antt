@@ -12,7 +12,7 @@ use Rattle.std.proofs.lemmas.Grind.{flat_map-append}
 use Rattle.stripe_plan.specs.Stripes.{IsPartition}
 use Rattle.plan_cert.specs.Certificates.{IsCertificate, starts_of}
 use Rattle.command_plan.specs.Least.{lengths_in, listed_words, starts_by, has_empty}
-use Rattle.plan_text.specs.declared.plan_file.Repeat.{Repeat}
+use Rattle.text_plan.specs.declared.plan_file.Repeat.{Repeat}
 
 -- the stripes' lengths, summed, are the rows'
 pub sum_lengths : (repeats : List Repeat) → sum (lengths_in repeats) ≡ listed_words repeats

@@ -4,9 +4,9 @@ use Rattle.std.specs.Prelude.{◌≡◌, ℕ, ◌<◌, ◌≤◌, List, length, 
 use Rattle.pet_base.specs.declared.limits.TheConstants.{MAX_PLAN_FILE}
 use Rattle.pet_base.specs.Seen.{Seen}
 use Rattle.stripe_plan.specs.Sizes.{Sizes}
-use Rattle.command_files.specs.Inputs.{IsFile}
-use Rattle.plan_text.specs.declared.plan_file.Repeat.{Repeat}
-use Rattle.plan_text.specs.PlanFile.{lists_of}
+use Rattle.outside_files.specs.Inputs.{IsFile}
+use Rattle.text_plan.specs.declared.plan_file.Repeat.{Repeat}
+use Rattle.text_plan.specs.PlanFile.{lists_of}
 use Rattle.command_plan.specs.Least.{IsLeast}
 use Rattle.stream_session.specs.Sessions.{HasSession, tables_in}
 

@@ -1,7 +1,7 @@
 -- When `check` is done: on what `plan` printed. This project's own.
 use Rattle.std.specs.Prelude.{◌≡◌, ◌≢◌, ℕ, List, [], ◌∷◌, length, Some}
 use Rattle.pet_base.specs.Seen.{Seen}
-use Rattle.command_files.specs.Uses.{Failed, reading}
+use Rattle.outside_files.specs.Uses.{Failed, reading}
 use Rattle.command_plan.specs.declared.checking.CheckEnd.{CheckEnd}
 use Rattle.command_plan.specs.declared.checking.CheckEnd.TheVariants.{Done, NoMemory}
 use Rattle.command_plan.specs.SessionPlan.{session_plan}

@@ -3,10 +3,10 @@ use Rattle.std.specs.Prelude.{◌≡◌, ◌≢◌, ℕ, ◌<◌, ◌≤◌, Lis
 use Rattle.pet_base.specs.declared.limits.TheConstants.{MAX_PLAN_FILE}
 use Rattle.pet_base.specs.Seen.{Seen}
 use Rattle.stripe_plan.specs.Sizes.{Sizes}
-use Rattle.command_files.specs.Inputs.{IsFile}
-use Rattle.command_files.specs.Uses.{Failed, reading}
-use Rattle.plan_text.specs.declared.plan_file.Repeat.{Repeat}
-use Rattle.plan_text.specs.PlanFile.{lists_of}
+use Rattle.outside_files.specs.Inputs.{IsFile}
+use Rattle.outside_files.specs.Uses.{Failed, reading}
+use Rattle.text_plan.specs.declared.plan_file.Repeat.{Repeat}
+use Rattle.text_plan.specs.PlanFile.{lists_of}
 use Rattle.command_plan.specs.declared.checking.CheckEnd.{CheckEnd}
 use Rattle.command_plan.specs.declared.checking.CheckEnd.TheVariants.{NoMemory, PlaceFault, PlanLong, Text, Lines, NotLeast}
 use Rattle.command_plan.specs.Certified.{IsFirstNotLeast}

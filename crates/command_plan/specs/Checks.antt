@@ -2,11 +2,11 @@
 use Rattle.std.specs.Prelude.{◌≡◌, ◌≢◌, ◌⊎◌, ℕ, ◌<◌, ◌≤◌, List, [], ◌∷◌, length, Err}
 use Rattle.pet_base.specs.declared.limits.TheConstants.{MAX_PLAN_FILE}
 use Rattle.pet_base.specs.Seen.{Seen}
-use Rattle.command_files.specs.Uses.{Failed, reading}
+use Rattle.outside_files.specs.Uses.{Failed, reading}
 use Rattle.stream_session.specs.Sources.{IsSourceFault}
 use Rattle.stream_session.specs.declared.source.SourceFault.TheVariants as source
-use Rattle.plan_text.specs.declared.plan_file.Repeat.{Repeat}
-use Rattle.plan_text.specs.PlanFile.{lists_of}
+use Rattle.text_plan.specs.declared.plan_file.Repeat.{Repeat}
+use Rattle.text_plan.specs.PlanFile.{lists_of}
 use Rattle.command_plan.specs.declared.checking.CheckEnd.{CheckEnd}
 use Rattle.command_plan.specs.declared.checking.CheckEnd.TheVariants.{Done, NoMemory, PlaceFault, BadPriority, BadStream, BadPlan, PlanLong, Text, Lines, NotLeast}
 use Rattle.command_plan.specs.Certified.{HasPlanFile, Lists, IsCertified, IsFirstNotLeast, tables_of_files}

@@ -4,7 +4,7 @@ use Rattle.std.specs.List.{flat_map}
 use Rattle.stripe_plan.specs.declared.layer.LayerSize.{LayerSize}
 use Rattle.stripe_plan.specs.Layers.{needs_of}
 use Rattle.plan_cert.specs.Certificates.{IsCertificate}
-use Rattle.plan_text.specs.declared.plan_file.Repeat.{Repeat}
+use Rattle.text_plan.specs.declared.plan_file.Repeat.{Repeat}
 
 -- the stripe lengths that are listed, each as often as its row says
 abbrev pub lengths_in : List Repeat → List ℕ

@@ -1,7 +1,7 @@
 -- When `plan` is done. This project's own.
 use Rattle.std.specs.Prelude.{◌≡◌, ◌≢◌, ℕ, List, [], ◌∷◌, Vec}
 use Rattle.pet_base.specs.Seen.{Seen}
-use Rattle.command_files.specs.Uses.{Failed, reading}
+use Rattle.outside_files.specs.Uses.{Failed, reading}
 use Rattle.command_plan.specs.declared.planning.PlanEnd.{PlanEnd}
 use Rattle.command_plan.specs.declared.planning.PlanEnd.TheVariants.{Done, NoMemory}
 use Rattle.command_plan.specs.SessionPlan.{session_plan}

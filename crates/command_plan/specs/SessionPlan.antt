@@ -2,7 +2,7 @@
 use Rattle.std.specs.Prelude.{ℕ, List}
 use Rattle.priority_file.specs.Refusals.{priorities_of}
 use Rattle.stream_session.specs.Number.{session_number}
-use Rattle.plan_text.specs.PlanText.{plan_text}
+use Rattle.text_plan.specs.PlanText.{plan_text}
 use Rattle.stream_session.specs.Sessions.{tables_in}
 
 -- the plan text of the session that a priority file and a stream of these bytes are

@@ -3,7 +3,7 @@ ghost use Rattle.std.specs.Prelude.{◌≡◌, ◌≤◌, ℕ, map, length, fals
 ghost use Rattle.pet_base.specs.declared.limits.TheConstants.{MAX_GROUPS, MAX_PLAN_FILE};
 ghost use Rattle.pet_base.specs.Causes.{stops};
 ghost use Rattle.pet_base.specs.Seen.{Seen, PlaceStops};
-ghost use Rattle.plan_text.specs.PlanFile.{lists_of};
+ghost use Rattle.text_plan.specs.PlanFile.{lists_of};
 ghost use Rattle.command_plan.specs.Certified.{IsCertified, AreLeast, tables_of_files};
 ghost use Rattle.command_plan.specs.Checked.{ChecksSession};
 ghost use Rattle.command_plan.specs.Checking.{HasLists, HasNoLists, HasNoListsIn, AreNotLeast};
@@ -11,10 +11,10 @@ ghost use Rattle.command_plan.specs.Checks.{Checks};
 ghost use Rattle.command_plan.specs.Ends.{check_failed};
 
 use crate::least::is_least;
-use command_files::read_file;
+use outside_files::read_file;
 use mpeg_scan::Scan;
 use pet_base::{MAX_PLAN_FILE, NoMemory, Place, Stop};
-use plan_text::{PlanFault, Repeat, read_plan};
+use text_plan::{PlanFault, Repeat, read_plan};
 use priority_file::PriorityFault;
 use std::alloc::Global;
 use stream_session::{SessionFault, SourceFault, read_source};

@@ -6,7 +6,7 @@ ghost use Rattle.command_plan.specs.Least.{IsLeast, lengths_in, listed_words, st
 
 use pet_base::NoMemory;
 use plan_cert::check;
-use plan_text::Repeat;
+use text_plan::Repeat;
 use std::alloc::Global;
 use stripe_plan::Table;
 

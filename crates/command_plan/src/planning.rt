@@ -4,7 +4,7 @@ ghost use Rattle.pet_base.specs.declared.limits.TheConstants.{MAX_GROUPS};
 ghost use Rattle.pet_base.specs.Causes.{stops};
 ghost use Rattle.pet_base.specs.Seen.{Seen, PlaceStops};
 ghost use Rattle.stream_session.specs.Sources.{IsSourceFault, has_failed};
-ghost use Rattle.plan_text.specs.PlanText.{plan_text};
+ghost use Rattle.text_plan.specs.PlanText.{plan_text};
 ghost use Rattle.stream_session.specs.Sessions.{HasSession};
 ghost use Rattle.command_plan.specs.Ends.{plan_failed};
 ghost use Rattle.command_plan.specs.SessionPlan.{session_plan};
@@ -13,7 +13,7 @@ ghost use Rattle.command_plan.specs.Plans.{Plans};
 
 use mpeg_scan::Scan;
 use pet_base::{NoMemory, Place};
-use plan_text::plan_text;
+use text_plan::plan_text;
 use priority_file::PriorityFault;
 use std::alloc::Global;
 use stream_session::{SessionFault, Source, SourceFault, read_source};

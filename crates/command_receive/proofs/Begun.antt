@@ -8,10 +8,10 @@ use Rattle.pet_base.specs.LinkSeen.{LinkSeen, OnlyBinds}
 use Rattle.pet_base.specs.OutsideSeen.{OutsideSeen}
 use Rattle.pet_base.specs.Seen.{Blame, Files, HasBlame, KeepsInput, KeepsOutput, Names, bytes_at, with_file}
 use Rattle.pet_base.specs.laws.SeenLaws.{Blames-some, HadFault-since}
-use Rattle.command_files.specs.Printed.{Unprinted}
-use Rattle.datagram_route.specs.Way.{Way, OnFile, OnLink}
-use Rattle.datagram_route.specs.Coming.{KeepsFeed}
-use Rattle.datagram_route.specs.declared.fault.RouteStop.TheVariants as stop
+use Rattle.outside_files.specs.Printed.{Unprinted}
+use Rattle.outside_routes.specs.Way.{Way, OnFile, OnLink}
+use Rattle.outside_routes.specs.Coming.{KeepsFeed}
+use Rattle.outside_routes.specs.declared.fault.RouteStop.TheVariants as stop
 use Rattle.pet_text.specs.Lines.{bound_text}
 use Rattle.command_receive.specs.Opened.{Begins, Begun, IsOpeningUse, IsUntouched, Opened, PrintedPort, StopsOpening}
 

@@ -8,27 +8,27 @@ use Rattle.pet_base.specs.Entries.{datagrams}
 use Rattle.pet_base.specs.Seen.{Seen, Files, Grows, OnlyReads, OnlyWrites, KeepsNames}
 use Rattle.pet_base.specs.LinkSeen.{LinkSeen}
 use Rattle.pet_base.specs.laws.SeenLaws.{Grows-then}
-use Rattle.datagram_route.specs.Way.{Way, OnFile, OnLink}
-use Rattle.datagram_route.specs.Coming.{coming, HasInput, HaveCome, KeepsFeed, OnlyTakes, TakesDatagram}
-use Rattle.datagram_route.specs.Sending.{AreFirst}
-use Rattle.datagram_route.specs.RouteFaults.{IsFailure, InputFailed, ReceivingFailed, stop_of_route, stop_of_place}
-use Rattle.datagram_route.specs.declared.fault.RouteFailed.{RouteFailed}
-use Rattle.datagram_route.specs.declared.fault.RouteFailed.TheVariants as failed
-use Rattle.datagram_route.specs.laws.ComingLaws.{come_nothing, come_more, come_both, come_front}
+use Rattle.outside_routes.specs.Way.{Way, OnFile, OnLink}
+use Rattle.outside_routes.specs.Coming.{coming, HasInput, HaveCome, KeepsFeed, OnlyTakes, TakesDatagram}
+use Rattle.outside_routes.specs.Sending.{AreFirst}
+use Rattle.outside_routes.specs.RouteFaults.{IsFailure, InputFailed, ReceivingFailed, stop_of_route, stop_of_place}
+use Rattle.outside_routes.specs.declared.fault.RouteFailed.{RouteFailed}
+use Rattle.outside_routes.specs.declared.fault.RouteFailed.TheVariants as failed
+use Rattle.outside_routes.specs.laws.ComingLaws.{come_nothing, come_more, come_both, come_front}
 use Rattle.pet_base.specs.declared.faults.Stop.{Stop}
 use Rattle.pet_base.specs.declared.faults.Stop.TheVariants as place
 use Rattle.pet_receive.specs.Arrivals.{Order, ReceiverState, kept_set}
-use Rattle.kept_sets.specs.KeptSet.{KeptSet}
-use Rattle.kept_sets.specs.laws.KeptSetLaws.{after_more}
-use Rattle.kept_sets.specs.Verdicts.{after, after_all, after_all_in}
-use Rattle.pet_field.specs.Gf16.{gf16_coding}
-use Rattle.met_packets.specs.Gf16.{HasKeptIn, IsArrivalText, IsLayersText, IsTextAt}
-use Rattle.met_packets.specs.LayersText.{order_after, order_after_all}
-use Rattle.command_files.specs.Outputs.{Puts}
+use Rattle.packet_verdicts.specs.KeptSet.{KeptSet}
+use Rattle.packet_verdicts.specs.laws.KeptSetLaws.{after_more}
+use Rattle.packet_verdicts.specs.Verdicts.{after, after_all, after_all_in}
+use Rattle.field_elements.specs.Gf16.{gf16_coding}
+use Rattle.packet_met.specs.Gf16.{HasKeptIn, IsArrivalText, IsLayersText, IsTextAt}
+use Rattle.packet_met.specs.LayersText.{order_after, order_after_all}
+use Rattle.outside_files.specs.Outputs.{Puts}
 use Rattle.command_receive.specs.SoFar.{SoFar, HasReceived, CameFirst, PartSoFar, StoppedSoFar, PartOfOne, LinkReceives}
-use Rattle.met_packets.specs.Steps.{steps_of, steps_of_all}
-use Rattle.command_files.specs.laws.OutputLaws.{puts_nothing}
-use Rattle.met_packets.specs.laws.DatagramAtEnd.{order_push, steps_push, text_nothing, text_push}
+use Rattle.packet_met.specs.Steps.{steps_of, steps_of_all}
+use Rattle.outside_files.specs.laws.OutputLaws.{puts_nothing}
+use Rattle.packet_met.specs.laws.DatagramAtEnd.{order_push, steps_push, text_nothing, text_push}
 
 pub so_far_start : (s : Seen) (all : Option (List (List ℕ))) (r : ReceiverState ℕ) (steps : ℕ) → HasKeptIn r [] → SoFar (kept_set r) 0 s s all all r steps steps
 unfolding after_all_in order_after_all steps_of_all

@@ -5,17 +5,17 @@ use Rattle.pet_base.specs.declared.limits.TheConstants.{MAX_DATAGRAMS}
 use Rattle.pet_base.specs.LinkSeen.{LinkSeen}
 use Rattle.pet_base.specs.OutsideSeen.{OutsideSeen}
 use Rattle.pet_base.specs.Seen.{Seen}
-use Rattle.command_files.specs.laws.PrintedLaws.{append_known-twice, Rose-since}
-use Rattle.datagram_route.specs.Way.{Way, OnFile, OnLink}
-use Rattle.kept_sets.specs.KeptSet.{kept_in_all}
-use Rattle.met_packets.specs.Kept.{kept_of}
+use Rattle.outside_files.specs.laws.PrintedLaws.{append_known-twice, Rose-since}
+use Rattle.outside_routes.specs.Way.{Way, OnFile, OnLink}
+use Rattle.packet_verdicts.specs.KeptSet.{kept_in_all}
+use Rattle.packet_met.specs.Kept.{kept_of}
 use Rattle.pet_text.specs.Lines.{bound_text, receive_text}
 use Rattle.command_receive.specs.declared.command.ReceiveEnd.{ReceiveEnd}
 use Rattle.command_receive.specs.declared.command.ReceiveEnd.TheVariants.{Done, NoMemory, PlaceFault, LinkFault, OutFault, Incomplete, TurnsSpent}
 use Rattle.command_receive.specs.declared.reading.Totals.{Totals}
-use Rattle.datagram_route.specs.RouteFaults.{stop_of_a_place, stop_of_a_link}
-use Rattle.datagram_route.specs.declared.fault.RouteStop.{RouteStop}
-use Rattle.datagram_route.specs.declared.fault.RouteStop.TheVariants as stop
+use Rattle.outside_routes.specs.RouteFaults.{stop_of_a_place, stop_of_a_link}
+use Rattle.outside_routes.specs.declared.fault.RouteStop.{RouteStop}
+use Rattle.outside_routes.specs.declared.fault.RouteStop.TheVariants as stop
 use Rattle.command_receive.specs.Failures.{end_of_place, end_of_link}
 use Rattle.command_receive.specs.Numbers.{AreTotals, IsEndOf, line_of, EndsWith, end_of}
 use Rattle.command_receive.specs.Opened.{IsBoundTo, KeepsLink, PrintedPort}

@@ -9,15 +9,15 @@ use Rattle.pet_base.specs.LinkSeen.{LinkSeen}
 use Rattle.pet_base.specs.OutsideSeen.{OutsideSeen}
 use Rattle.pet_base.specs.Seen.{Seen, Files, bytes_at}
 use Rattle.pet_base.specs.laws.SeenLaws.{Grows-named}
-use Rattle.command_files.specs.Wrote.{File, Wrote}
-use Rattle.command_files.specs.laws.WroteLaws.{Wrote-file, Wrote-as_front, Wrote-then}
-use Rattle.datagram_route.specs.Way.{Way, OnFile, OnLink}
-use Rattle.datagram_route.specs.Coming.{coming, HasInput, HaveCome}
-use Rattle.datagram_route.specs.Sending.{AreFirst}
+use Rattle.outside_files.specs.Wrote.{File, Wrote}
+use Rattle.outside_files.specs.laws.WroteLaws.{Wrote-file, Wrote-as_front, Wrote-then}
+use Rattle.outside_routes.specs.Way.{Way, OnFile, OnLink}
+use Rattle.outside_routes.specs.Coming.{coming, HasInput, HaveCome}
+use Rattle.outside_routes.specs.Sending.{AreFirst}
 use Rattle.pet_receive.specs.Arrivals.{ReceiverState, kept_set}
-use Rattle.kept_sets.specs.KeptSet.{KeptSet, kept_in_all}
+use Rattle.packet_verdicts.specs.KeptSet.{KeptSet, kept_in_all}
 use Rattle.pet_receive.specs.ShownBytes.{IsComplete, shown_in_all}
-use Rattle.met_packets.specs.Kept.{nothing_of}
+use Rattle.packet_met.specs.Kept.{nothing_of}
 use Rattle.pet_text.specs.Lines.{bound_text}
 use Rattle.command_receive.specs.Numbers.{AreTotals}
 use Rattle.command_receive.specs.declared.reading.Totals.{Totals}

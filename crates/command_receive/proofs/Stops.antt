@@ -10,16 +10,16 @@ use Rattle.pet_base.specs.LinkSeen.{LinkSeen, Blame as LinkBlame}
 use Rattle.pet_base.specs.OutsideSeen.{OutsideSeen}
 use Rattle.pet_base.specs.Seen.{Blame, HadFault}
 use Rattle.pet_base.specs.laws.SeenLaws.{HadFault-since, Blames-named}
-use Rattle.command_files.specs.Inputs.{Licensed}
-use Rattle.command_files.specs.Uses.{writing, IsOneOf, Failed}
-use Rattle.command_files.specs.Wrote.{Wrote}
-use Rattle.datagram_route.specs.Way.{Way, OnFile, OnLink}
-use Rattle.datagram_route.specs.Coming.{coming, KeepsFeed}
-use Rattle.datagram_route.specs.RouteFaults.{IsStop, BoundFailed, ReceivingFailed, stop_of_place}
-use Rattle.datagram_route.specs.declared.fault.RouteStop.{RouteStop}
-use Rattle.datagram_route.specs.declared.fault.RouteStop.TheVariants as stop
+use Rattle.outside_files.specs.Inputs.{Licensed}
+use Rattle.outside_files.specs.Uses.{writing, IsOneOf, Failed}
+use Rattle.outside_files.specs.Wrote.{Wrote}
+use Rattle.outside_routes.specs.Way.{Way, OnFile, OnLink}
+use Rattle.outside_routes.specs.Coming.{coming, KeepsFeed}
+use Rattle.outside_routes.specs.RouteFaults.{IsStop, BoundFailed, ReceivingFailed, stop_of_place}
+use Rattle.outside_routes.specs.declared.fault.RouteStop.{RouteStop}
+use Rattle.outside_routes.specs.declared.fault.RouteStop.TheVariants as stop
 use Rattle.pet_receive.specs.Arrivals.{ReceiverState, kept_set}
-use Rattle.met_packets.specs.Kept.{nothing_of}
+use Rattle.packet_met.specs.Kept.{nothing_of}
 use Rattle.store_text.specs.Files.{store_file}
 use Rattle.command_receive.specs.Numbers.{end_of}
 use Rattle.command_receive.specs.Opened.{Begun, Opened, IsBoundTo, IsBoundWhereStopped, StopsOpening}

@@ -1,10 +1,10 @@
 -- The layers that a layers text names, and those whose counts a store reaches. This project's own.
 use Rattle.std.specs.Prelude.{◌≡◌, ◌⊎◌, ◌↔◌, ℕ, List, [], ◌∷◌, ◌++◌, None}
 use Rattle.pet_base.specs.OutsideSeen.{OutsideSeen}
-use Rattle.command_files.specs.Wrote.{Wrote}
-use Rattle.kept_sets.specs.KeptSet.{KeptSet, IsKeptSet}
+use Rattle.outside_files.specs.Wrote.{Wrote}
+use Rattle.packet_verdicts.specs.KeptSet.{KeptSet, IsKeptSet}
 use Rattle.pet_receive.specs.ShownBytes.{IsShown}
-use Rattle.met_packets.specs.LayersText.{record_text}
+use Rattle.packet_met.specs.LayersText.{record_text}
 use Rattle.store_text.specs.Files.{store_file}
 use Rattle.command_receive.specs.Receives.{layers_file}
 use Rattle.command_receive.specs.declared.command.ReceiveEnd.{ReceiveEnd}

@@ -3,13 +3,13 @@ use Rattle.std.specs.Prelude.{ℕ, ◌≡◌, ◌⊎◌, ◌≤◌, List, [], tr
 use Rattle.pet_base.specs.Seen.{Blame, Names, HadFault, bytes_at, with_file}
 use Rattle.pet_base.specs.LinkSeen.{LinkSeen, OnlyBinds}
 use Rattle.pet_base.specs.OutsideSeen.{OutsideSeen}
-use Rattle.command_files.specs.Printed.{Printed, Unprinted, PrintedFront}
-use Rattle.command_files.specs.Uses.{reading, writing}
-use Rattle.datagram_route.specs.Way.{Way, OnFile, OnLink}
-use Rattle.datagram_route.specs.Coming.{KeepsFeed}
-use Rattle.datagram_route.specs.RouteFaults.{BoundFailed}
-use Rattle.datagram_route.specs.declared.fault.RouteStop.{RouteStop}
-use Rattle.datagram_route.specs.declared.fault.RouteStop.TheVariants as stop
+use Rattle.outside_files.specs.Printed.{Printed, Unprinted, PrintedFront}
+use Rattle.outside_files.specs.Uses.{reading, writing}
+use Rattle.outside_routes.specs.Way.{Way, OnFile, OnLink}
+use Rattle.outside_routes.specs.Coming.{KeepsFeed}
+use Rattle.outside_routes.specs.RouteFaults.{BoundFailed}
+use Rattle.outside_routes.specs.declared.fault.RouteStop.{RouteStop}
+use Rattle.outside_routes.specs.declared.fault.RouteStop.TheVariants as stop
 use Rattle.pet_text.specs.Lines.{bound_text}
 
 -- the link is as before, or it may have begun to receive, and datagrams have left it: it has sent nothing, and its faults do not fall

@@ -6,19 +6,19 @@ use Rattle.pet_base.specs.Entries.{datagrams}
 use Rattle.pet_base.specs.LinkSeen.{LinkSeen}
 use Rattle.pet_base.specs.OutsideSeen.{OutsideSeen}
 use Rattle.pet_base.specs.Seen.{Blame, HadFault}
-use Rattle.command_files.specs.Printed.{Printed, Unprinted}
-use Rattle.command_files.specs.Uses.{reading, writing}
-use Rattle.command_files.specs.Wrote.{File, Wrote}
-use Rattle.datagram_route.specs.Way.{Way, OnFile, OnLink}
-use Rattle.datagram_route.specs.Coming.{HaveCome, KeepsFeed}
-use Rattle.datagram_route.specs.RouteFaults.{BoundFailed}
-use Rattle.datagram_route.specs.Sending.{AreFirst}
-use Rattle.kept_sets.specs.KeptSet.{kept_in_all}
+use Rattle.outside_files.specs.Printed.{Printed, Unprinted}
+use Rattle.outside_files.specs.Uses.{reading, writing}
+use Rattle.outside_files.specs.Wrote.{File, Wrote}
+use Rattle.outside_routes.specs.Way.{Way, OnFile, OnLink}
+use Rattle.outside_routes.specs.Coming.{HaveCome, KeepsFeed}
+use Rattle.outside_routes.specs.RouteFaults.{BoundFailed}
+use Rattle.outside_routes.specs.Sending.{AreFirst}
+use Rattle.packet_verdicts.specs.KeptSet.{kept_in_all}
 use Rattle.pet_receive.specs.ShownBytes.{IsComplete, shown_in_all}
 use Rattle.store_text.specs.Files.{HasFile, store_file}
-use Rattle.met_packets.specs.Kept.{nothing_of, kept_of}
-use Rattle.met_packets.specs.Gf16.{IsLayersText}
-use Rattle.met_packets.specs.Steps.{steps_of_all}
+use Rattle.packet_met.specs.Kept.{nothing_of, kept_of}
+use Rattle.packet_met.specs.Gf16.{IsLayersText}
+use Rattle.packet_met.specs.Steps.{steps_of_all}
 use Rattle.pet_text.specs.Lines.{bound_text, receive_text}
 use Rattle.command_receive.specs.Opened.{IsBoundTo, IsOpeningUse, IsUntouched, KeepsLink, PortFailed, PrintedPort}
 use Rattle.command_receive.specs.declared.command.ReceiveEnd.{ReceiveEnd}

@@ -4,16 +4,16 @@ use Rattle.pet_base.specs.declared.limits.TheConstants.{MAX_SESSION, MAX_DATAGRA
 use Rattle.pet_base.specs.Entries.{datagrams}
 use Rattle.pet_base.specs.OutsideSeen.{OutsideSeen}
 use Rattle.pet_base.specs.Seen.{Files, with_file}
-use Rattle.command_files.specs.Printed.{Printed}
-use Rattle.command_files.specs.Uses.{IsWell}
-use Rattle.datagram_route.specs.Way.{Way, OnFile, OnLink}
-use Rattle.datagram_route.specs.RouteFaults.{BoundFailed}
+use Rattle.outside_files.specs.Printed.{Printed}
+use Rattle.outside_files.specs.Uses.{IsWell}
+use Rattle.outside_routes.specs.Way.{Way, OnFile, OnLink}
+use Rattle.outside_routes.specs.RouteFaults.{BoundFailed}
 use Rattle.packet_frame.specs.Refusals.{fields_of, first_fault}
-use Rattle.pet_encode.specs.Session.{Session, IsSession, Fits}
-use Rattle.met_packets.specs.FewestStripes.{CarriesFewestStripes}
-use Rattle.met_packets.specs.Gf16.{IsItsPacket}
-use Rattle.met_packets.specs.Met.{layers_text, met_in, all_shown, count_met, count_shown}
-use Rattle.met_packets.specs.MetStore.{session_store}
+use Rattle.packet_session.specs.Session.{Session, IsSession, Fits}
+use Rattle.packet_met.specs.FewestStripes.{CarriesFewestStripes}
+use Rattle.packet_met.specs.Gf16.{IsItsPacket}
+use Rattle.packet_met.specs.Met.{layers_text, met_in, all_shown, count_met, count_shown}
+use Rattle.packet_met.specs.MetStore.{session_store}
 use Rattle.pet_text.specs.Lines.{receive_text}
 use Rattle.command_receive.specs.Opened.{IsBoundTo}
 use Rattle.command_receive.specs.Receives.{port_line, uses_of}

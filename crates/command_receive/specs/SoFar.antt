@@ -7,18 +7,18 @@ use Rattle.pet_base.specs.Entries.{datagrams}
 use Rattle.pet_base.specs.declared.place.Side.TheVariants.{Read, Written}
 use Rattle.pet_base.specs.Seen.{Seen, Blame}
 use Rattle.pet_base.specs.LinkSeen.{LinkSeen, OnlyReceives}
-use Rattle.command_files.specs.Outputs.{IsPrefix, Puts, PutsPart}
-use Rattle.datagram_route.specs.Way.{Way, OnFile, OnLink}
-use Rattle.datagram_route.specs.Coming.{HaveCome}
-use Rattle.datagram_route.specs.Sending.{AreFirst}
-use Rattle.datagram_route.specs.declared.fault.RouteStop.{RouteStop}
-use Rattle.datagram_route.specs.declared.fault.RouteStop.TheVariants as stop
+use Rattle.outside_files.specs.Outputs.{IsPrefix, Puts, PutsPart}
+use Rattle.outside_routes.specs.Way.{Way, OnFile, OnLink}
+use Rattle.outside_routes.specs.Coming.{HaveCome}
+use Rattle.outside_routes.specs.Sending.{AreFirst}
+use Rattle.outside_routes.specs.declared.fault.RouteStop.{RouteStop}
+use Rattle.outside_routes.specs.declared.fault.RouteStop.TheVariants as stop
 use Rattle.pet_receive.specs.Arrivals.{ReceiverState, kept_set}
-use Rattle.kept_sets.specs.KeptSet.{KeptSet}
-use Rattle.kept_sets.specs.Verdicts.{after_all}
-use Rattle.met_packets.specs.Gf16.{HasKeptIn, IsLayersText, IsTextAt}
-use Rattle.met_packets.specs.LayersText.{order_after_all}
-use Rattle.met_packets.specs.Steps.{steps_of_all}
+use Rattle.packet_verdicts.specs.KeptSet.{KeptSet}
+use Rattle.packet_verdicts.specs.Verdicts.{after_all}
+use Rattle.packet_met.specs.Gf16.{HasKeptIn, IsLayersText, IsTextAt}
+use Rattle.packet_met.specs.LayersText.{order_after_all}
+use Rattle.packet_met.specs.Steps.{steps_of_all}
 use Rattle.command_receive.specs.Receives.{HaveLeft}
 
 -- The datagrams that have come since, of those that were to come first: the receiver has kept what they bring, and the output has

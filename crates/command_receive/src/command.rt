@@ -4,7 +4,7 @@ ghost use Rattle.pet_base.specs.Lent.{seen, AreSame};
 ghost use Rattle.pet_base.specs.LinkSeen.{LinkStops};
 ghost use Rattle.pet_base.specs.Seen.{PlaceStops};
 ghost use Rattle.command_receive.specs.Failures.{end_of_place, end_of_link};
-ghost use Rattle.datagram_route.specs.Way.{way_of};
+ghost use Rattle.outside_routes.specs.Way.{way_of};
 ghost use Rattle.pet_text.specs.Lines.{receive_text};
 ghost use Rattle.command_receive.specs.Numbers.{IsEndOf, EndsWith, end_of};
 ghost use Rattle.command_receive.specs.Receives.{Receives};
@@ -12,7 +12,7 @@ ghost use Rattle.command_receive.specs.ReceivesSession.{CompletesReceive};
 ghost use Rattle.command_receive.specs.NamedLayers.{NamesWhatItStores};
 
 use crate::reading::{Totals, read_all};
-use datagram_route::{Route, RouteStop};
+use outside_routes::{Route, RouteStop};
 use pet_base::{Link, MAX_DATAGRAMS, NoMemory, Outside, Place, Sink};
 use pet_text::receive_line;
 use std::alloc::Global;

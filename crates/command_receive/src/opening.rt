@@ -4,12 +4,12 @@ ghost use Rattle.pet_base.specs.Lent.{seen, AreSame};
 ghost use Rattle.pet_base.specs.Causes.{stops};
 ghost use Rattle.pet_base.specs.LinkSeen.{LinkStops};
 ghost use Rattle.pet_base.specs.Seen.{PlaceStops};
-ghost use Rattle.datagram_route.specs.RouteFaults.{stop_of_a_place, stop_of_a_link};
-ghost use Rattle.datagram_route.specs.Way.{OnFile, OnLink, way_of};
+ghost use Rattle.outside_routes.specs.RouteFaults.{stop_of_a_place, stop_of_a_link};
+ghost use Rattle.outside_routes.specs.Way.{OnFile, OnLink, way_of};
 ghost use Rattle.pet_text.specs.Lines.{bound_text};
 ghost use Rattle.command_receive.specs.Opened.{Begins, IsBoundWhereStopped, IsUntouched, OnlyOpens, Opened, StopsOpening};
 
-use datagram_route::{Route, RouteStop};
+use outside_routes::{Route, RouteStop};
 use pet_base::{Link, NoMemory, Outside, Place, Sink};
 use pet_text::bound_line;
 use std::alloc::Global;

@@ -5,9 +5,9 @@ use Rattle.std.proofs.lemmas.Option.{same_Some}
 use Rattle.stripe_plan.specs.Sizes.{Sizes}
 use Rattle.layer_split.specs.Layers.{message}
 use Rattle.packet_frame.specs.declared.frame.Header.{Header}
-use Rattle.pet_encode.specs.Encoding.{Encoding}
+use Rattle.packet_session.specs.Encoding.{Encoding}
 use Rattle.stream_session.specs.declared.source.Source.{Source}
-use Rattle.group_cutter.specs.CutGroups.{CutGroup}
+use Rattle.stream_groups.specs.CutGroups.{CutGroup}
 use Rattle.stream_session.specs.Tables.{table_of}
 use Rattle.command_send.specs.Sending.{encoding_of}
 

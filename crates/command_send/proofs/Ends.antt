@@ -1,16 +1,16 @@
 -- What each end of `send` tells.
 use Rattle.std.proofs.Common.{◌≡◌, ◌≢◌, ℕ, List, [], Option, None, Some, sym, ap, subst, inl, arith}
 use Rattle.std.specs.Prelude.{option_map}
-use Rattle.datagram_route.specs.declared.fault.RouteStop.TheVariants as stop
-use Rattle.datagram_route.specs.Sending.{Routes}
-use Rattle.datagram_route.specs.Way.{Way, OnFile, OnLink}
+use Rattle.outside_routes.specs.declared.fault.RouteStop.TheVariants as stop
+use Rattle.outside_routes.specs.Sending.{Routes}
+use Rattle.outside_routes.specs.Way.{Way, OnFile, OnLink}
 use Rattle.pet_base.specs.Seen.{Blame, Files}
 use Rattle.pet_base.specs.laws.SeenLaws.{HadFault-since}
 use Rattle.pet_base.specs.OutsideSeen.{OutsideSeen}
 use Rattle.stream_session.specs.Sources.{IsOfSource, IsSourceFault}
 use Rattle.stream_session.specs.declared.source.SourceFault.{SourceFault}
 use Rattle.stream_session.specs.declared.source.SourceFault.TheVariants as source
-use Rattle.command_files.specs.Wrote.{with_files}
+use Rattle.outside_files.specs.Wrote.{with_files}
 use Rattle.command_send.specs.declared.command.SendEnd.{SendEnd}
 use Rattle.command_send.specs.declared.command.SendEnd.TheVariants.{NoMemory, PlaceFault, LinkFault, Changed}
 use Rattle.command_send.specs.declared.fault.SendFault.{SendFault}

@@ -2,9 +2,9 @@
 use Rattle.std.proofs.Common.{◌≡◌, ℕ, List, [], ◌∷◌, ◌++◌, length, sym, ◌∙◌, ap, arith, inl, inr, append_assoc}
 use Rattle.std.proofs.lemmas.List.{append-nil, length-append}
 use Rattle.priority_file.specs.Priority.{Priorities}
-use Rattle.group_cutter.specs.CutGroups.{CutGroup}
-use Rattle.group_cutter.specs.Cutting.{HaveEnded, NoneFurther, IsCuttable, AreAll, cut_groups}
-use Rattle.group_cutter.specs.laws.EndedLaws.{ended_before, ended_first}
+use Rattle.stream_groups.specs.CutGroups.{CutGroup}
+use Rattle.stream_groups.specs.Cutting.{HaveEnded, NoneFurther, IsCuttable, AreAll, cut_groups}
+use Rattle.stream_groups.specs.laws.EndedLaws.{ended_before, ended_first}
 use Rattle.command_send.specs.Sending.{IsFront, AreFound, AreAllFound}
 
 -- groups that had ended are the first of the stream

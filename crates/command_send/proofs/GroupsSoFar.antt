@@ -9,25 +9,25 @@ use Rattle.std.proofs.lemmas.List.Sums.{sum_by-cons}
 use Rattle.std.proofs.lemmas.Grind.{flat_map-append}
 use Rattle.stripe_plan.specs.Sizes.{Sizes}
 use Rattle.priority_file.specs.Priority.{Priorities}
-use Rattle.pet_encode.specs.Encoding.{Encoding}
+use Rattle.packet_session.specs.Encoding.{Encoding}
 use Rattle.stream_session.specs.declared.mark.GroupMark.{GroupMark}
 use Rattle.stream_session.specs.declared.source.Source.{Source}
-use Rattle.group_cutter.specs.CutGroups.{CutGroup}
-use Rattle.group_cutter.specs.Cutting.{HasCut, HaveEnded, AreAll, cut_groups, pieces_left}
-use Rattle.group_cutter.specs.laws.EndedLaws.{given_ended, ended_longer, ended_before}
-use Rattle.group_cutter.specs.declared.groups.GroupCutter.{GroupCutter}
-use Rattle.group_cutter.specs.laws.FilledLaws.{IsFilled, given_filled}
-use Rattle.group_cutter.specs.laws.FittingLaws.{IsWhole, given_whole}
+use Rattle.stream_groups.specs.CutGroups.{CutGroup}
+use Rattle.stream_groups.specs.Cutting.{HasCut, HaveEnded, AreAll, cut_groups, pieces_left}
+use Rattle.stream_groups.specs.laws.EndedLaws.{given_ended, ended_longer, ended_before}
+use Rattle.stream_groups.specs.declared.groups.GroupCutter.{GroupCutter}
+use Rattle.stream_groups.specs.laws.FilledLaws.{IsFilled, given_filled}
+use Rattle.stream_groups.specs.laws.FittingLaws.{IsWhole, given_whole}
 use Rattle.stream_session.specs.Marks.{mark_of, no_mark, mark_at, group_marks}
 use Rattle.stream_session.specs.Tables.{table_of}
 use Rattle.command_send.specs.declared.sent_group.Change.{Change}
 use Rattle.command_send.specs.declared.second.SentGroups.{SentGroups}
-use Rattle.pet_encode.specs.Datagrams.{group_datagrams}
+use Rattle.packet_session.specs.Datagrams.{group_datagrams}
 use Rattle.command_send.specs.Sending.{encoding_of, encodings_from, sent_datagrams, words_cost, AgreeBelow, HaveTables, HasSentSome, IsPart, AreFound}
 use Rattle.command_send.specs.Second.{HasGone, HasReached, Knows, cost_at, cost_left, SendsGroup, SendsGroupPart}
-use Rattle.datagram_route.specs.Sending.{Routes, Sends, SendsPart}
-use Rattle.datagram_route.specs.Way.{Way}
-use Rattle.datagram_route.specs.laws.SendingLaws.{sends_then, part_after, part_whole}
+use Rattle.outside_routes.specs.Sending.{Routes, Sends, SendsPart}
+use Rattle.outside_routes.specs.Way.{Way}
+use Rattle.outside_routes.specs.laws.SendingLaws.{sends_then, part_after, part_whole}
 use Rattle.command_send.proofs.FoundGroups.{found_of_all}
 use Rattle.command_send.proofs.EncodedGroup.{front_more}
 

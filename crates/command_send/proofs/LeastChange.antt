@@ -3,14 +3,14 @@ use Rattle.std.proofs.Common.{◌≡◌, ℕ, suc, ◌<◌, ◌≤◌, List, [],
 use Rattle.std.specs.Prelude.{slice_get, IfSome, IfNone, MatchOption, is_some, true, false}
 use Rattle.std.proofs.lemmas.Bool.{cases_lt}
 use Rattle.std.proofs.lemmas.Option.{slice_get_within}
-use Rattle.datagram_route.specs.Sending.{Routes}
-use Rattle.datagram_route.specs.Way.{Way}
+use Rattle.outside_routes.specs.Sending.{Routes}
+use Rattle.outside_routes.specs.Way.{Way}
 use Rattle.stream_session.specs.declared.mark.GroupMark.{GroupMark}
 use Rattle.stream_session.specs.declared.source.Source.{Source}
-use Rattle.group_cutter.specs.CutGroups.{CutGroup}
-use Rattle.group_cutter.specs.Cutting.{HasCut, HaveEnded, AreAll}
-use Rattle.group_cutter.specs.laws.EndedLaws.{given_ended, ended_longer, ended_before}
-use Rattle.group_cutter.specs.declared.groups.GroupCutter.{GroupCutter}
+use Rattle.stream_groups.specs.CutGroups.{CutGroup}
+use Rattle.stream_groups.specs.Cutting.{HasCut, HaveEnded, AreAll}
+use Rattle.stream_groups.specs.laws.EndedLaws.{given_ended, ended_longer, ended_before}
+use Rattle.stream_groups.specs.declared.groups.GroupCutter.{GroupCutter}
 use Rattle.stream_session.specs.Tables.{table_of}
 use Rattle.stream_session.specs.Marks.{no_mark, mark_at}
 use Rattle.command_send.specs.declared.sent_group.Change.{Change}

@@ -7,13 +7,13 @@ use Rattle.pet_base.specs.declared.place.Side.TheVariants.{Read, Written}
 use Rattle.pet_base.specs.declared.link.LinkSide.TheVariants.{Aimed}
 use Rattle.pet_base.specs.laws.SeenLaws.{HadFault-since, KeepsNames-same, KeepsNames-then, OnlyReads-KeepsNames, OnlyWrites-KeepsNames}
 use Rattle.pet_base.specs.LinkSeen.{LinkSeen, OnlySends}
-use Rattle.command_files.specs.laws.PrintedLaws.{Rose-since}
-use Rattle.datagram_route.specs.declared.fault.RouteStop.{RouteStop}
-use Rattle.datagram_route.specs.declared.fault.RouteStop.TheVariants as stop
-use Rattle.datagram_route.specs.RouteFaults.{IsStop}
-use Rattle.datagram_route.specs.Sending.{Routes, IsOpen, OnlyGrows, OutputFailed, SendingFailed}
-use Rattle.datagram_route.specs.Way.{Way, OnFile, OnLink}
-use Rattle.datagram_route.specs.laws.SendingLaws.{output_failed, sending_failed}
+use Rattle.outside_files.specs.laws.PrintedLaws.{Rose-since}
+use Rattle.outside_routes.specs.declared.fault.RouteStop.{RouteStop}
+use Rattle.outside_routes.specs.declared.fault.RouteStop.TheVariants as stop
+use Rattle.outside_routes.specs.RouteFaults.{IsStop}
+use Rattle.outside_routes.specs.Sending.{Routes, IsOpen, OnlyGrows, OutputFailed, SendingFailed}
+use Rattle.outside_routes.specs.Way.{Way, OnFile, OnLink}
+use Rattle.outside_routes.specs.laws.SendingLaws.{output_failed, sending_failed}
 use Rattle.command_send.specs.Second.{OnlyPasses}
 use Rattle.command_send.specs.Sending.{PassFailed}
 

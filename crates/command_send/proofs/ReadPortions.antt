@@ -10,17 +10,17 @@ use Rattle.stream_session.specs.declared.mark.GroupMark.{GroupMark}
 use Rattle.stream_session.specs.declared.source.Source.{Source}
 use Rattle.stream_session.proofs.Sourced.{short_stream}
 use Rattle.priority_file.specs.Priority.{Priorities}
-use Rattle.group_cutter.specs.CutGroups.{CutGroup}
-use Rattle.group_cutter.specs.Cutting.{HasCut, HaveEnded, cut_groups}
-use Rattle.group_cutter.specs.laws.EndedLaws.{none_ended, ended_first}
+use Rattle.stream_groups.specs.CutGroups.{CutGroup}
+use Rattle.stream_groups.specs.Cutting.{HasCut, HaveEnded, cut_groups}
+use Rattle.stream_groups.specs.laws.EndedLaws.{none_ended, ended_first}
 use Rattle.command_send.specs.declared.sent_group.Change.{Change}
 use Rattle.command_send.specs.declared.second.SentGroups.{SentGroups}
-use Rattle.command_files.specs.Outputs.{IsPrefix}
+use Rattle.outside_files.specs.Outputs.{IsPrefix}
 use Rattle.command_send.specs.Sending.{sent_datagrams, HasSentSome, IsPart, IsTaken, SentPart, IsFront, AreFound, HasSentAll, HasSentToChange}
 use Rattle.command_send.specs.Second.{HasGone, HasReached, Ends}
-use Rattle.datagram_route.specs.Sending.{Routes, Sends}
-use Rattle.datagram_route.specs.Way.{Way}
-use Rattle.datagram_route.specs.laws.SendingLaws.{part_nothing, sends_nothing, sends_read}
+use Rattle.outside_routes.specs.Sending.{Routes, Sends}
+use Rattle.outside_routes.specs.Way.{Way}
+use Rattle.outside_routes.specs.laws.SendingLaws.{part_nothing, sends_nothing, sends_read}
 use Rattle.command_send.proofs.GroupsSoFar.{text_none, part_stands}
 
 prefix_at : (stream : List ℕ) (now : Option (List ℕ)) → IfSome (prepend_known stream now) (IsPrefix stream)

@@ -9,24 +9,24 @@ use Rattle.pet_base.specs.Causes.{Blames}
 use Rattle.pet_base.specs.LinkSeen.{LinkSeen, Blame as LinkBlame}
 use Rattle.pet_base.specs.Seen.{Seen, Files, Blame, Grows, appended, Names, KeepsOutput, HadFault, bytes_at, with_file}
 use Rattle.pet_base.specs.laws.SeenLaws.{Grows-named, Blames-named, HadFault-since}
-use Rattle.command_files.specs.Inputs.{IsFile}
-use Rattle.command_files.specs.Outputs.{Puts, PutsPart}
-use Rattle.command_files.specs.Wrote.{Wrote}
-use Rattle.command_files.specs.laws.PrintedLaws.{Rose-since}
-use Rattle.command_files.specs.laws.WroteLaws.{Wrote-nothing}
-use Rattle.datagram_route.specs.RouteFaults.{AimedFailed}
-use Rattle.datagram_route.specs.declared.fault.RouteStop.TheVariants as stop
-use Rattle.datagram_route.specs.Sending.{Routes, Sent, SentFirst, SendsPart, IsOpen, IsOpened, OnlyOpens, SendingFailed}
+use Rattle.outside_files.specs.Inputs.{IsFile}
+use Rattle.outside_files.specs.Outputs.{Puts, PutsPart}
+use Rattle.outside_files.specs.Wrote.{Wrote}
+use Rattle.outside_files.specs.laws.PrintedLaws.{Rose-since}
+use Rattle.outside_files.specs.laws.WroteLaws.{Wrote-nothing}
+use Rattle.outside_routes.specs.RouteFaults.{AimedFailed}
+use Rattle.outside_routes.specs.declared.fault.RouteStop.TheVariants as stop
+use Rattle.outside_routes.specs.Sending.{Routes, Sent, SentFirst, SendsPart, IsOpen, IsOpened, OnlyOpens, SendingFailed}
 use Rattle.pet_base.specs.Entries.{entries_of}
-use Rattle.datagram_route.specs.Way.{Way, OnFile, OnLink}
-use Rattle.datagram_route.specs.laws.SendingLaws.{part_whole}
-use Rattle.pet_encode.specs.Datagrams.{datagrams_text}
-use Rattle.session_packets.specs.laws.DatagramLaws.{entries_are_text}
+use Rattle.outside_routes.specs.Way.{Way, OnFile, OnLink}
+use Rattle.outside_routes.specs.laws.SendingLaws.{part_whole}
+use Rattle.packet_session.specs.Datagrams.{datagrams_text}
+use Rattle.packet_sending.specs.laws.DatagramLaws.{entries_are_text}
 use Rattle.stream_session.specs.Accepted.{session_of}
 use Rattle.stream_session.specs.Marks.{mark_at, group_marks}
 use Rattle.stream_session.specs.declared.mark.GroupMark.{GroupMark}
 use Rattle.stream_session.specs.declared.source.Source.{Source}
-use Rattle.group_cutter.specs.CutGroups.{CutGroup}
+use Rattle.stream_groups.specs.CutGroups.{CutGroup}
 use Rattle.command_send.specs.declared.fault.SendFault.{SendFault}
 use Rattle.command_send.specs.declared.fault.SendFault.TheVariants.{Stopped, Source as Refused, Changed}
 use Rattle.command_send.specs.Sending.{sent_datagrams, AgreeBelow, HaveTables, HasSentAll, HasSentToChange, SentPart, IsFirstPass, IsSendStop, IsOfOutput, PassFailed}

@@ -15,16 +15,16 @@ use Rattle.priority_file.specs.Refusals.{priorities_of}
 use Rattle.layer_split.specs.Groups.{groups_of}
 use Rattle.layer_split.specs.Layers.{cut_of, message}
 use Rattle.layer_split.specs.Splitting.{cuts_of}
-use Rattle.pet_encode.specs.Encoding.{Encoding, IsGroupOf}
-use Rattle.pet_encode.specs.Session.{Session, SessionGroup}
+use Rattle.packet_session.specs.Encoding.{Encoding, IsGroupOf}
+use Rattle.packet_session.specs.Session.{Session, SessionGroup}
 use Rattle.stream_session.specs.declared.mark.GroupMark.{GroupMark}
 use Rattle.stream_session.specs.declared.source.Source.{Source}
-use Rattle.group_cutter.specs.CutGroups.{CutGroup}
-use Rattle.group_cutter.specs.Cutting.{IsCuttable, cut_group, cut_groups}
-use Rattle.group_cutter.specs.laws.CuttingLaws.{message_rebased}
+use Rattle.stream_groups.specs.CutGroups.{CutGroup}
+use Rattle.stream_groups.specs.Cutting.{IsCuttable, cut_group, cut_groups}
+use Rattle.stream_groups.specs.laws.CuttingLaws.{message_rebased}
 use Rattle.stream_session.specs.laws.FitLaws.{no_cause}
 use Rattle.layer_split.specs.laws.CutLaws.{StandsIn}
-use Rattle.group_cutter.specs.laws.StandingLaws.{groups_stand}
+use Rattle.stream_groups.specs.laws.StandingLaws.{groups_stand}
 use Rattle.stream_session.specs.Marks.{mark_of, no_mark, mark_at, group_marks, marks_of}
 use Rattle.stream_session.specs.Tables.{table_of, tables_of, sizes_of, cuts_of_stream}
 use Rattle.stream_session.specs.Accepted.{session_of, group_of}
@@ -32,13 +32,13 @@ use Rattle.stream_session.proofs.Sourced.{short_stream}
 use Rattle.command_send.specs.declared.fault.SendFault.{SendFault}
 use Rattle.command_send.specs.declared.fault.SendFault.TheVariants.{Stopped}
 use Rattle.command_send.specs.declared.sent_group.Change.{Change}
-use Rattle.pet_encode.specs.Datagrams.{session_datagrams, AreEncoders, group_datagrams}
-use Rattle.datagram_route.specs.declared.fault.RouteStop.{RouteStop}
-use Rattle.datagram_route.specs.Sending.{Routes, AreFirst, Sends, SendsPart}
-use Rattle.datagram_route.specs.Way.{Way}
+use Rattle.packet_session.specs.Datagrams.{session_datagrams, AreEncoders, group_datagrams}
+use Rattle.outside_routes.specs.declared.fault.RouteStop.{RouteStop}
+use Rattle.outside_routes.specs.Sending.{Routes, AreFirst, Sends, SendsPart}
+use Rattle.outside_routes.specs.Way.{Way}
 use Rattle.command_send.specs.Sending.{encoding_of, encodings_from, sent_datagrams, IsFront, IsNext, IsLost, IsChange, IsTaken, HasSentAll, HasSentToChange, SentPart, IsFirstPass, IsToldStop}
-use Rattle.datagram_route.specs.laws.SendingLaws.{part_within}
-use Rattle.session_packets.specs.laws.DatagramLaws.{groups_make_datagrams}
+use Rattle.outside_routes.specs.laws.SendingLaws.{part_within}
+use Rattle.packet_sending.specs.laws.DatagramLaws.{groups_make_datagrams}
 use Rattle.command_send.proofs.FoundGroups.{found_front}
 use Rattle.command_send.proofs.GroupsSoFar.{text_append, mark_past}
 

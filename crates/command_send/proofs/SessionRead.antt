@@ -2,10 +2,10 @@
 use Rattle.std.proofs.Common.{◌≡◌, ℕ, ◌+◌, ◌*◌, ◌≤◌, List, [], ◌∷◌, length, Option, Some, None, refl, sym, ap, subst, ◌∙◌, inl, inr, arith}
 use Rattle.std.specs.Prelude.{◌⊎◌, option_map}
 use Rattle.std.specs.List.{sum_by}
-use Rattle.datagram_route.specs.declared.fault.RouteStop.TheVariants as stop
-use Rattle.datagram_route.specs.RouteFaults.{AimedFailed}
-use Rattle.datagram_route.specs.Sending.{Routes}
-use Rattle.datagram_route.specs.Way.{Way, OnFile, OnLink}
+use Rattle.outside_routes.specs.declared.fault.RouteStop.TheVariants as stop
+use Rattle.outside_routes.specs.RouteFaults.{AimedFailed}
+use Rattle.outside_routes.specs.Sending.{Routes}
+use Rattle.outside_routes.specs.Way.{Way, OnFile, OnLink}
 use Rattle.pet_base.specs.LinkSeen.{LinkSeen}
 use Rattle.pet_base.specs.Seen.{Seen, Files, Blame}
 use Rattle.pet_base.specs.laws.SeenLaws.{HadFault-since}
@@ -16,9 +16,9 @@ use Rattle.stream_session.specs.declared.mark.GroupMark.{GroupMark}
 use Rattle.stream_session.specs.declared.source.Source.{Source}
 use Rattle.stream_session.specs.Marks.{mark_at, marks_of}
 use Rattle.stream_session.specs.Sources.{IsSource}
-use Rattle.command_files.specs.Inputs.{IsFile}
-use Rattle.command_files.specs.Wrote.{File, Wrote, with_files}
-use Rattle.command_files.specs.laws.WroteLaws.{Wrote-nothing}
+use Rattle.outside_files.specs.Inputs.{IsFile}
+use Rattle.outside_files.specs.Wrote.{File, Wrote, with_files}
+use Rattle.outside_files.specs.laws.WroteLaws.{Wrote-nothing}
 use Rattle.command_send.specs.declared.fault.SendFault.{SendFault}
 use Rattle.command_send.specs.declared.fault.SendFault.TheVariants as fault
 use Rattle.command_send.specs.declared.sent_group.Change.{Change}

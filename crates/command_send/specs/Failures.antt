@@ -1,6 +1,6 @@
 -- Which answers of `send` tell of a failure of the place, and which of one of the link. This project's own.
 use Rattle.std.specs.Prelude.{Bool, true, false}
-use Rattle.datagram_route.specs.RouteFaults.{stop_of_a_place, stop_of_a_link}
+use Rattle.outside_routes.specs.RouteFaults.{stop_of_a_place, stop_of_a_link}
 use Rattle.stream_session.specs.Sources.{has_failed}
 use Rattle.command_send.specs.declared.fault.SendFault.{SendFault}
 use Rattle.command_send.specs.declared.fault.SendFault.TheVariants.{Stopped, Source, Changed}

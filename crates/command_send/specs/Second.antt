@@ -4,18 +4,18 @@ use Rattle.pet_base.specs.LinkSeen.{OnlySends}
 use Rattle.pet_base.specs.Seen.{KeepsNames}
 use Rattle.stripe_plan.specs.Sizes.{Sizes}
 use Rattle.priority_file.specs.Priority.{Priorities}
-use Rattle.group_cutter.specs.declared.groups.GroupCutter.{GroupCutter}
+use Rattle.stream_groups.specs.declared.groups.GroupCutter.{GroupCutter}
 use Rattle.stream_session.specs.declared.mark.GroupMark.{GroupMark}
 use Rattle.stream_session.specs.declared.source.Source.{Source}
-use Rattle.group_cutter.specs.CutGroups.{CutGroup}
-use Rattle.group_cutter.specs.Cutting.{HasCut, HaveEnded, pieces_left}
+use Rattle.stream_groups.specs.CutGroups.{CutGroup}
+use Rattle.stream_groups.specs.Cutting.{HasCut, HaveEnded, pieces_left}
 use Rattle.stream_session.specs.Marks.{mark_of, no_mark, mark_at}
 use Rattle.stream_session.specs.Tables.{table_of}
 use Rattle.command_send.specs.declared.sent_group.Change.{Change}
 use Rattle.command_send.specs.declared.second.SentGroups.{SentGroups}
-use Rattle.datagram_route.specs.Sending.{Routes, Sends, SendsPart}
-use Rattle.datagram_route.specs.Way.{Way}
-use Rattle.pet_encode.specs.Datagrams.{group_datagrams}
+use Rattle.outside_routes.specs.Sending.{Routes, Sends, SendsPart}
+use Rattle.outside_routes.specs.Way.{Way}
+use Rattle.packet_session.specs.Datagrams.{group_datagrams}
 use Rattle.command_send.specs.Sending.{encoding_of, words_cost, HasSentSome, IsChange, IsNext, IsAllSent}
 
 -- the cutter stands somewhere in a stream

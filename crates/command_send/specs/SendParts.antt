@@ -6,14 +6,14 @@ use Rattle.stream_session.specs.declared.source.Source.{Source}
 use Rattle.stream_session.specs.declared.source.SourceFault.{SourceFault}
 use Rattle.stream_session.specs.declared.source.SourceFault.TheVariants as source
 use Rattle.stream_session.specs.Sources.{IsSourceFault}
-use Rattle.command_files.specs.Inputs.{IsFile}
-use Rattle.command_files.specs.Uses.{reading, writing}
-use Rattle.command_files.specs.Wrote.{Wrote}
-use Rattle.datagram_route.specs.RouteFaults.{IsStop, AimedFailed}
-use Rattle.datagram_route.specs.Sending.{Routes}
-use Rattle.datagram_route.specs.Way.{Way, OnFile, OnLink}
-use Rattle.datagram_route.specs.declared.fault.RouteStop.{RouteStop}
-use Rattle.datagram_route.specs.declared.fault.RouteStop.TheVariants as stop
+use Rattle.outside_files.specs.Inputs.{IsFile}
+use Rattle.outside_files.specs.Uses.{reading, writing}
+use Rattle.outside_files.specs.Wrote.{Wrote}
+use Rattle.outside_routes.specs.RouteFaults.{IsStop, AimedFailed}
+use Rattle.outside_routes.specs.Sending.{Routes}
+use Rattle.outside_routes.specs.Way.{Way, OnFile, OnLink}
+use Rattle.outside_routes.specs.declared.fault.RouteStop.{RouteStop}
+use Rattle.outside_routes.specs.declared.fault.RouteStop.TheVariants as stop
 use Rattle.command_send.specs.declared.command.SendEnd.{SendEnd}
 use Rattle.command_send.specs.declared.command.SendEnd.TheVariants.{NoMemory, PlaceFault, LinkFault, BadPriority, BadStream, BadPlan, Changed}
 use Rattle.command_send.specs.declared.fault.SendFault.{SendFault}

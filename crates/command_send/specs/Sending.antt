@@ -9,11 +9,11 @@ use Rattle.pet_base.specs.Seen.{Seen, Blame, HadFault}
 use Rattle.stripe_plan.specs.Sizes.{Sizes}
 use Rattle.stripe_plan.specs.Layers.{needs_of}
 use Rattle.layer_split.specs.Layers.{message}
-use Rattle.pet_encode.specs.Encoding.{Encoding}
+use Rattle.packet_session.specs.Encoding.{Encoding}
 use Rattle.stream_session.specs.declared.mark.GroupMark.{GroupMark}
 use Rattle.stream_session.specs.declared.source.Source.{Source}
-use Rattle.group_cutter.specs.CutGroups.{CutGroup}
-use Rattle.group_cutter.specs.Cutting.{HaveEnded, NoneFurther, IsCuttable, cut_groups}
+use Rattle.stream_groups.specs.CutGroups.{CutGroup}
+use Rattle.stream_groups.specs.Cutting.{HaveEnded, NoneFurther, IsCuttable, cut_groups}
 use Rattle.stream_session.specs.Marks.{mark_of, no_mark, mark_at, group_marks, marks_of}
 use Rattle.stream_session.specs.Tables.{table_of, tables_of, cuts_of_stream}
 use Rattle.stream_session.specs.Number.{session_number}
@@ -23,11 +23,11 @@ use Rattle.priority_file.specs.Refusals.{priorities_of}
 use Rattle.command_send.specs.declared.sent_group.Change.{Change}
 use Rattle.command_send.specs.declared.fault.SendFault.{SendFault}
 use Rattle.command_send.specs.declared.fault.SendFault.TheVariants.{Stopped, Source as Refused, Changed}
-use Rattle.pet_encode.specs.Datagrams.{group_datagrams}
-use Rattle.command_files.specs.Outputs.{IsPrefix}
-use Rattle.datagram_route.specs.RouteFaults.{IsStop}
-use Rattle.datagram_route.specs.Sending.{Routes, Sends, SendsPart, SendingFailed}
-use Rattle.datagram_route.specs.Way.{Way, OnFile, OnLink}
+use Rattle.packet_session.specs.Datagrams.{group_datagrams}
+use Rattle.outside_files.specs.Outputs.{IsPrefix}
+use Rattle.outside_routes.specs.RouteFaults.{IsStop}
+use Rattle.outside_routes.specs.Sending.{Routes, Sends, SendsPart, SendingFailed}
+use Rattle.outside_routes.specs.Way.{Way, OnFile, OnLink}
 
 -- a group of the second pass as its packets are made: under this number, of the first pass's session
 abbrev pub encoding_of : Source → ℕ → CutGroup → Encoding

@@ -6,20 +6,20 @@ use Rattle.pet_base.specs.Seen.{Seen, Files, Blame, HadFault}
 use Rattle.pet_base.specs.LinkSeen.{LinkSeen}
 use Rattle.pet_base.specs.OutsideSeen.{OutsideSeen}
 use Rattle.priority_file.specs.Refusals.{priorities_of}
-use Rattle.group_cutter.specs.CutGroups.{CutGroup}
+use Rattle.stream_groups.specs.CutGroups.{CutGroup}
 use Rattle.stream_session.specs.Accepted.{session_of}
 use Rattle.stream_session.specs.Marks.{marks_of, mark_at, group_marks}
 use Rattle.stream_session.specs.Number.{session_number}
 use Rattle.stream_session.specs.Sources.{IsOfSource, IsSourceFault}
 use Rattle.stream_session.specs.declared.source.Source.{Source}
 use Rattle.stream_session.specs.declared.source.SourceFault.TheVariants as source
-use Rattle.plan_text.specs.PlanLines.{send_text}
-use Rattle.command_files.specs.Uses.{writing}
-use Rattle.command_files.specs.Wrote.{File, Wrote}
-use Rattle.datagram_route.specs.RouteFaults.{AimedFailed}
-use Rattle.datagram_route.specs.Sending.{Routes, Sent, SentFirst}
-use Rattle.datagram_route.specs.Way.{Way, OnFile, OnLink}
-use Rattle.pet_encode.specs.Datagrams.{datagrams_text, session_datagrams}
+use Rattle.text_plan.specs.PlanLines.{send_text}
+use Rattle.outside_files.specs.Uses.{writing}
+use Rattle.outside_files.specs.Wrote.{File, Wrote}
+use Rattle.outside_routes.specs.RouteFaults.{AimedFailed}
+use Rattle.outside_routes.specs.Sending.{Routes, Sent, SentFirst}
+use Rattle.outside_routes.specs.Way.{Way, OnFile, OnLink}
+use Rattle.packet_session.specs.Datagrams.{datagrams_text, session_datagrams}
 use Rattle.command_send.specs.declared.command.SendEnd.{SendEnd}
 use Rattle.command_send.specs.declared.command.SendEnd.TheVariants.{Done, NoMemory, PlaceFault, LinkFault, BadPriority, BadStream, BadPlan, Changed}
 use Rattle.command_send.specs.declared.sent_group.Change.{Change}

@@ -2,11 +2,11 @@
 use Rattle.std.specs.Prelude.{◌≡◌, ◌≢◌, ℕ, List, [], ◌∷◌, None}
 use Rattle.pet_base.specs.Seen.{Blame}
 use Rattle.pet_base.specs.OutsideSeen.{OutsideSeen}
-use Rattle.command_files.specs.Uses.{reading, writing, Failed}
-use Rattle.command_files.specs.Wrote.{Wrote}
-use Rattle.datagram_route.specs.RouteFaults.{AimedFailed}
-use Rattle.datagram_route.specs.Sending.{Sent}
-use Rattle.datagram_route.specs.Way.{Way, OnFile, OnLink}
+use Rattle.outside_files.specs.Uses.{reading, writing, Failed}
+use Rattle.outside_files.specs.Wrote.{Wrote}
+use Rattle.outside_routes.specs.RouteFaults.{AimedFailed}
+use Rattle.outside_routes.specs.Sending.{Sent}
+use Rattle.outside_routes.specs.Way.{Way, OnFile, OnLink}
 use Rattle.command_send.specs.declared.command.SendEnd.{SendEnd}
 use Rattle.command_send.specs.declared.command.SendEnd.TheVariants.{Done, NoMemory}
 use Rattle.command_send.specs.declared.session.Sent.{Sent as SentNumbers}

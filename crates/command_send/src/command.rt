@@ -3,13 +3,13 @@ ghost use Rattle.pet_base.specs.Lent.{seen, AreSame};
 ghost use Rattle.pet_base.specs.Seen.{PlaceStops};
 ghost use Rattle.pet_base.specs.LinkSeen.{LinkStops};
 ghost use Rattle.command_send.specs.Failures.{end_of_place, end_of_link};
-ghost use Rattle.datagram_route.specs.Way.{way_of};
+ghost use Rattle.outside_routes.specs.Way.{way_of};
 ghost use Rattle.command_send.specs.Sends.{IsOther, Sends};
 ghost use Rattle.command_send.specs.SendsSession.{SendsSession};
 
 use crate::sent_group::Change;
 use crate::session::{Sent, send_all};
-use datagram_route::Route;
+use outside_routes::Route;
 use mpeg_scan::Scan;
 use pet_base::{Link, Outside, Place, Sink};
 use priority_file::PriorityFault;

@@ -4,7 +4,7 @@ ghost use Rattle.command_send.specs.SendParts.{IsEndOf, IsEndOfStop, end_of_refu
 
 use crate::command::SendEnd;
 use crate::sent_group::Change;
-use datagram_route::RouteStop;
+use outside_routes::RouteStop;
 use pet_base::NoMemory;
 use stream_session::SourceFault;
 
@@ -20,7 +20,7 @@ pub(crate) enum SendFault {
 }
 
 impl From<NoMemory> for SendFault {
-    ghost use Rattle.datagram_route.specs.declared.fault.RouteStop.TheVariants.{NoMemory as no_memory};
+    ghost use Rattle.outside_routes.specs.declared.fault.RouteStop.TheVariants.{NoMemory as no_memory};
     ghost use Rattle.command_send.specs.declared.fault.SendFault.TheVariants.{Stopped};
 
     ghost from_gives = { λ _ fault. fault ≡ Stopped no_memory };

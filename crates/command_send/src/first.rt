@@ -2,8 +2,8 @@
 ghost use Rattle.std.specs.Prelude.{◌≡◌, ◌≤◌, length};
 ghost use Rattle.pet_base.specs.declared.limits.TheConstants.{MAX_GROUPS};
 
-use datagram_route::Route;
-use pet_tables::Gf16Tables;
+use outside_routes::Route;
+use pet_field::Gf16Tables;
 use stream_session::{GroupMark, Source};
 
 /// The session that was read, a mark for each of its groups, the field in which they are coded, and where their packets go.

@@ -5,11 +5,11 @@ use Rattle.pet_base.specs.Causes.{Blames}
 use Rattle.pet_base.specs.declared.place.Side.TheVariants.{Written}
 use Rattle.pet_base.specs.Seen.{Seen, Names, HadFault, with_file}
 use Rattle.pet_base.specs.laws.SeenLaws.{Blames-named, HadFault-since}
-use Rattle.command_files.specs.Outputs.{Puts, PutsPart}
-use Rattle.command_files.specs.Uses.{writing, IsOneOf}
-use Rattle.command_files.specs.Wrote.{Wrote}
-use Rattle.command_files.specs.laws.WroteLaws.{Wrote-file, Wrote-nothing, Wrote-then}
-use Rattle.kept_sets.specs.KeptSet.{KeptSet, IsKeptSet}
+use Rattle.outside_files.specs.Outputs.{Puts, PutsPart}
+use Rattle.outside_files.specs.Uses.{writing, IsOneOf}
+use Rattle.outside_files.specs.Wrote.{Wrote}
+use Rattle.outside_files.specs.laws.WroteLaws.{Wrote-file, Wrote-nothing, Wrote-then}
+use Rattle.packet_verdicts.specs.KeptSet.{KeptSet, IsKeptSet}
 use Rattle.pet_receive.specs.ShownBytes.{groups_told}
 use Rattle.store_text.specs.Files.{HasStore}
 use Rattle.command_video.specs.Ends.{IsPutEnd, PutsFront}

@@ -4,9 +4,9 @@ use Rattle.pet_base.specs.Causes.{Blames}
 use Rattle.pet_base.specs.declared.place.Side.TheVariants.{Written}
 use Rattle.pet_base.specs.Seen.{Seen, Files, Blame, HadFault, Grows}
 use Rattle.pet_base.specs.laws.SeenLaws.{HadFault-since}
-use Rattle.command_files.specs.Outputs.{Puts}
-use Rattle.command_files.specs.laws.PartLaws.{part_after, part_whole}
-use Rattle.kept_sets.specs.KeptSet.{KeptSet}
+use Rattle.outside_files.specs.Outputs.{Puts}
+use Rattle.outside_files.specs.laws.PartLaws.{part_after, part_whole}
+use Rattle.packet_verdicts.specs.KeptSet.{KeptSet}
 use Rattle.pet_receive.specs.ShownBytes.{groups_told}
 use Rattle.command_video.specs.Ends.{IsGroupEnd, IsPutEnd, PutsToTable}
 use Rattle.command_video.specs.StoreVideo.{AreVideos}

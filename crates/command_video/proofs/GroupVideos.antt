@@ -11,13 +11,13 @@ use Rattle.std.proofs.lemmas.List.Sums.{sum_by-le, get_or-le-sum_by}
 use Rattle.std.specs.Prelude.{unwrap_or, option_map, slice_get, nat_le, sum_by}
 use Rattle.std.specs.List.{concat, range_with_len}
 use Rattle.pet_base.specs.declared.limits.TheConstants.{MAX_GROUPS, MAX_GROUP_BYTES}
-use Rattle.pet_field.specs.Gf16.{gf16_coding}
+use Rattle.field_elements.specs.Gf16.{gf16_coding}
 use Rattle.packet_set.specs.Packets.{Packets}
 use Rattle.layer_split.specs.Layers.{run_table_size}
 use Rattle.layer_split.specs.RunTable.{has_table, are_of, named_runs, named_run, run_count, fits}
 use Rattle.stripe_plan.specs.declared.layer.LayerSize.{LayerSize}
 use Rattle.pet_receive.specs.Arrivals.{layers_of}
-use Rattle.kept_sets.specs.KeptSet.{KeptSet, IsKeptSet, IsKeptGroup, open_group}
+use Rattle.packet_verdicts.specs.KeptSet.{KeptSet, IsKeptSet, IsKeptGroup, open_group}
 use Rattle.pet_receive.specs.ShownBytes.{groups_told}
 use Rattle.reassemble.specs.Leading.{lengths_in}
 use Rattle.reassemble.specs.Video.{run_bytes, start_of, group_video}

@@ -2,18 +2,18 @@
 use Rattle.std.proofs.Common.{◌≡◌, ℕ, ◌+◌, ◌<◌, ◌≤◌, true, false, List, [], length, get_or, Some, sym, ap, subst, ◌∙◌, arith, inl, inr}
 use Rattle.std.proofs.lemmas.Bool.{cases_lt}
 use Rattle.std.proofs.lemmas.Option.{same_Some}
-use Rattle.pet_field.specs.Gf16.{gf16_coding}
-use Rattle.pet_field.specs.laws.Gf16Laws.{gf16_lawful}
+use Rattle.field_elements.specs.Gf16.{gf16_coding}
+use Rattle.field_elements.specs.laws.Gf16Laws.{gf16_lawful}
 use Rattle.stripe_plan.specs.Counts.{Meets}
 use Rattle.stripe_plan.specs.Layers.{plan_stripes, words_before}
 use Rattle.stripe_plan.proofs.PlanLemmas.{plan_ends_plan}
 use Rattle.packet_set.specs.Packets.{Packets}
 use Rattle.layer_split.specs.RunTable.{fits}
-use Rattle.pet_encode.specs.Payload.{stripes_in}
+use Rattle.packet_session.specs.Payload.{stripes_in}
 use Rattle.pet_receive.specs.Arrivals.{layers_of}
-use Rattle.kept_sets.specs.KeptSet.{KeptSet, IsKeptSet, open_group}
+use Rattle.packet_verdicts.specs.KeptSet.{KeptSet, IsKeptSet, open_group}
 use Rattle.pet_receive.specs.ShownBytes.{IsShown, IsShownBytes}
-use Rattle.open_group.proofs.Agreement.{same_bytes}
+use Rattle.packet_group.proofs.Agreement.{same_bytes}
 use Rattle.reassemble.specs.Leading.{IsUnfit, lengths_in}
 use Rattle.reassemble.proofs.Layers.{shown_in}
 use Rattle.store_text.specs.laws.ManyFrames.{group_frame}

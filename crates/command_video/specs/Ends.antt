@@ -1,9 +1,9 @@
 -- The end of the command by what a step of it answered. This project's own.
 use Rattle.std.specs.Prelude.{◌≡◌, Bool, true, false, ℕ, ◌<◌, ◌≤◌, List, [], ◌∷◌}
 use Rattle.pet_base.specs.Seen.{Seen}
-use Rattle.command_files.specs.Uses.{reading, Failed}
-use Rattle.command_files.specs.Outputs.{Puts, PutsPart}
-use Rattle.kept_sets.specs.KeptSet.{KeptSet}
+use Rattle.outside_files.specs.Uses.{reading, Failed}
+use Rattle.outside_files.specs.Outputs.{Puts, PutsPart}
+use Rattle.packet_verdicts.specs.KeptSet.{KeptSet}
 use Rattle.pet_receive.specs.ShownBytes.{groups_told}
 use Rattle.store_text.specs.Files.{HasBadStore}
 use Rattle.store_text.specs.declared.fault.BadStore.TheVariants.{At}

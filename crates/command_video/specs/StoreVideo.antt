@@ -1,9 +1,9 @@
 -- What can be shown of a store: the video of each of its groups, in order. This project's own.
 use Rattle.std.specs.Prelude.{◌≡◌, ◌⊎◌, ℕ, ◌<◌, List, [], length, slice_index_or, Some}
 use Rattle.std.specs.List.{concat}
-use Rattle.pet_field.specs.Gf16.{gf16_coding}
+use Rattle.field_elements.specs.Gf16.{gf16_coding}
 use Rattle.packet_set.specs.Packets.{Packets}
-use Rattle.kept_sets.specs.KeptSet.{KeptSet, open_group}
+use Rattle.packet_verdicts.specs.KeptSet.{KeptSet, open_group}
 use Rattle.pet_receive.specs.Arrivals.{numbers_of}
 use Rattle.pet_receive.specs.ShownBytes.{IsShown}
 use Rattle.store_read.specs.Reading.{pairs_in}

@@ -10,8 +10,8 @@ use Rattle.priority_file.specs.Refusals.{priorities_of}
 use Rattle.layer_split.specs.Groups.{groups_of}
 use Rattle.layer_split.specs.Layers.{Cut, cut_of, bytes_of_run}
 use Rattle.layer_split.specs.Places.{placed}
-use Rattle.pet_encode.specs.Session.{SessionGroup}
-use Rattle.met_packets.specs.Met.{Pair, shows}
+use Rattle.packet_session.specs.Session.{SessionGroup}
+use Rattle.packet_met.specs.Met.{Pair, shows}
 use Rattle.stream_session.specs.Accepted.{group_of}
 use Rattle.stream_session.specs.Tables.{cuts_of_stream}
 

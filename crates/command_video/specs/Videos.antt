@@ -1,9 +1,9 @@
 -- What `video` leaves at each of its ends. This project's own.
 use Rattle.std.specs.Prelude.{◌≡◌, ◌⊎◌, ℕ, ◌<◌, ◌≤◌, List, [], ◌∷◌, length, None, Some}
 use Rattle.pet_base.specs.Seen.{Seen}
-use Rattle.command_files.specs.Uses.{reading, writing, Failed}
-use Rattle.command_files.specs.Wrote.{File, Wrote}
-use Rattle.kept_sets.specs.KeptSet.{KeptSet}
+use Rattle.outside_files.specs.Uses.{reading, writing, Failed}
+use Rattle.outside_files.specs.Wrote.{File, Wrote}
+use Rattle.packet_verdicts.specs.KeptSet.{KeptSet}
 use Rattle.pet_receive.specs.ShownBytes.{groups_told}
 use Rattle.store_text.specs.Files.{HasStore, HasBadStore}
 use Rattle.store_text.specs.declared.fault.BadStore.TheVariants.{At}

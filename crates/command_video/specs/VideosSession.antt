@@ -1,9 +1,9 @@
 -- `video` of the store of a session of a stream. This project's own.
 use Rattle.std.specs.Prelude.{◌≡◌, ◌≢◌, ℕ, ◌<◌, true, List, [], ◌∷◌, All, length, Some}
 use Rattle.pet_base.specs.Seen.{Seen, Files, with_file}
-use Rattle.command_files.specs.Uses.{reading, writing, Failed}
-use Rattle.met_packets.specs.Met.{Pair, all_shown}
-use Rattle.met_packets.specs.MetStore.{pairs_store}
+use Rattle.outside_files.specs.Uses.{reading, writing, Failed}
+use Rattle.packet_met.specs.Met.{Pair, all_shown}
+use Rattle.packet_met.specs.MetStore.{pairs_store}
 use Rattle.stream_session.specs.Accepted.{IsAcceptedSession, session_of}
 use Rattle.command_video.specs.StreamVideo.{stream_video, stream_pieces}
 use Rattle.command_video.specs.declared.command.VideoEnd.{VideoEnd}

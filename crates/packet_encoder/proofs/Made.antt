@@ -3,24 +3,24 @@ use Rattle.std.proofs.Common.{◌≡◌, ◌∙◌, ℕ, ◌*◌, ◌<◌, List,
 use Rattle.std.proofs.lemmas.List.{length-map}
 use Rattle.std.proofs.lemmas.List.Elements.{All-map}
 use Rattle.std.proofs.lemmas.List.Folds.{flat_map-map}
-use Rattle.pet_field.specs.Field.{Coding, IsCoding}
+use Rattle.field_elements.specs.Field.{Coding, IsCoding}
 use Rattle.pet_poly.specs.Value.{value}
 use Rattle.pet_poly.specs.laws.HornerLaws.{value_is}
 use Rattle.pet_poly.specs.Rows.{words}
 use Rattle.pet_poly.specs.laws.RowLaws.{words_of_spellings}
-use Rattle.pet_rows.specs.Blocks.{columns_of, width_of}
-use Rattle.pet_rows.specs.declared.blocks.Block.{Block}
-use Rattle.pet_rows.specs.laws.BlockLaws.{width_is_count}
+use Rattle.field_rows.specs.Blocks.{columns_of, width_of}
+use Rattle.field_rows.specs.declared.blocks.Block.{Block}
+use Rattle.field_rows.specs.laws.BlockLaws.{width_is_count}
 use Rattle.stripe_plan.specs.Layers.{needs_of, plan_ends, plan_stripes}
 use Rattle.packet_frame.specs.Frame.{Fields}
 use Rattle.packet_frame.specs.Planned.{planned_text}
 use Rattle.packet_frame.specs.declared.format.Format.{Format}
 use Rattle.packet_frame.specs.View.{fields_with}
 use Rattle.packet_frame.specs.declared.frame.Header.{Header}
-use Rattle.pet_encode.specs.Encoding.{Encoding, frame_of, values_at}
-use Rattle.pet_encode.specs.Payload.{cut_in_stripes, values_of}
+use Rattle.packet_session.specs.Encoding.{Encoding, frame_of, values_at}
+use Rattle.packet_session.specs.Payload.{cut_in_stripes, values_of}
 use Rattle.packet_encoder.specs.Stored.{IsStored, words_in}
-use Rattle.pet_encode.specs.laws.PayloadLaws.{stripe_count}
+use Rattle.packet_session.specs.laws.PayloadLaws.{stripe_count}
 use Rattle.packet_encoder.proofs.Message.{are, payload_is, payload_length, stripes_are, words_are_elements, words_are_whole}
 
 -- the values that a packet carries are those of the columns at its point

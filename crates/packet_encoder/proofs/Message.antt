@@ -2,21 +2,21 @@
 use Rattle.std.proofs.Common.{◌≡◌, ℕ, ◌+◌, ◌*◌, ◌<◌, List, [], ◌∷◌, All, length, get_or, take, drop, flat_map, sym, ap, subst, ◌∙◌, arith, refl, length-append}
 use Rattle.std.proofs.lemmas.List.{length-map}
 use Rattle.std.proofs.lemmas.List.Elements.{All-nil, All-head, All-tail, All-append, All-from_get_or}
-use Rattle.pet_field.specs.Field.{Coding, IsCoding}
+use Rattle.field_elements.specs.Field.{Coding, IsCoding}
 use Rattle.pet_poly.specs.Rows.{words}
 use Rattle.pet_poly.specs.laws.RowLaws.{length-words, words_are, spellings_of_words}
-use Rattle.pet_rows.specs.Blocks.{columns_of, lengths_of, size_of, stripes_of}
-use Rattle.pet_rows.specs.declared.blocks.Block.{Block}
+use Rattle.field_rows.specs.Blocks.{columns_of, lengths_of, size_of, stripes_of}
+use Rattle.field_rows.specs.declared.blocks.Block.{Block}
 use Rattle.stripe_plan.specs.Layers.{needs_of, plan_ends, plan_stripes, stripes_from}
 use Rattle.stripe_plan.specs.laws.StripeLaws.{plan_partition}
 use Rattle.stripe_plan.proofs.PlanLemmas.{plan_ends_plan}
 use Rattle.packet_frame.specs.declared.frame.Header.{Header}
-use Rattle.pet_encode.specs.Payload.{cut_in_stripes, payload_at, values_of}
-use Rattle.pet_encode.specs.laws.PayloadLaws.{length-values, payload_of_words, stripe_count}
+use Rattle.packet_session.specs.Payload.{cut_in_stripes, payload_at, values_of}
+use Rattle.packet_session.specs.laws.PayloadLaws.{length-values, payload_of_words, stripe_count}
 use Rattle.packet_encoder.specs.Stored.{IsStored, words_in}
 use Rattle.packet_encoder.proofs.Columns.{length-on_end, All-on_end, cut_again}
-use Rattle.pet_rows.specs.laws.BlockLaws.{column_lengths, columns_are, elements_of_columns, stripes_of_row}
-use Rattle.pet_rows.specs.laws.StripeLaws.{stripes_are as stripes_by_are}
+use Rattle.field_rows.specs.laws.BlockLaws.{column_lengths, columns_are, elements_of_columns, stripes_of_row}
+use Rattle.field_rows.specs.laws.StripeLaws.{stripes_are as stripes_by_are}
 
 module _ {E : Type 0} (P : E → Type 0) (count : ℕ) (c : Coding E) (laws : IsCoding P count c) where
   -- a row is written in `width` bytes an element

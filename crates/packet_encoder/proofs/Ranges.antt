@@ -6,18 +6,18 @@ use Rattle.std.proofs.lemmas.Bool.{cases_lt}
 use Rattle.std.proofs.lemmas.List.{append-nil}
 use Rattle.std.proofs.lemmas.List.FromFn.{map-range_with_len_more}
 use Rattle.std.proofs.lemmas.Grind.{flat_map-append}
-use Rattle.pet_field.specs.Field.{Coding, IsCoding}
+use Rattle.field_elements.specs.Field.{Coding, IsCoding}
 use Rattle.pet_poly.specs.Value.{value}
-use Rattle.pet_rows.specs.Blocks.{columns_of}
-use Rattle.pet_rows.specs.declared.blocks.Block.{Block}
-use Rattle.point_values.proofs.RowAfterRow.{row_within}
+use Rattle.field_rows.specs.Blocks.{columns_of}
+use Rattle.field_rows.specs.declared.blocks.Block.{Block}
+use Rattle.field_values.proofs.RowAfterRow.{row_within}
 use Rattle.stripe_plan.specs.Layers.{plan_stripes}
 use Rattle.packet_frame.specs.declared.format.Format.{Format}
 use Rattle.packet_frame.specs.Planned.{IsPlannedFrame, planned_text}
 use Rattle.packet_frame.specs.declared.frame.Header.{Header}
-use Rattle.pet_encode.specs.Encoding.{Encoding, frame_of, values_at}
+use Rattle.packet_session.specs.Encoding.{Encoding, frame_of, values_at}
 use Rattle.packet_encoder.specs.CodedGroup.{frames_by}
-use Rattle.point_values.specs.Matrix.{HasRows}
+use Rattle.field_values.specs.Matrix.{HasRows}
 use Rattle.packet_encoder.specs.Stored.{IsStored, words_in}
 use Rattle.packet_encoder.proofs.Made.{carries}
 

@@ -1,10 +1,10 @@
 -- What contracts see of an encoder of any format, and the frames that it makes. This project's own.
 use Rattle.std.specs.Prelude.{ℕ, List}
 use Rattle.std.specs.List.{flat_map, range_with_len}
-use Rattle.pet_field.specs.Field.{Coding}
+use Rattle.field_elements.specs.Field.{Coding}
 use Rattle.packet_frame.specs.declared.format.Format.{Format}
 use Rattle.packet_frame.specs.Planned.{planned_text}
-use Rattle.pet_encode.specs.Encoding.{Encoding, frame_of}
+use Rattle.packet_session.specs.Encoding.{Encoding, frame_of}
 
 -- the format of its frames, and what the packets share with the message that they carry
 pub record CodedGroup : Type 0 where

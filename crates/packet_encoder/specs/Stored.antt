@@ -2,10 +2,10 @@
 use Rattle.std.specs.Prelude.{◌≡◌, ℕ, ◌<◌, ◌≤◌, List, length, All}
 use Rattle.std.specs.List.{flat_map}
 use Rattle.pet_base.specs.declared.limits.TheConstants.{MAX_GROUPS}
-use Rattle.pet_field.specs.Field.{Coding}
-use Rattle.pet_rows.specs.Blocks.{columns_of, lengths_of, size_of}
-use Rattle.pet_rows.specs.declared.blocks.Block.{Block}
-use Rattle.pet_rows.specs.declared.blocks.TheConstants.{MAX_WIDTH}
+use Rattle.field_elements.specs.Field.{Coding}
+use Rattle.field_rows.specs.Blocks.{columns_of, lengths_of, size_of}
+use Rattle.field_rows.specs.declared.blocks.Block.{Block}
+use Rattle.field_rows.specs.declared.blocks.TheConstants.{MAX_WIDTH}
 use Rattle.stripe_plan.specs.Layers.{needs_of, stripe_lengths}
 use Rattle.stripe_plan.specs.Sizes.{IsTable}
 use Rattle.packet_frame.specs.declared.format.Format.{Format}

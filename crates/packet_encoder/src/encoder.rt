@@ -3,9 +3,9 @@ ghost use Rattle.std.specs.Prelude.{◌≡◌, ℕ, ◌+◌, ◌*◌, ◌<◌, �
 ghost use Rattle.packet_encoder.specs.CodedGroup.{frames_by};
 ghost use Rattle.packet_frame.specs.Format.{IsFormat};
 ghost use Rattle.packet_frame.specs.Planned.{planned_text, IsPlannedFrame, IsPlanTableIn};
-ghost use Rattle.pet_encode.specs.Encoding.{IsGroupOf, frame_of, values_at};
-ghost use Rattle.pet_encode.specs.Session.{Session, IsMessage, IsPacketOf};
-ghost use Rattle.point_values.specs.Matrix.{HasRows};
+ghost use Rattle.packet_session.specs.Encoding.{IsGroupOf, frame_of, values_at};
+ghost use Rattle.packet_session.specs.Session.{Session, IsMessage, IsPacketOf};
+ghost use Rattle.field_values.specs.Matrix.{HasRows};
 ghost use Rattle.stripe_plan.specs.Layers.{needs_of, plan_stripes};
 ghost use Rattle.stripe_plan.specs.Sizes.{IsTable};
 
@@ -13,9 +13,9 @@ use crate::laid::{laid_out, plan_blocks};
 use crate::values::{append_elements, elements, stripe_values};
 use packet_frame::{Format, Header, begin_planned, end_planned};
 use pet_base::{MAX_DATAGRAM, MAX_GROUPS, NoMemory, Steps};
-use pet_field::Field;
-use pet_rows::{Block, Rows};
-use point_values::AllValues;
+use field_elements::Field;
+use field_rows::{Block, Rows};
+use field_values::AllValues;
 use std::alloc::Global;
 use std::marker::Model;
 use std::sync::ledger::Ledger;

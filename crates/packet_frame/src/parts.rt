@@ -15,6 +15,9 @@ use stripe_plan::LayerSize;
 /// The bytes before the layers.
 pub(crate) const HEAD: usize = HEAD_LENGTH as usize;
 
+/// Where the number of layers stands, in one byte: the last one before the layers.
+pub(crate) const LAYER_COUNT: usize = HEAD - 1;
+
 /// The bytes of a layer: its length and its need.
 pub(crate) const LAYER: usize = LAYER_LENGTH as usize;
 

@@ -8,7 +8,9 @@ ghost use Rattle.packet_frame.specs.Refusals.{fields_in, count_of, first_fault_i
 
 use crate::fault::{Field1, FrameFault};
 use crate::format::Format;
-use crate::parts::{HEAD, Head, LAYER, Parts, has_tag, head_in, layers_in, payload_in};
+use crate::parts::{
+    HEAD, Head, LAYER, LAYER_COUNT, Parts, has_tag, head_in, layers_in, payload_in,
+};
 use arrayvec::ArrayVec;
 use pet_base::{MAX_GROUPS, MAX_LAYERS};
 use stripe_plan::{LayerSize, TableFault, measured};
@@ -24,7 +26,7 @@ pub fn read_text<'a>(format: &Format, bytes: &'a [u8]) -> Result<Parts<'a>, Fram
         IsTableIn format.now.bounds parts.head.packets parts.layers.items) }
 {
     let head = read_head(format, bytes)?;
-    let count = bytes[24];
+    let count = bytes[LAYER_COUNT];
     let sized = read_layers(format, bytes, count, head.packets)?;
     check_end(format, bytes, count, sized.stripes)?;
     let payload = payload_in(format, bytes, count);
@@ -98,7 +100,7 @@ fn check_room(format: &Format, bytes: &[u8]) -> Result<(), FrameFault>
         × (count_of bytes.now ≤ format.now.bounds.layers)) }
     ensures room { OnOk result (bare_length format.now (count_of bytes.now) ≤ length bytes.now) }
 {
-    let count = bytes[24];
+    let count = bytes[LAYER_COUNT];
     if count == 0 || usize::from(count) > format.bounds.layers {
         return Err(FrameFault::Range(Field1::Layers));
     }

@@ -9,25 +9,25 @@ use Rattle.std.specs.List.Sorted.{IsStrictlySortedBy}
 use Rattle.std.proofs.lemmas.Option.{none-some, same_Some}
 use Rattle.std.proofs.lemmas.List.{length-replicate}
 use Rattle.std.proofs.lemmas.List.Elements.{recursion_from_All}
-use Rattle.pet_field.specs.Field.{Coding}
+use Rattle.field_elements.specs.Field.{Coding}
 use Rattle.stripe_plan.specs.Sizes.{IsTable}
 use Rattle.packet_frame.specs.declared.frame.Header.{Header}
 use Rattle.packet_set.specs.Packets.{Packets, slot_at, count_in, no_packets_of}
-use Rattle.kept_sets.specs.KeptSet.{KeptSet, IsKeptSet, IsKeptSetBy, IsKeptGroupBy, open_group, count_kept, cost_kept, told_by}
+use Rattle.packet_verdicts.specs.KeptSet.{KeptSet, IsKeptSet, IsKeptSetBy, IsKeptGroupBy, open_group, count_kept, cost_kept, told_by}
 use Rattle.packet_receiver.specs.Arrivals.{GroupState, ReceiverState, Order, HoldsAfter, HasKept, layers_of, numbers_of, kept_set, state_of}
 use Rattle.packet_receiver.specs.UnionSteps.{union_steps}
-use Rattle.kept_sets.specs.Union.{join_slots, join_group, join_groups, is_new, new_numbers, new_pairs, union, absorb_fault, shown_by_union}
-use Rattle.kept_sets.specs.Verdicts.{shown_between}
-use Rattle.kept_sets.specs.laws.UnionSound.{union_count, added_to}
+use Rattle.packet_verdicts.specs.Union.{join_slots, join_group, join_groups, is_new, new_numbers, new_pairs, union, absorb_fault, shown_by_union}
+use Rattle.packet_verdicts.specs.Verdicts.{shown_between}
+use Rattle.packet_verdicts.specs.laws.UnionSound.{union_count, added_to}
 use Rattle.packet_receiver.specs.Receiving.{IsReceiver}
 use Rattle.packet_receiver.specs.Joining.{packets_of, OpensAll, JoinsAll, CanJoin, IsReadyAt, IsFillable}
-use Rattle.kept_sets.specs.laws.EntryLaws.{weight, keys_values, all_found}
-use Rattle.kept_sets.specs.laws.KeptSetLaws.{none_in, count_none}
-use Rattle.kept_sets.specs.laws.JoinedGroups.{found, Rises, join_open, found_join, rises_join}
-use Rattle.kept_sets.specs.laws.SameSets.{same_entries}
-use Rattle.kept_sets.specs.laws.FitLaws.{Agrees, some_frame}
-use Rattle.kept_sets.specs.laws.FitExactly.{fit_agrees, fit_within}
-use Rattle.kept_sets.specs.laws.UnionKept.{IsFrom, open_from, one_header, union_sound, union_told}
+use Rattle.packet_verdicts.specs.laws.EntryLaws.{weight, keys_values, all_found}
+use Rattle.packet_verdicts.specs.laws.KeptSetLaws.{none_in, count_none}
+use Rattle.packet_verdicts.specs.laws.JoinedGroups.{found, Rises, join_open, found_join, rises_join}
+use Rattle.packet_verdicts.specs.laws.SameSets.{same_entries}
+use Rattle.packet_verdicts.specs.laws.FitLaws.{Agrees, some_frame}
+use Rattle.packet_verdicts.specs.laws.FitExactly.{fit_agrees, fit_within}
+use Rattle.packet_verdicts.specs.laws.UnionKept.{IsFrom, open_from, one_header, union_sound, union_told}
 use Rattle.packet_receiver.proofs.Received.{found_in}
 use Rattle.packet_receiver.proofs.Joined.{SameNew, same_pairs, same_steps, packets_found, rises_packets, StandsOpened, SameLayers, joins_packets, joins_order, joins_steps, opened_at, opened_rises, opened_stands}
 

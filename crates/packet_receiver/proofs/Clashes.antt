@@ -3,9 +3,9 @@ use Rattle.std.specs.Prelude.{is_none, if◌then◌else◌, nat_lt, sum_by}
 use Rattle.std.proofs.Common.{◌≡◌, ℕ, ◌+◌, ◌≤◌, cond, Bool, true, false, List, [], ◌∷◌, Option, None, Some, refl, ap, ◌∙◌, arith}
 use Rattle.std.proofs.lemmas.List.Sums.{sum_by-cons}
 use Rattle.packet_set.specs.Packets.{Packets}
-use Rattle.kept_sets.specs.KeptSet.{cost_in}
-use Rattle.kept_sets.specs.Union.{first_past}
-use Rattle.kept_sets.specs.GroupClash.{first_clash_in}
+use Rattle.packet_verdicts.specs.KeptSet.{cost_in}
+use Rattle.packet_verdicts.specs.Union.{first_past}
+use Rattle.packet_verdicts.specs.GroupClash.{first_clash_in}
 use Rattle.packet_receiver.specs.Joining.{packets_at, clash_or, clash_from, new_of, cost_beside}
 
 module _ (mine : List (ℕ × Packets)) where

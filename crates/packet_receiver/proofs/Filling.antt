@@ -11,18 +11,18 @@ use Rattle.std.proofs.lemmas.Bool.{cases_eq, cases_lt}
 use Rattle.std.proofs.lemmas.List.{length-set, get_or-set_same, get_or-set_other, get_or_past, length-append, append_assoc, same_lists, get_or_default}
 use Rattle.std.proofs.lemmas.List.FromFn.{map-range_with_len_more}
 use Rattle.std.proofs.lemmas.List.Sums.{sum_by-append, sum_by-cons}
-use Rattle.pet_field.specs.Field.{Coding}
+use Rattle.field_elements.specs.Field.{Coding}
 use Rattle.stripe_plan.specs.Sizes.{IsTable}
 use Rattle.packet_frame.specs.declared.frame.Header.{Header}
 use Rattle.packet_set.specs.Packets.{Packets, IsPackets, slot_at, count_in, payload_length}
-use Rattle.interpolation.specs.Progressive.{step_bound}
+use Rattle.pet_interp.specs.Progressive.{step_bound}
 use Rattle.packet_receiver.specs.Arrivals.{GroupState, HoldsAfter, layers_of, stripe_lengths}
 use Rattle.packet_receiver.specs.UnionSteps.{steps_after}
-use Rattle.kept_sets.specs.Union.{join_slots, is_new, new_numbers}
+use Rattle.packet_verdicts.specs.Union.{join_slots, is_new, new_numbers}
 use Rattle.packet_receiver.specs.Joining.{with_slot, with_theirs, IsFillable, IsFilledTo, HasFilled, IsReadyAt, CanJoin, JoinsOne, JoinsAll}
-use Rattle.kept_sets.specs.laws.EntryLaws.{lookup_here, lookup_other, set_is_insert}
-use Rattle.kept_sets.specs.laws.LayerSetLaws.{filter_more}
-use Rattle.kept_sets.specs.laws.JoinedGroups.{length_join, slot_join}
+use Rattle.packet_verdicts.specs.laws.EntryLaws.{lookup_here, lookup_other, set_is_insert}
+use Rattle.packet_verdicts.specs.laws.LayerSetLaws.{filter_more}
+use Rattle.packet_verdicts.specs.laws.JoinedGroups.{length_join, slot_join}
 
 -- a payload that is kept has the length of the group's payloads
 pub payload_long : (p : Packets) → IsPackets p → (number : ℕ) (payload : List ℕ) → Some payload ≡ slot_at p number → length payload ≡ payload_length p

@@ -13,16 +13,16 @@ use Rattle.packet_frame.specs.Frame.{Fields}
 use Rattle.packet_frame.specs.View.{fields_with}
 use Rattle.packet_frame.specs.declared.frame.Header.{Header}
 use Rattle.packet_set.specs.Packets.{Packets, slot_at}
-use Rattle.kept_sets.specs.declared.union.Absorb.{Absorb}
-use Rattle.kept_sets.specs.declared.union.Absorb.TheVariants.{OtherSession, Clash, Full}
-use Rattle.kept_sets.specs.KeptSet.{KeptSet, IsKeptSet, told_by}
-use Rattle.kept_sets.specs.Verdicts.{clashes, tells_other_count}
+use Rattle.packet_verdicts.specs.declared.union.Absorb.{Absorb}
+use Rattle.packet_verdicts.specs.declared.union.Absorb.TheVariants.{OtherSession, Clash, Full}
+use Rattle.packet_verdicts.specs.KeptSet.{KeptSet, IsKeptSet, told_by}
+use Rattle.packet_verdicts.specs.Verdicts.{clashes, tells_other_count}
 use Rattle.packet_receiver.specs.Arrivals.{GroupState, ReceiverState, kept_set}
-use Rattle.kept_sets.specs.Union.{frames_in_group, first_clash, first_full, then_clash, then_full, absorb_fault}
-use Rattle.kept_sets.specs.GroupClash.{is_other_payload, clashes_by}
+use Rattle.packet_verdicts.specs.Union.{frames_in_group, first_clash, first_full, then_clash, then_full, absorb_fault}
+use Rattle.packet_verdicts.specs.GroupClash.{is_other_payload, clashes_by}
 use Rattle.packet_receiver.specs.Joining.{packets_of, packets_at, clash_or, clash_from}
-use Rattle.kept_sets.specs.laws.EntryLaws.{lookup_values, keys_values, all_found}
-use Rattle.kept_sets.specs.laws.JoinedGroups.{Rises}
+use Rattle.packet_verdicts.specs.laws.EntryLaws.{lookup_values, keys_values, all_found}
+use Rattle.packet_verdicts.specs.laws.JoinedGroups.{Rises}
 use Rattle.packet_receiver.proofs.Received.{count_told}
 use Rattle.packet_receiver.proofs.Clashes.{clash_next, clash_end}
 

@@ -6,16 +6,16 @@ use Rattle.std.specs.Map.{lookup, keys_of, set_value}
 use Rattle.std.specs.BTreeMap.{is_at, insert_entry}
 use Rattle.std.proofs.lemmas.List.{length-replicate}
 use Rattle.std.proofs.lemmas.Option.{same_Some}
-use Rattle.pet_field.specs.Field.{Coding}
+use Rattle.field_elements.specs.Field.{Coding}
 use Rattle.packet_frame.specs.Frame.{Fields}
 use Rattle.packet_set.specs.Packets.{Packets, slot_at, with_packet, count_in, no_packets_of}
-use Rattle.interpolation.specs.Progressive.{step_bound}
-use Rattle.kept_sets.specs.KeptSet.{header_of}
+use Rattle.pet_interp.specs.Progressive.{step_bound}
+use Rattle.packet_verdicts.specs.KeptSet.{header_of}
 use Rattle.packet_receiver.specs.Arrivals.{GroupState, HoldsAfter, stripe_lengths}
 use Rattle.packet_receiver.specs.Receiving.{IsReadyFor, HasGrown}
 use Rattle.packet_receiver.specs.Joining.{OpensOne}
-use Rattle.kept_sets.specs.laws.EntryLaws.{lookup_here, set_is_insert, insert_twice}
-use Rattle.kept_sets.specs.laws.KeptSetLaws.{none_in, count_none}
+use Rattle.packet_verdicts.specs.laws.EntryLaws.{lookup_here, set_is_insert, insert_twice}
+use Rattle.packet_verdicts.specs.laws.KeptSetLaws.{none_in, count_none}
 
 module _ {E : Type 0} (P : E → Type 0) (c : Coding E) (es : List (ℕ × GroupState E)) (f : Fields) where
   -- what is written of the open group

@@ -10,14 +10,14 @@ use Rattle.std.proofs.lemmas.List.{append_assoc, append-nil, map-append}
 use Rattle.std.proofs.lemmas.List.Elements.{filter-append}
 use Rattle.std.proofs.lemmas.List.Sums.{sum_by-cons}
 use Rattle.std.proofs.lemmas.Map.Keys.{sorted_head}
-use Rattle.pet_field.specs.Field.{Coding}
+use Rattle.field_elements.specs.Field.{Coding}
 use Rattle.packet_set.specs.Packets.{Packets, count_in, no_packets_of}
 use Rattle.packet_receiver.specs.Arrivals.{GroupState, Order, HoldsAfter, layers_of, stripe_lengths, numbers_of}
 use Rattle.packet_receiver.specs.UnionSteps.{steps_after}
-use Rattle.kept_sets.specs.Union.{join_group, join_groups, new_numbers}
+use Rattle.packet_verdicts.specs.Union.{join_group, join_groups, new_numbers}
 use Rattle.packet_receiver.specs.Joining.{packets_of, OpensAll, JoinsOne, JoinsAll}
-use Rattle.kept_sets.specs.laws.EntryLaws.{cmp_says_less, weight, lookup_here, lookup_other, rises_insert, lookup_values, insert_values, keys_values}
-use Rattle.kept_sets.specs.laws.JoinedGroups.{found, Rises, found_first, found_later, rises_later}
+use Rattle.packet_verdicts.specs.laws.EntryLaws.{cmp_says_less, weight, lookup_here, lookup_other, rises_insert, lookup_values, insert_values, keys_values}
+use Rattle.packet_verdicts.specs.laws.JoinedGroups.{found, Rises, found_first, found_later, rises_later}
 
 -- ---- what is new beside two lists of entries
 

@@ -5,10 +5,10 @@ use Rattle.std.specs.Ordering.{match_ordering}
 use Rattle.std.specs.BTreeMap.{is_at, insert_entry}
 use Rattle.std.specs.Map.{lookup}
 use Rattle.std.proofs.lemmas.List.Elements.{All-head, All-tail}
-use Rattle.pet_field.specs.Field.{Coding}
+use Rattle.field_elements.specs.Field.{Coding}
 use Rattle.packet_frame.specs.declared.frame.Header.{Header}
 use Rattle.packet_set.specs.Packets.{count_in, no_packets_of}
-use Rattle.kept_sets.specs.laws.KeptSetLaws.{count_none}
+use Rattle.packet_verdicts.specs.laws.KeptSetLaws.{count_none}
 use Rattle.packet_receiver.specs.Arrivals.{GroupState, HoldsAfter}
 use Rattle.packet_receiver.specs.Joining.{OpensOne, OpensAll}
 

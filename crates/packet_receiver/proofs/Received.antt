@@ -12,22 +12,22 @@ use Rattle.std.proofs.lemmas.Option.{same_Some}
 use Rattle.std.proofs.lemmas.List.{map-append, append-nil}
 use Rattle.std.proofs.lemmas.List.Elements.{filter-append, All-head}
 use Rattle.std.proofs.lemmas.List.Folds.{list_any_none}
-use Rattle.pet_field.specs.Field.{Coding}
+use Rattle.field_elements.specs.Field.{Coding}
 use Rattle.stripe_plan.specs.Same.{same_table}
 use Rattle.packet_frame.specs.Frame.{Fields, IsFrameBy}
 use Rattle.packet_frame.specs.declared.frame.Header.{Header}
 use Rattle.packet_set.specs.Packets.{Packets, slot_at, with_packet, count_in, no_packets_of}
 use Rattle.stripe_plan.specs.Sizes.{cost_by}
-use Rattle.kept_sets.specs.declared.verdict.Verdict.{Verdict}
-use Rattle.kept_sets.specs.declared.verdict.Verdict.TheVariants.{Foreign, Clash, Repeated, Full, Kept}
-use Rattle.kept_sets.specs.KeptSet.{KeptSet, IsKeptSetBy, open_group, payload_of, count_kept, cost_kept, header_of, group_with_by, keep_by, told_by}
-use Rattle.kept_sets.specs.Verdicts.{tells_other_count, clashes, is_too_much_by, newly_shown, frame_verdict_by, layer_set, shown_between, is_kept}
+use Rattle.packet_verdicts.specs.declared.verdict.Verdict.{Verdict}
+use Rattle.packet_verdicts.specs.declared.verdict.Verdict.TheVariants.{Foreign, Clash, Repeated, Full, Kept}
+use Rattle.packet_verdicts.specs.KeptSet.{KeptSet, IsKeptSetBy, open_group, payload_of, count_kept, cost_kept, header_of, group_with_by, keep_by, told_by}
+use Rattle.packet_verdicts.specs.Verdicts.{tells_other_count, clashes, is_too_much_by, newly_shown, frame_verdict_by, layer_set, shown_between, is_kept}
 use Rattle.packet_receiver.specs.Arrivals.{GroupState, ReceiverState, Order, HoldsAfter, HasKept, kept_set, state_of, numbers_of}
-use Rattle.kept_sets.specs.GroupVerdict.{verdict_at, verdict_in}
+use Rattle.packet_verdicts.specs.GroupVerdict.{verdict_at, verdict_in}
 use Rattle.packet_receiver.specs.Receiving.{IsReceiver, IsReadyFor, HasGrown, verdict_new, verdict_by}
-use Rattle.kept_sets.specs.laws.EntryLaws.{lookup_here, lookup_other, lookup_values, insert_values, all_found}
-use Rattle.kept_sets.specs.laws.ToldLaws.{open_tells}
-use Rattle.kept_sets.specs.laws.KeptSetLaws.{IsKeepableBy, keepable, keep_sound, open_here_by, header_with, cost_opened, cost_same}
+use Rattle.packet_verdicts.specs.laws.EntryLaws.{lookup_here, lookup_other, lookup_values, insert_values, all_found}
+use Rattle.packet_verdicts.specs.laws.ToldLaws.{open_tells}
+use Rattle.packet_verdicts.specs.laws.KeptSetLaws.{IsKeepableBy, keepable, keep_sound, open_here_by, header_with, cost_opened, cost_same}
 
 any_by : {A : Type 0} (test : A → Bool) (x : A) (xs : List A) (b : Bool) → All (λ t. test t ≡ b) (x ∷ xs) → list_any test (x ∷ xs) ≡ b
 any_by test x xs true h = ap (λ a. a || list_any test xs) (All-head (λ t. test t ≡ true) x xs h)

@@ -21,13 +21,13 @@ use Rattle.std.proofs.lemmas.Map.Steps.{le-length_from_below}
 use Rattle.pet_base.specs.declared.limits.TheConstants.{MAX_GROUPS, MAX_PACKETS, MAX_LAYERS}
 use Rattle.stripe_plan.specs.Layers.{count_of}
 use Rattle.packet_set.specs.Packets.{Packets, count_in}
-use Rattle.kept_sets.specs.KeptSet.{KeptSet, IsKeptSetBy, open_group, told_by}
+use Rattle.packet_verdicts.specs.KeptSet.{KeptSet, IsKeptSetBy, open_group, told_by}
 use Rattle.packet_receiver.specs.Arrivals.{GroupState, layers_of}
-use Rattle.kept_sets.specs.GroupLayers.{shown_in, is_whole, whole_in}
+use Rattle.packet_verdicts.specs.GroupLayers.{shown_in, is_whole, whole_in}
 use Rattle.packet_receiver.specs.ShownBytes.{IsShownIn, IsComplete, groups_told}
-use Rattle.kept_sets.specs.laws.EntryLaws.{all_found, rises_insert, sum_insert}
-use Rattle.kept_sets.specs.laws.LayerSetLaws.{one-le}
-use Rattle.kept_sets.specs.laws.ToldLaws.{first_some, none_open, open_tells}
+use Rattle.packet_verdicts.specs.laws.EntryLaws.{all_found, rises_insert, sum_insert}
+use Rattle.packet_verdicts.specs.laws.LayerSetLaws.{one-le}
+use Rattle.packet_verdicts.specs.laws.ToldLaws.{first_some, none_open, open_tells}
 
 -- ---- counting
 

@@ -1,7 +1,7 @@
 -- What is counted of each open group of a receiver. This project's own.
 use Rattle.std.specs.Prelude.{ℕ}
 use Rattle.packet_set.specs.Packets.{Packets, count_in}
-use Rattle.kept_sets.specs.GroupLayers.{shown_in, whole_in}
+use Rattle.packet_verdicts.specs.GroupLayers.{shown_in, whole_in}
 use Rattle.packet_receiver.specs.declared.totals.Count.{Count}
 use Rattle.packet_receiver.specs.declared.totals.Count.TheVariants.{Packets as Kept, Shown, Whole}
 

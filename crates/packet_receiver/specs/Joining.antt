@@ -5,17 +5,17 @@ use Rattle.std.specs.Ordering.{nat_cmp}
 use Rattle.std.specs.BTreeMap.{is_at, insert_entry}
 use Rattle.std.specs.Map.{lookup}
 use Rattle.std.specs.List.{range_with_len, flat_map}
-use Rattle.pet_field.specs.Field.{Coding}
+use Rattle.field_elements.specs.Field.{Coding}
 use Rattle.stripe_plan.specs.Sizes.{IsTable}
 use Rattle.packet_frame.specs.declared.frame.Header.{Header}
 use Rattle.packet_set.specs.Packets.{Packets, slot_at, with_packet, count_in, no_packets_of}
-use Rattle.kept_sets.specs.GroupClash.{first_clash_in}
-use Rattle.kept_sets.specs.GroupLayers.{shown_by_both}
+use Rattle.packet_verdicts.specs.GroupClash.{first_clash_in}
+use Rattle.packet_verdicts.specs.GroupLayers.{shown_by_both}
 use Rattle.packet_receiver.specs.Arrivals.{GroupState, HoldsAfter, layers_of, stripe_lengths}
 use Rattle.packet_receiver.specs.UnionSteps.{steps_after}
-use Rattle.kept_sets.specs.Union.{join_group, is_new, new_numbers}
-use Rattle.kept_sets.specs.declared.union.Absorb.{Absorb}
-use Rattle.kept_sets.specs.declared.union.Absorb.TheVariants.{Clash}
+use Rattle.packet_verdicts.specs.Union.{join_group, is_new, new_numbers}
+use Rattle.packet_verdicts.specs.declared.union.Absorb.{Absorb}
+use Rattle.packet_verdicts.specs.declared.union.Absorb.TheVariants.{Clash}
 
 -- the packets of groups, where each has them so
 abbrev pub packets_by : {G : Type 0} → (G → Packets) → List (ℕ × G) → List (ℕ × Packets)

@@ -3,15 +3,15 @@ use Rattle.std.specs.Prelude.{◌≡◌, ℕ, ◌+◌, ◌^◌, ◌<◌, ◌≤�
 use Rattle.std.specs.Ordering.{nat_cmp}
 use Rattle.std.specs.BTreeMap.{is_at, insert_entry}
 use Rattle.std.specs.Map.{lookup}
-use Rattle.pet_field.specs.Field.{Coding}
+use Rattle.field_elements.specs.Field.{Coding}
 use Rattle.packet_frame.specs.Frame.{Fields}
 use Rattle.packet_set.specs.Packets.{Packets, slot_at, with_packet, no_packets_of}
 use Rattle.stripe_plan.specs.Sizes.{cost_by, ArePlanBounds}
 use Rattle.packet_frame.specs.Format.{IsFormat}
-use Rattle.kept_sets.specs.declared.verdict.Verdict.{Verdict}
-use Rattle.kept_sets.specs.declared.verdict.Verdict.TheVariants.{Full}
-use Rattle.kept_sets.specs.KeptSet.{IsKeptSetBy, cost_kept, told_by, header_of}
-use Rattle.kept_sets.specs.GroupVerdict.{verdict_in, shows_next}
+use Rattle.packet_verdicts.specs.declared.verdict.Verdict.{Verdict}
+use Rattle.packet_verdicts.specs.declared.verdict.Verdict.TheVariants.{Full}
+use Rattle.packet_verdicts.specs.KeptSet.{IsKeptSetBy, cost_kept, told_by, header_of}
+use Rattle.packet_verdicts.specs.GroupVerdict.{verdict_in, shows_next}
 use Rattle.packet_receiver.specs.Arrivals.{GroupState, ReceiverState, Order, HoldsAfter, kept_set, state_of, HasKept}
 
 -- where its group is not open

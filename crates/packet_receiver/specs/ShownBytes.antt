@@ -1,10 +1,10 @@
 -- The layers that a kept set shows, and when it shows all of a session. This project's own.
 use Rattle.std.specs.Prelude.{ℕ, ◌<◌, length, sum_by, unwrap_or, MatchOption}
-use Rattle.kept_sets.specs.KeptSet.{KeptSet, open_group, told_by}
+use Rattle.packet_verdicts.specs.KeptSet.{KeptSet, open_group, told_by}
 use Rattle.packet_receiver.specs.Arrivals.{layers_of}
 -- the bytes of one layer, and how many layers of a group are shown, are defined with the group
-pub use Rattle.open_group.specs.ShownBytes.{IsShownIn, IsShownBytes, Agrees}
-pub use Rattle.kept_sets.specs.GroupLayers.{shown_in}
+pub use Rattle.packet_group.specs.ShownBytes.{IsShownIn, IsShownBytes, Agrees}
+pub use Rattle.packet_verdicts.specs.GroupLayers.{shown_in}
 
 -- the group is open, and the layer is shown
 abbrev pub IsShown : KeptSet → ℕ → ℕ → Type 0

@@ -2,10 +2,10 @@
 use Rattle.std.specs.Prelude.{ℕ, List, length, sum_by}
 use Rattle.std.specs.List.{range_with_len}
 use Rattle.packet_set.specs.Packets.{layers_of}
-use Rattle.interpolation.specs.Progressive.{step_bound}
-use Rattle.open_group.specs.OpenGroup.{stripe_lengths}
-use Rattle.kept_sets.specs.KeptSet.{KeptSet, open_group, count_kept}
-use Rattle.kept_sets.specs.Union.{new_numbers}
+use Rattle.pet_interp.specs.Progressive.{step_bound}
+use Rattle.packet_group.specs.OpenGroup.{stripe_lengths}
+use Rattle.packet_verdicts.specs.KeptSet.{KeptSet, open_group, count_kept}
+use Rattle.packet_verdicts.specs.Union.{new_numbers}
 
 -- how many steps so many packets of a group may take, that come after `before`
 abbrev pub steps_after : ℕ → List ℕ → ℕ → ℕ

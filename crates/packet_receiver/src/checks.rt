@@ -1,13 +1,13 @@
 //! Why a receiver cannot take in what another has kept.
 ghost use Rattle.std.specs.Prelude.{◌≡◌, ◌+◌, ◌≤◌, is_none, None, Some, option_copied, IfOk, OnOk, IfErr, All, sum_by};
-ghost use Rattle.kept_sets.specs.KeptSet.{cost_in};
-ghost use Rattle.kept_sets.specs.Union.{first_past};
+ghost use Rattle.packet_verdicts.specs.KeptSet.{cost_in};
+ghost use Rattle.packet_verdicts.specs.Union.{first_past};
 ghost use Rattle.packet_receiver.specs.Joining.{packets_by, packets_at, clash_from, new_of, cost_beside};
 
 use crate::has_packets::HasPackets;
-use kept_sets::{Absorb, clash_in};
+use packet_verdicts::{Absorb, clash_in};
 use packet_set::PacketSet;
-use pet_encode::group_cost;
+use packet_session::group_cost;
 use std::collections::BTreeMap;
 
 /// The first packet of the other's, by group, then number, that clashes with what is kept here, where `told` is the

@@ -1,18 +1,18 @@
 //! Room for the groups that another receiver has kept, and their packets.
 ghost use Rattle.std.specs.Prelude.{◌≡◌, ℕ, ◌+◌, ◌<◌, ◌≤◌, cond, true, nat_lt, filter, All, List, [], ◌∷◌, ◌++◌, Some, IfOk, OnOk, OnErr};
 ghost use Rattle.packet_set.specs.Packets.{count_in};
-ghost use Rattle.interpolation.specs.Progressive.{step_bound};
+ghost use Rattle.pet_interp.specs.Progressive.{step_bound};
 ghost use Rattle.packet_receiver.specs.Arrivals.{GroupState, HoldsAfter, layers_of, stripe_lengths};
-ghost use Rattle.kept_sets.specs.Union.{is_new};
+ghost use Rattle.packet_verdicts.specs.Union.{is_new};
 ghost use Rattle.packet_receiver.specs.Joining.{OpensAll, IsReadyAt, IsFillable, HasFilled, CanJoin, JoinsOne, JoinsAll, with_theirs, packets_of, shown_by};
 
 use crate::has_packets::HasPackets;
 use crate::opening::open_missing;
 use crate::shown::newly_shown;
-use open_group::OpenGroup;
+use packet_group::OpenGroup;
 use packet_set::PacketSet;
 use pet_base::{NoMemory, Steps};
-use pet_rows::Rows;
+use field_rows::Rows;
 use std::alloc::Global;
 use std::collections::BTreeMap;
 use std::sync::ledger::Ledger;

@@ -3,10 +3,10 @@ ghost use Rattle.std.specs.Prelude.{◌≡◌, ◌≤◌, option_copied};
 ghost use Rattle.packet_frame.specs.View.{view};
 ghost use Rattle.packet_receiver.specs.Receiving.{verdict_by, verdict_new};
 
-use kept_sets::{Verdict, judge_in, shown_next};
+use packet_verdicts::{Verdict, judge_in, shown_next};
 use packet_frame::Frame;
 use packet_set::PacketSet;
-use pet_encode::group_cost_by;
+use packet_session::group_cost_by;
 
 /// The verdict by what is kept of the frame's group. The open groups cost `cost`, at most `limit`.
 pub(crate) fn judge_group(

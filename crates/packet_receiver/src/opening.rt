@@ -8,11 +8,11 @@ ghost use Rattle.stripe_plan.specs.Sizes.{cost_by};
 ghost use Rattle.packet_receiver.specs.Arrivals.{GroupState, HoldsAfter};
 ghost use Rattle.packet_receiver.specs.Joining.{OpensOne};
 
-use open_group::OpenGroup;
+use packet_group::OpenGroup;
 use packet_frame::Header;
 use pet_base::NoMemory;
-use pet_encode::group_cost_by;
-use pet_rows::Rows;
+use packet_session::group_cost_by;
+use field_rows::Rows;
 use std::alloc::Global;
 use std::collections::BTreeMap;
 

@@ -4,7 +4,7 @@ ghost use Rattle.packet_receiver.specs.Joining.{packets_by, shown_by};
 
 use crate::checks::packets_in;
 use crate::has_packets::HasPackets;
-use kept_sets::push_shown;
+use packet_verdicts::push_shown;
 use pet_base::NoMemory;
 use std::alloc::Global;
 use std::collections::BTreeMap;

@@ -4,7 +4,7 @@ ghost use Rattle.std.specs.Map.{values_of};
 ghost use Rattle.packet_receiver.specs.Counted.{counted};
 
 use crate::has_packets::HasPackets;
-use kept_sets::{one_if_whole, shown_layers};
+use packet_verdicts::{one_if_whole, shown_layers};
 use packet_set::PacketSet;
 use std::collections::BTreeMap;
 

@@ -5,18 +5,18 @@ use Rattle.std.proofs.lemmas.Bool.{lt-ltb, le-ltb, cond-true, cond-false}
 use Rattle.std.proofs.lemmas.List.{length-map, get_or-map, get_or_default, length-take-le, length-drop, ext_get_or}
 use Rattle.std.proofs.lemmas.List.Elements.{All-take, All-drop, All-same}
 use Rattle.std.proofs.lemmas.List.Sums.{sum_by-cons, sum_by-append}
-use Rattle.pet_field.specs.Field.{Operations}
-use Rattle.pet_rows.specs.Columns.{column, block_columns}
-use Rattle.pet_rows.specs.Stripes.{cut}
-use Rattle.pet_rows.specs.laws.ColumnLaws.{length-column, column_elements, length-block_columns, block_column_at, block_columns_are, columns_are_stripes}
-use Rattle.pet_rows.specs.laws.StripeLaws.{length-cut, cut_at}
+use Rattle.field_elements.specs.Field.{Operations}
+use Rattle.field_rows.specs.Columns.{column, block_columns}
+use Rattle.field_rows.specs.Stripes.{cut}
+use Rattle.field_rows.specs.laws.ColumnLaws.{length-column, column_elements, length-block_columns, block_column_at, block_columns_are, columns_are_stripes}
+use Rattle.field_rows.specs.laws.StripeLaws.{length-cut, cut_at}
 use native.Mathlib.Nat.{mul_comm}
 use Rattle.std.proofs.Math.Nat.{div-lt_iff_lt-mul}
 use Rattle.std.proofs.lemmas.Nat.{div-add-mod'}
-use Rattle.interpolation.specs.Progressive.{longer_than}
+use Rattle.pet_interp.specs.Progressive.{longer_than}
 use Rattle.pet_interp.specs.Blocks.{HeldBlock, stripes_of}
-use Rattle.interpolation.specs.Lifted.{begun, begun_all, grown}
-use Rattle.pet_rows.specs.laws.PlaceLaws.{more_rows, rows_le, place_below}
+use Rattle.pet_interp.specs.Lifted.{begun, begun_all, grown}
+use Rattle.field_rows.specs.laws.PlaceLaws.{more_rows, rows_le, place_below}
 
 -- ---- lists of stripes
 

@@ -4,15 +4,15 @@ use Rattle.std.specs.Prelude.{nat_lt}
 use Rattle.std.proofs.lemmas.Bool.{cases_lt, lt-ltb, cond-true}
 use Rattle.std.proofs.lemmas.List.{get_or_append_left, get_or-append_right, length-take-le, length-drop, length-append, drop-append-le, take-append-drop, take_at, drop_at, drop_all, append-nil, ext_get_or}
 use borrow.Rule.Slice.PartMut.{put_mid}
-use Rattle.pet_field.specs.Field.{Operations, IsField}
+use Rattle.field_elements.specs.Field.{Operations, IsField}
 use Rattle.pet_poly.specs.Value.{value}
 use Rattle.pet_poly.specs.InPlace.{scaled_sum}
 use Rattle.pet_poly.specs.laws.InPlaceLaws as I
-use Rattle.pet_rows.specs.Columns.{column}
-use Rattle.pet_rows.specs.laws.ColumnLaws.{length-column, column_at}
-use Rattle.pet_rows.specs.laws.PlaceLaws.{more_rows, rows_le}
-use Rattle.pet_rows.proofs.Parts.{scaled_entry}
-use Rattle.interpolation.specs.Lifted.{begun, grown}
+use Rattle.field_rows.specs.Columns.{column}
+use Rattle.field_rows.specs.laws.ColumnLaws.{length-column, column_at}
+use Rattle.field_rows.specs.laws.PlaceLaws.{more_rows, rows_le}
+use Rattle.field_rows.proofs.Parts.{scaled_entry}
+use Rattle.pet_interp.specs.Lifted.{begun, grown}
 
 pub parts : (a b w : ℕ) → (a + b) * w ≡ a * w + b * w
 parts a b w = omega arith

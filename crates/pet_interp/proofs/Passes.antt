@@ -7,19 +7,19 @@ use Rattle.std.proofs.lemmas.Grind.{flat_map-append}
 use Rattle.std.proofs.lemmas.List.Elements.{All-set}
 use Rattle.std.proofs.lemmas.List.Folds.{length-flat_map-take}
 use Rattle.std.proofs.lemmas.List.{length-append, map-append, take_more, take_more_set, drop-set-lt, drop-drop, append-nil, get_or-drop, get_or_default, get_or-append_right, drop-take, length-take-le, length-drop, take_all}
-use Rattle.pet_field.specs.Field.{Operations}
+use Rattle.field_elements.specs.Field.{Operations}
 use Rattle.pet_poly.specs.Value.{value}
 use Rattle.pet_poly.specs.Rows.{words}
 use Rattle.pet_poly.specs.laws.RowLaws.{length-words}
 use Rattle.pet_poly.specs.InPlace.{scaled_sum}
 use Rattle.pet_poly.specs.laws.InPlaceLaws as I
-use Rattle.interpolation.specs.Progressive.{longer_than}
+use Rattle.pet_interp.specs.Progressive.{longer_than}
 use Rattle.pet_interp.specs.Blocks.{HeldBlock, IsBlock, stripes_in, no_block}
-use Rattle.interpolation.specs.Lifted.{factor, lifted, lifted_all, begun, begun_all, grown, grown_to}
+use Rattle.pet_interp.specs.Lifted.{factor, lifted, lifted_all, begun, begun_all, grown, grown_to}
 use Rattle.pet_interp.proofs.BlockStripes.{longer_append}
-use Rattle.pet_rows.specs.laws.PlaceLaws.{rows_le}
+use Rattle.field_rows.specs.laws.PlaceLaws.{rows_le}
 use Rattle.pet_interp.proofs.Columns.{parts, scaled_high, scaled_front}
-use Rattle.interpolation.proofs.Lifted.{cost_more, lifted_yes, lifted_no}
+use Rattle.pet_interp.proofs.Lifted.{cost_more, lifted_yes, lifted_no}
 
 kept : {E : Type 0} (P : E → Type 0) (met room : ℕ) (old new : HeldBlock E) → IsBlock P met room old → new.size ≡ old.size → new.waits ≡ old.waits
     → length new.stripes ≡ length old.stripes → All (λ s. (length s ≡ new.size) × All P s) new.stripes → IsBlock P met room new

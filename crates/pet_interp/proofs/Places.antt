@@ -2,7 +2,7 @@
 use Rattle.std.proofs.Common.{◌≡◌, ℕ, zero, suc, ◌+◌, ◌-◌, ◌*◌, ◌<◌, ◌≤◌, false, List, [], ◌∷◌, ◌++◌, length, get_or, take, drop, refl, sym, ap, ◌∙◌, arith}
 use Rattle.std.proofs.lemmas.Bool.{le-ltb}
 use Rattle.std.proofs.lemmas.List.{get_or_append_left, get_or-append_right, length-append, length-drop, length-take-le}
-use Rattle.pet_rows.specs.laws.PlaceLaws.{more_rows, rows_le}
+use Rattle.field_rows.specs.laws.PlaceLaws.{more_rows, rows_le}
 use Rattle.pet_interp.specs.Blocks.{HeldBlock, IsBlock, stripes_in}
 
 -- ---- rows

@@ -1,9 +1,9 @@
 -- How a progressive state keeps its stripes: in blocks of adjacent stripes of one length (this project's own).
 use Rattle.std.specs.Prelude.{◌≡◌, ℕ, ◌*◌, ◌<◌, ◌≤◌, Bool, false, cond, List, [], All, length, map, slice_index_or, nat_lt}
 use Rattle.std.specs.List.{flat_map}
-use Rattle.pet_rows.specs.Columns.{block_columns}
-use Rattle.pet_rows.specs.Stripes.{cut}
-use Rattle.pet_rows.specs.declared.blocks.TheConstants.{MAX_WIDTH}
+use Rattle.field_rows.specs.Columns.{block_columns}
+use Rattle.field_rows.specs.Stripes.{cut}
+use Rattle.field_rows.specs.declared.blocks.TheConstants.{MAX_WIDTH}
 
 pub record HeldBlock (E : Type 0) : Type 0 where
   -- how long each stripe is

@@ -1,15 +1,15 @@
 //! A block of a progressive state: adjacent stripes of one length.
 ghost use Rattle.std.specs.Prelude.{◌≡◌, ◌≢◌, ℕ, ◌+◌, ◌*◌, ◌-◌, ◌<◌, ◌≤◌, ◌&&◌, ◌==◌, List, [], false, length, map, All, IfOk, slice_index_or, nat_lt};
-ghost use Rattle.pet_rows.specs.declared.blocks.TheConstants.{MAX_WIDTH};
+ghost use Rattle.field_rows.specs.declared.blocks.TheConstants.{MAX_WIDTH};
 ghost use Rattle.pet_poly.specs.Rows.{words};
-ghost use Rattle.interpolation.specs.Progressive.{longer_than};
-ghost use Rattle.interpolation.specs.Lifted.{begun_all, grown};
+ghost use Rattle.pet_interp.specs.Progressive.{longer_than};
+ghost use Rattle.pet_interp.specs.Lifted.{begun_all, grown};
 
 use crate::copies::push_copies;
 use crate::rows::{add_rows, begin_row};
 use pet_base::{NoMemory, Steps};
-use pet_field::Field;
-use pet_rows::{Rows, transpose};
+use field_elements::Field;
+use field_rows::{Rows, transpose};
 use std::alloc::Global;
 use std::marker::Model;
 use std::sync::ledger::Ledger;

@@ -1,18 +1,18 @@
 //! A progressive state.
 ghost use Rattle.std.specs.Prelude.{◌≡◌, ◌≢◌, ℕ, ◌+◌, ◌*◌, ◌-◌, ◌<◌, ◌≤◌, ◌&&◌, ◌==◌, nat_lt, true, false, length, take, All, List, [], ◌∷◌, ◌++◌, slice_index, slice_index_or, replicate, IfOk};
 ghost use Rattle.std.specs.List.{list_any};
-ghost use Rattle.interpolation.specs.Progressive.{StandsFor, stripe_of, lengths_of, column, step_bound};
+ghost use Rattle.pet_interp.specs.Progressive.{StandsFor, stripe_of, lengths_of, column, step_bound};
 ghost use Rattle.pet_interp.specs.Blocks.{stripes_in, no_block, HasRoom};
-ghost use Rattle.pet_rows.specs.declared.blocks.TheConstants.{MAX_WIDTH};
+ghost use Rattle.field_rows.specs.declared.blocks.TheConstants.{MAX_WIDTH};
 ghost use Rattle.pet_poly.specs.Rows.{words};
-ghost use Rattle.interpolation.specs.Points.{GoesThrough, IsOnlyThrough};
+ghost use Rattle.pet_interp.specs.Points.{GoesThrough, IsOnlyThrough};
 
 use crate::block::StripeBlock;
 use crate::copies::push_copies;
 use crate::lift::{advance, turn_back};
 use pet_base::{NoMemory, Steps};
-use pet_field::Field;
-use pet_rows::{MAX_WIDTH, Rows};
+use field_elements::Field;
+use field_rows::{MAX_WIDTH, Rows};
 use std::alloc::Global;
 use std::marker::Model;
 use std::sync::ledger::Ledger;
@@ -37,7 +37,7 @@ pub struct Progress<'f, F: Rows> {
 
 impl<'f, F: Rows> Model for Progress<'f, F> {
     ghost use Rattle.std.specs.Prelude.{take, length};
-    ghost use Rattle.interpolation.specs.Progressive.{Held};
+    ghost use Rattle.pet_interp.specs.Progressive.{Held};
     ghost use Rattle.pet_interp.specs.Blocks.{IsSound, stripes_in};
 
     ghost Value = { Held F.Elem };

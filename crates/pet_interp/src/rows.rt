@@ -1,13 +1,13 @@
 //! One more point for the rows of a block.
 ghost use Rattle.std.specs.Prelude.{◌≡◌, ℕ, ◌+◌, ◌*◌, ◌<◌, ◌≤◌, length, map, All, slice_index_or};
-ghost use Rattle.pet_rows.specs.declared.blocks.TheConstants.{MAX_WIDTH};
+ghost use Rattle.field_rows.specs.declared.blocks.TheConstants.{MAX_WIDTH};
 ghost use Rattle.pet_poly.specs.Rows.{words};
-ghost use Rattle.pet_rows.specs.Columns.{column};
-ghost use Rattle.interpolation.specs.Lifted.{begun, grown};
+ghost use Rattle.field_rows.specs.Columns.{column};
+ghost use Rattle.pet_interp.specs.Lifted.{begun, grown};
 
 use pet_base::Steps;
-use pet_field::Field;
-use pet_rows::Rows;
+use field_elements::Field;
+use field_rows::Rows;
 use std::sync::ledger::Ledger;
 
 /// Writes into row `met` the multiple of the product that each column lacks to its value at x; `inverse` is that of the

@@ -4,7 +4,7 @@ ghost use Rattle.pet_poly.specs.Value.{value, value_monic};
 ghost use Rattle.pet_poly.specs.InPlace.{linear_product_from, linear_product, scaled_sum};
 
 use pet_base::Steps;
-use pet_field::Field;
+use field_elements::Field;
 use std::sync::ledger::Ledger;
 
 /// Multiplies a monic polynomial by X - x. Its lower coefficients are the first `degree` places; those of the product

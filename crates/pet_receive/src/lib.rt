@@ -10,4 +10,5 @@
 
 mod receiver;
 
+pub use packet_verdicts::{Absorb, LayerSet, Verdict};
 pub use receiver::Receiver;

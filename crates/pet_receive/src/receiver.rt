@@ -3,20 +3,20 @@ ghost use Rattle.std.specs.Prelude.{◌≡◌, ◌≢◌, None, IfErr, map, ◌�
 ghost use Rattle.pet_base.specs.declared.limits.TheConstants.{MAX_PACKETS};
 ghost use Rattle.packet_frame.specs.Refusals.{fields_of};
 ghost use Rattle.packet_set.specs.Packets.{Packets};
-ghost use Rattle.interpolation.specs.Progressive.{step_bound};
-ghost use Rattle.pet_encode.specs.Session.{IsMessage, bytes_of_layer};
-ghost use Rattle.kept_sets.specs.KeptSet.{IsKeptSet, empty_set, open_group, payload_of, Keeps, count_kept, kept_in_all, told_by};
-ghost use Rattle.kept_sets.specs.Verdicts.{verdict_of, is_kept, opens, after};
+ghost use Rattle.pet_interp.specs.Progressive.{step_bound};
+ghost use Rattle.packet_session.specs.Session.{IsMessage, bytes_of_layer};
+ghost use Rattle.packet_verdicts.specs.KeptSet.{IsKeptSet, empty_set, open_group, payload_of, Keeps, count_kept, kept_in_all, told_by};
+ghost use Rattle.packet_verdicts.specs.Verdicts.{verdict_of, is_kept, opens, after};
 ghost use Rattle.pet_receive.specs.Arrivals.{Order, HasKept, kept_set, numbers_of, layers_of, stripe_lengths};
 ghost use Rattle.pet_receive.specs.UnionSteps.{union_steps};
-ghost use Rattle.kept_sets.specs.Union.{union, absorb_fault, new_pairs, shown_by_union};
+ghost use Rattle.packet_verdicts.specs.Union.{union, absorb_fault, new_pairs, shown_by_union};
 ghost use Rattle.pet_receive.specs.ShownBytes.{IsShown, IsShownBytes, Agrees, IsComplete, shown_in_all};
 
-use kept_sets::{Absorb, Verdict};
+use packet_verdicts::{Absorb, Verdict};
 use packet_frame::{FORMAT, Header};
 use packet_receiver::PacketReceiver;
 use pet_base::{NoMemory, Steps};
-use pet_rows::Rows;
+use field_rows::Rows;
 use std::alloc::Global;
 use std::marker::Model;
 use std::sync::ledger::Ledger;

@@ -1,7 +1,7 @@
 -- Where datagrams come from or go to, as a word gives it and as a command takes it. This project's own.
-use Rattle.datagram_route.specs.declared.route.Route.{Route}
-use Rattle.datagram_route.specs.declared.route.Route.TheVariants as route
-use Rattle.datagram_route.specs.Way.{Way, OnFile, OnLink}
+use Rattle.outside_routes.specs.declared.route.Route.{Route}
+use Rattle.outside_routes.specs.declared.route.Route.TheVariants as route
+use Rattle.outside_routes.specs.Way.{Way, OnFile, OnLink}
 use Rattle.pet_text.specs.declared.end.End.{End}
 use Rattle.pet_text.specs.declared.end.End.TheVariants.{File, Udp}
 

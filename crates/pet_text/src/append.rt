@@ -1,10 +1,10 @@
 //! The pieces of a line, which take no memory.
 ghost use Rattle.std.specs.Prelude.{◌≡◌, ◌+◌, ◌≤◌, ◌++◌, length, decimal};
 ghost use Rattle.arrayvec.specs.ArrayVec.{array_vec_len};
-ghost use Rattle.plan_text.specs.PlanLines.{hex_text};
+ghost use Rattle.text_plan.specs.PlanLines.{hex_text};
 
 use arrayvec::ArrayVec;
-use plan_text::hexadecimal_digit;
+use text_plan::hexadecimal_digit;
 
 /// Appends a text, for which there must be room.
 pub fn append_text(text: &str, into: &mut ArrayVec<u8, 64>)

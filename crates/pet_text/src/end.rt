@@ -1,11 +1,11 @@
 //! Where datagrams come from or go to, in a command word.
 ghost use Rattle.std.specs.Prelude.{◌≡◌, IfOk, option_map, option_copied};
-ghost use Rattle.datagram_route.specs.Way.{way_of};
+ghost use Rattle.outside_routes.specs.Way.{way_of};
 ghost use Rattle.pet_text.specs.Words.{file_of, udp_of, end_of};
 ghost use Rattle.pet_text.specs.Ends.{end_in, way_in};
 
 use crate::name::Name;
-use datagram_route::{Route, is_host_and_port};
+use outside_routes::{Route, is_host_and_port};
 use std::alloc::{AllocError, Global};
 
 /// Where datagrams come from or go to.

@@ -7,7 +7,7 @@ ghost use Rattle.pet_text.specs.Ends.{end_in};
 
 use crate::end::read_end;
 use crate::session::read_session;
-use datagram_route::Route;
+use outside_routes::Route;
 
 /// A command whose texts still stand in its words.
 #[derive(Clone, Copy)]

@@ -19,4 +19,8 @@ pub use end::End;
 pub use lines::{bound_line, least_line, merged_line, receive_line, send_line, video_line};
 pub use name::Name;
 pub use status::{PlanKind, Status, fault_line};
+pub use stream_session::GroupMark;
+pub use text_plan::{
+    PlanFault, Repeat, lengths_line, plan_group_line, plan_layer_line, plan_session_line, read_plan,
+};
 pub use words::{Command, WordsFault, read_words};

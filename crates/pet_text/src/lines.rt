@@ -1,6 +1,6 @@
 //! The printed lines.
 ghost use Rattle.std.specs.Prelude.{◌≡◌, ◌++◌, [], OnOk, OnErr};
-ghost use Rattle.plan_text.specs.PlanLines.{least_text, send_text};
+ghost use Rattle.text_plan.specs.PlanLines.{least_text, send_text};
 ghost use Rattle.pet_text.specs.Lines.{bound_text, receive_text, merged_text, video_text};
 
 use crate::append::{append_count, append_number, append_session, append_text};

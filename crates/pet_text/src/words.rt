@@ -8,7 +8,7 @@ ghost use Rattle.pet_text.specs.Ends.{end_in};
 use crate::end::{End, own_end};
 use crate::form::{Form, form_of};
 use crate::name::Name;
-use datagram_route::Route;
+use outside_routes::Route;
 use std::alloc::{AllocError, Global};
 
 /// A command, with what its words name.

@@ -8,12 +8,12 @@ use Rattle.pet_base.specs.Entries.{datagrams}
 use Rattle.pet_base.specs.OutsideSeen.{OutsideSeen}
 use Rattle.pet_base.specs.LinkSeen.{LinkSeen}
 use Rattle.pet_base.specs.Seen.{Files, Seen, with_file}
-use Rattle.command_files.specs.Uses.{reading, writing, Failed}
-use Rattle.command_files.specs.Wrote.{Wrote}
-use Rattle.pet_encode.specs.Session.{IsSession}
-use Rattle.pet_encode.specs.Datagrams.{datagrams_text, IsItsDatagram}
-use Rattle.pet_encode.specs.laws.SentLaws.{sent_are_packets}
-use Rattle.plan_text.specs.PlanLines.{send_text}
+use Rattle.outside_files.specs.Uses.{reading, writing, Failed}
+use Rattle.outside_files.specs.Wrote.{Wrote}
+use Rattle.packet_session.specs.Session.{IsSession}
+use Rattle.packet_session.specs.Datagrams.{datagrams_text, IsItsDatagram}
+use Rattle.packet_session.specs.laws.SentLaws.{sent_are_packets}
+use Rattle.text_plan.specs.PlanLines.{send_text}
 use Rattle.stream_session.specs.Accepted.{session_of}
 use Rattle.stream_session.specs.Number.{session_number}
 use Rattle.stream_session.specs.Sessions.{tables_in}
@@ -37,7 +37,7 @@ use Rattle.command_video.specs.Videos.{Videos}
 use Rattle.command_video.specs.VideosSession.{HasStoreOf, VideosSession}
 use Rattle.command_video.specs.laws.SessionVideo.{completes_video}
 use Rattle.command_video.specs.StreamVideo.{stream_video}
-use Rattle.met_packets.specs.Met.{Pair, all_shown}
+use Rattle.packet_met.specs.Met.{Pair, all_shown}
 use Rattle.command_send.specs.Sends.{IsAimedAt, IsSentOf, Sends, packets_file, packets_in, sent_line_text}
 use Rattle.command_send.specs.SendsSession.{SendsAll, uses}
 use Rattle.command_send.specs.declared.session.Sent.{Sent as SentNumbers}
@@ -46,9 +46,9 @@ use Rattle.pet_text.specs.declared.status.Status.{Status}
 use Rattle.pet_text.specs.declared.status.Status.TheVariants.{Done, Incomplete, TurnsSpent}
 use Rattle.pet_text.specs.declared.words.Command.{Command}
 use Rattle.pet_text.specs.declared.words.Command.TheVariants.{Plan, Check, Send, Receive, Merge, Video}
-use Rattle.datagram_route.specs.RouteFaults.{AimedFailed}
-use Rattle.datagram_route.specs.Sending.{Sent}
-use Rattle.datagram_route.specs.Way.{Way, OnFile, OnLink}
+use Rattle.outside_routes.specs.RouteFaults.{AimedFailed}
+use Rattle.outside_routes.specs.Sending.{Sent}
+use Rattle.outside_routes.specs.Way.{Way, OnFile, OnLink}
 use Rattle.pet_text.specs.Ends.{way_in}
 use Rattle.pet_text.specs.Lines.{fault_text, video_text}
 use Rattle.pet_tool.specs.Completes.{Completes, CompletesPlan, CompletesCheck, CompletesSend, CompletesMerge}

@@ -3,7 +3,7 @@ use Rattle.std.proofs.Common.{◌≡◌, ◌≢◌, ℕ, Bool, false, List, [], 
 use Rattle.pet_base.specs.OutsideSeen.{OutsideSeen}
 use Rattle.pet_base.specs.Seen.{PlaceStops}
 use Rattle.pet_base.specs.LinkSeen.{LinkStops}
-use Rattle.command_files.specs.Failures.{EndsAtOnce}
+use Rattle.outside_files.specs.Failures.{EndsAtOnce}
 use Rattle.stream_session.specs.declared.fault.SessionFault.{SessionFault}
 use Rattle.stream_session.specs.declared.fault.SessionFault.TheVariants as session
 use Rattle.command_plan.specs.Ends.{plan_failed, check_failed}

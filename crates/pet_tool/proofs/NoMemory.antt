@@ -1,7 +1,7 @@
 -- Every command may end so before it has done anything: no memory was found to read its words.
 use Rattle.std.proofs.Common.{◌≡◌, [], Option, Some, None, refl, inl, arith}
 use Rattle.pet_base.specs.OutsideSeen.{OutsideSeen}
-use Rattle.command_files.specs.laws.WroteLaws.{Wrote-nothing}
+use Rattle.outside_files.specs.laws.WroteLaws.{Wrote-nothing}
 use Rattle.command_plan.specs.declared.planning.PlanEnd.TheVariants as plan
 use Rattle.command_plan.specs.declared.checking.CheckEnd.TheVariants as check
 use Rattle.command_send.specs.declared.command.SendEnd.TheVariants as send

@@ -5,9 +5,9 @@ use Rattle.pet_base.specs.Causes.{Rose}
 use Rattle.pet_base.specs.OutsideSeen.{OutsideSeen}
 use Rattle.pet_base.specs.Seen.{Seen, PlaceStops}
 use Rattle.pet_base.specs.LinkSeen.{LinkSeen, LinkStops}
-use Rattle.command_files.specs.Failures.{EndsAtOnce}
-use Rattle.command_files.specs.Printed.{PrintsLine}
-use Rattle.command_files.specs.laws.PrintedLaws.{append_known-twice, append_known-nil}
+use Rattle.outside_files.specs.Failures.{EndsAtOnce}
+use Rattle.outside_files.specs.Printed.{PrintsLine}
+use Rattle.outside_files.specs.laws.PrintedLaws.{append_known-twice, append_known-nil}
 use Rattle.pet_text.specs.declared.status.Status.{Status}
 use Rattle.pet_text.specs.declared.status.Status.TheVariants.{Usage}
 use Rattle.pet_text.specs.Lines.{fault_text}

@@ -1,6 +1,6 @@
 -- The words that were read, as they are handed to a command.
 use Rattle.std.proofs.Common.{◌≡◌, ℕ, List, Some, sym, ap, subst, ◌∙◌}
-use Rattle.datagram_route.specs.Way.{Way}
+use Rattle.outside_routes.specs.Way.{Way}
 use Rattle.command_send.specs.Sends.{IsOther}
 use Rattle.pet_text.specs.declared.words.Command.{Command}
 use Rattle.pet_text.specs.declared.words.Command.TheVariants.{Check, Send}

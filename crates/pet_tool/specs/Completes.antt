@@ -1,12 +1,12 @@
 -- When each command is done, and what it then does; for `receive` this is the headline. This project's own.
 use Rattle.std.specs.Prelude.{◌≡◌, ℕ, true, List, [], ◌∷◌, ◌++◌, length, Option, None, Some}
 use Rattle.pet_base.specs.OutsideSeen.{OutsideSeen}
-use Rattle.command_files.specs.Uses.{reading, writing}
+use Rattle.outside_files.specs.Uses.{reading, writing}
 use Rattle.pet_base.specs.Seen.{Files, with_file}
-use Rattle.pet_encode.specs.Session.{Session}
-use Rattle.met_packets.specs.Gf16.{met_frames}
-use Rattle.met_packets.specs.Met.{Pair, all_shown}
-use Rattle.met_packets.specs.MetStore.{pairs_store}
+use Rattle.packet_session.specs.Session.{Session}
+use Rattle.packet_met.specs.Gf16.{met_frames}
+use Rattle.packet_met.specs.Met.{Pair, all_shown}
+use Rattle.packet_met.specs.MetStore.{pairs_store}
 use Rattle.command_merge.specs.MergesSession.{HasStoresOf}
 use Rattle.command_video.specs.StreamVideo.{stream_video}
 use Rattle.command_video.specs.VideosSession.{HasStoreOf}
@@ -15,9 +15,9 @@ use Rattle.stream_session.specs.Sessions.{IsGiven, tables_in}
 use Rattle.command_plan.specs.SessionPlan.{session_plan}
 use Rattle.command_send.specs.Sends.{sent_line_text}
 use Rattle.command_send.specs.SendsSession.{SendsAll, uses}
-use Rattle.datagram_route.specs.RouteFaults.{AimedFailed}
-use Rattle.datagram_route.specs.Way.{Way}
-use Rattle.plan_text.specs.PlanLines.{least_text}
+use Rattle.outside_routes.specs.RouteFaults.{AimedFailed}
+use Rattle.outside_routes.specs.Way.{Way}
+use Rattle.text_plan.specs.PlanLines.{least_text}
 use Rattle.pet_text.specs.Lines.{merged_text, video_text}
 use Rattle.pet_text.specs.declared.status.Status.{Status}
 use Rattle.pet_text.specs.declared.status.Status.TheVariants.{Done}

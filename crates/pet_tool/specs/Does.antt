@@ -2,8 +2,8 @@
 use Rattle.std.specs.Prelude.{◌≡◌, Option, None, Some}
 use Rattle.pet_base.specs.OutsideSeen.{OutsideSeen}
 use Rattle.pet_base.specs.Seen.{Seen}
-use Rattle.command_files.specs.Failures.{EndsAtOnce}
-use Rattle.command_files.specs.Printed.{PrintsLine}
+use Rattle.outside_files.specs.Failures.{EndsAtOnce}
+use Rattle.outside_files.specs.Printed.{PrintsLine}
 use Rattle.command_merge.specs.Merges.{Merges}
 use Rattle.command_plan.specs.Checks.{Checks}
 use Rattle.command_plan.specs.Plans.{PlanEnds}

@@ -4,15 +4,15 @@ use Rattle.pet_base.specs.declared.limits.TheConstants.{MAX_DATAGRAMS}
 use Rattle.pet_base.specs.Entries.{datagrams}
 use Rattle.pet_base.specs.OutsideSeen.{OutsideSeen}
 use Rattle.pet_base.specs.Seen.{Files, with_file}
-use Rattle.datagram_route.specs.RouteFaults.{BoundFailed}
-use Rattle.datagram_route.specs.Way.{Way}
-use Rattle.pet_encode.specs.Session.{Session}
+use Rattle.outside_routes.specs.RouteFaults.{BoundFailed}
+use Rattle.outside_routes.specs.Way.{Way}
+use Rattle.packet_session.specs.Session.{Session}
 use Rattle.stream_session.specs.Accepted.{IsAcceptedSession, session_of}
 use Rattle.stream_session.specs.Number.{session_number}
-use Rattle.pet_encode.specs.Datagrams.{datagrams_text}
-use Rattle.met_packets.specs.FewestStripes.{CarriesFewestStripes}
-use Rattle.met_packets.specs.Met.{layers_text, met_in, all_shown}
-use Rattle.met_packets.specs.MetStore.{session_store}
+use Rattle.packet_session.specs.Datagrams.{datagrams_text}
+use Rattle.packet_met.specs.FewestStripes.{CarriesFewestStripes}
+use Rattle.packet_met.specs.Met.{layers_text, met_in, all_shown}
+use Rattle.packet_met.specs.MetStore.{session_store}
 use Rattle.command_receive.specs.NamedLayers.{NamesStored}
 use Rattle.command_receive.specs.Opened.{IsBoundTo}
 use Rattle.command_receive.specs.Receives.{port_line, uses_of}

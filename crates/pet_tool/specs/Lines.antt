@@ -4,7 +4,7 @@ use Rattle.command_plan.specs.declared.checking.CheckEnd.{CheckEnd}
 use Rattle.command_plan.specs.declared.checking.CheckEnd.TheVariants as check
 use Rattle.command_plan.specs.declared.planning.PlanEnd.{PlanEnd}
 use Rattle.command_plan.specs.declared.planning.PlanEnd.TheVariants as plan
-use Rattle.plan_text.specs.PlanLines.{least_text, send_text}
+use Rattle.text_plan.specs.PlanLines.{least_text, send_text}
 use Rattle.command_send.specs.declared.command.SendEnd.{SendEnd}
 use Rattle.command_send.specs.declared.command.SendEnd.TheVariants as send
 use Rattle.command_merge.specs.declared.command.MergeEnd.{MergeEnd}

@@ -2,7 +2,7 @@
 use Rattle.std.specs.Prelude.{◌≡◌, ◌≢◌, ◌⊎◌, ℕ, List, []}
 use Rattle.pet_base.specs.Causes.{one_more}
 use Rattle.pet_base.specs.OutsideSeen.{OutsideSeen}
-use Rattle.command_files.specs.Printed.{Printed, PrintedFront, PrintsLine}
+use Rattle.outside_files.specs.Printed.{Printed, PrintedFront, PrintsLine}
 use Rattle.pet_text.specs.declared.status.Status.{Status}
 use Rattle.pet_text.specs.declared.status.Status.TheVariants.{OutFault}
 use Rattle.pet_text.specs.Lines.{fault_text}

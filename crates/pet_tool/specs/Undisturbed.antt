@@ -3,8 +3,8 @@ use Rattle.std.specs.Prelude.{◌≡◌, ◌≢◌, ℕ, List, ◌++◌}
 use Rattle.pet_base.specs.Seen.{Blame}
 use Rattle.pet_base.specs.LinkSeen.{LinkSeen}
 use Rattle.pet_base.specs.OutsideSeen.{OutsideSeen}
-use Rattle.command_files.specs.Printed.{Printed}
-use Rattle.command_files.specs.Uses.{IsWell}
+use Rattle.outside_files.specs.Printed.{Printed}
+use Rattle.outside_files.specs.Uses.{IsWell}
 use Rattle.pet_text.specs.declared.status.Status.{Status}
 use Rattle.pet_text.specs.declared.status.Status.TheVariants.{NoMemory}
 use Rattle.pet_text.specs.Lines.{fault_text}

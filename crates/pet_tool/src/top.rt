@@ -3,7 +3,7 @@ ghost use Rattle.std.specs.Prelude.{◌≡◌, ◌≢◌, ◌⊎◌, ◌↔◌, 
 ghost use Rattle.pet_base.specs.OutsideSeen.{OutsideSeen, outside_seen};
 ghost use Rattle.pet_base.specs.Lent.{seen, AreSame};
 ghost use Rattle.pet_base.specs.Causes.{one_more};
-ghost use Rattle.command_files.specs.Printed.{Printed, PrintedFront, PrintsLine};
+ghost use Rattle.outside_files.specs.Printed.{Printed, PrintedFront, PrintsLine};
 ghost use Rattle.pet_text.specs.Words.{texts_of, command_of};
 ghost use Rattle.pet_text.specs.Lines.{fault_text};
 ghost use Rattle.pet_tool.specs.Completes.{Completes};

@@ -6,16 +6,16 @@ use Rattle.std.proofs.lemmas.Bool.{cases_eq}
 use Rattle.std.proofs.lemmas.List.{length-take-le, length-drop, length-map, length_push, get_or_append_left, get_or_push, get_or-map, map_push}
 use Rattle.std.proofs.lemmas.Option.{MatchOption-at_some, same_Some}
 use Rattle.std.proofs.lemmas.List.FromFn.{map-range_with_len_more}
-use Rattle.pet_field.specs.Field.{Coding}
+use Rattle.field_elements.specs.Field.{Coding}
 use Rattle.stripe_plan.specs.declared.layer.LayerSize.{LayerSize}
 use Rattle.stripe_plan.specs.Layers.{words_before}
 use Rattle.packet_frame.specs.declared.frame.Header.{Header}
 use Rattle.packet_set.specs.Packets.{Packets}
-use Rattle.pet_encode.specs.Session.{length_of_layer}
+use Rattle.packet_session.specs.Session.{length_of_layer}
 use Rattle.pet_receive.specs.Arrivals.{layers_of}
-use Rattle.kept_sets.specs.KeptSet.{KeptSet, open_group}
+use Rattle.packet_verdicts.specs.KeptSet.{KeptSet, open_group}
 use Rattle.pet_receive.specs.ShownBytes.{IsShown, IsShownIn, IsShownBytes}
-use Rattle.open_group.specs.laws.Needs.{layer_inside, length_is, length_all}
+use Rattle.packet_group.specs.laws.Needs.{layer_inside, length_is, length_all}
 use Rattle.reassemble.specs.declared.leading.ShownLayer.{ShownLayer}
 use Rattle.reassemble.specs.Leading.{AreShownBytes, lengths_in}
 use Rattle.reassemble.specs.Taking.{bytes_each, first_of}

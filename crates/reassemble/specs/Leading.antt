@@ -1,9 +1,9 @@
 -- The leading layers of a group that are all shown, and what is put together of them. This project's own.
 use Rattle.std.specs.Prelude.{◌≡◌, ℕ, ◌<◌, false, true, List, [], ◌++◌, length, map, slice_index_or}
-use Rattle.pet_field.specs.Field.{Coding}
+use Rattle.field_elements.specs.Field.{Coding}
 use Rattle.packet_set.specs.Packets.{Packets}
 use Rattle.layer_split.specs.RunTable.{fits}
-use Rattle.kept_sets.specs.KeptSet.{KeptSet}
+use Rattle.packet_verdicts.specs.KeptSet.{KeptSet}
 use Rattle.pet_receive.specs.Arrivals.{layers_of}
 use Rattle.pet_receive.specs.ShownBytes.{IsShown, IsShownBytes}
 use Rattle.reassemble.specs.Video.{group_video}

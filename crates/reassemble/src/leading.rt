@@ -3,16 +3,16 @@ ghost use Rattle.std.specs.Prelude.{◌≡◌, ℕ, ◌≤◌, List, length, map
 ghost use Rattle.std.specs.List.{range_with_len};
 ghost use Rattle.pet_base.specs.declared.limits.TheConstants.{MAX_LAYERS};
 ghost use Rattle.packet_set.specs.Packets.{Packets};
-ghost use Rattle.pet_encode.specs.Session.{IsMessage, bytes_of_layer};
+ghost use Rattle.packet_session.specs.Session.{IsMessage, bytes_of_layer};
 ghost use Rattle.pet_receive.specs.Arrivals.{Order, HasKept, kept_set, numbers_of, layers_of};
-ghost use Rattle.kept_sets.specs.KeptSet.{open_group};
+ghost use Rattle.packet_verdicts.specs.KeptSet.{open_group};
 ghost use Rattle.pet_receive.specs.ShownBytes.{Agrees};
 ghost use Rattle.reassemble.specs.Leading.{AreLeading, AreShownBytes};
 
 use arrayvec::ArrayVec;
 use pet_base::MAX_LAYERS;
 use pet_receive::Receiver;
-use pet_rows::Rows;
+use field_rows::Rows;
 
 /// The bytes of a layer that is shown.
 #[derive(Clone, Copy, Default)]

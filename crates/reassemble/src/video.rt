@@ -4,9 +4,9 @@ ghost use Rattle.std.specs.List.{range_with_len};
 ghost use Rattle.pet_base.specs.declared.limits.TheConstants.{MAX_LAYERS};
 ghost use Rattle.packet_set.specs.Packets.{Packets};
 ghost use Rattle.layer_split.specs.RunTable.{fits};
-ghost use Rattle.pet_encode.specs.Session.{IsMessage, bytes_of_layer};
+ghost use Rattle.packet_session.specs.Session.{IsMessage, bytes_of_layer};
 ghost use Rattle.pet_receive.specs.Arrivals.{Order, HasKept, kept_set, numbers_of, layers_of};
-ghost use Rattle.kept_sets.specs.KeptSet.{open_group};
+ghost use Rattle.packet_verdicts.specs.KeptSet.{open_group};
 ghost use Rattle.pet_receive.specs.ShownBytes.{IsShown, IsShownBytes, Agrees};
 ghost use Rattle.reassemble.specs.declared.fault.Assemble.{Assemble};
 ghost use Rattle.reassemble.specs.Video.{group_video};
@@ -20,7 +20,7 @@ use arrayvec::ArrayVec;
 use layer_split::{NamedRun, read_run_table};
 use pet_base::{MAX_LAYERS, NoMemory};
 use pet_receive::Receiver;
-use pet_rows::Rows;
+use field_rows::Rows;
 use stripe_plan::LayerSize;
 
 /// The bytes of a run table before its first entry.

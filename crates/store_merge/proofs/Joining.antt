@@ -1,11 +1,11 @@
 -- What two stores come to, by what became of each and of both.
 use Rattle.std.specs.Prelude.{IfErr, IsErrAnd}
 use Rattle.std.proofs.Common.{◌≡◌, ◌≢◌, ◌≤◌, ◌+◌, ℕ, List, None, Some, Result, Ok, Err, sym, ap, ◌∙◌, subst, arith}
-use Rattle.kept_sets.specs.KeptSet.{KeptSet}
+use Rattle.packet_verdicts.specs.KeptSet.{KeptSet}
 use Rattle.pet_receive.specs.UnionSteps.{union_steps}
-use Rattle.kept_sets.specs.Union.{union, absorb_fault}
-use Rattle.kept_sets.specs.declared.union.Absorb.{Absorb}
-use Rattle.kept_sets.specs.declared.union.Absorb.TheVariants as absorb
+use Rattle.packet_verdicts.specs.Union.{union, absorb_fault}
+use Rattle.packet_verdicts.specs.declared.union.Absorb.{Absorb}
+use Rattle.packet_verdicts.specs.declared.union.Absorb.TheVariants as absorb
 use Rattle.store_read.specs.Reading.{store_steps}
 use Rattle.store_text.specs.Refusals.{read_text}
 use Rattle.store_merge.specs.Merged.{of_first, of_second, of_both, joined, then_second, then_first, merged}

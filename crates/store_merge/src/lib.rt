@@ -10,3 +10,6 @@ mod merge;
 
 pub use fault::MergeFault;
 pub use merge::merge_stores;
+pub use store_read::read_store;
+pub use store_text::{BadStore, StoreKind};
+pub use store_write::write_store;

@@ -1,7 +1,7 @@
 //! Merging two stores.
 ghost use Rattle.std.specs.Prelude.{◌≡◌, ◌≢◌, ◌++◌, ◌+◌, ◌≤◌, IfErr, OnOk, OnErr, Ok, Err};
 ghost use Rattle.pet_base.specs.declared.limits.TheConstants.{MAX_PACKETS};
-ghost use Rattle.kept_sets.specs.KeptSet.{KeptSet};
+ghost use Rattle.packet_verdicts.specs.KeptSet.{KeptSet};
 ghost use Rattle.pet_receive.specs.UnionSteps.{union_steps};
 ghost use Rattle.store_text.specs.Store.{store_text};
 ghost use Rattle.store_read.specs.Reading.{store_steps};
@@ -9,9 +9,9 @@ ghost use Rattle.store_text.specs.Refusals.{read_text};
 ghost use Rattle.store_merge.specs.Merged.{merged, of_first, of_second};
 
 use crate::fault::MergeFault;
-use kept_sets::Absorb;
+use packet_verdicts::Absorb;
 use pet_base::{NoMemory, Steps};
-use pet_rows::Rows;
+use field_rows::Rows;
 use std::alloc::Global;
 use std::sync::ledger::Ledger;
 use store_read::read_store;

@@ -7,18 +7,18 @@ use Rattle.packet_frame.specs.Frame.{Fields, IsFrame}
 use Rattle.packet_frame.specs.Refusals.{fields_of, first_fault}
 use Rattle.packet_frame.specs.declared.fault.FrameFault.{FrameFault}
 use Rattle.packet_frame.specs.laws.Laws.{reads_frames}
-use Rattle.pet_field.specs.Field.{Coding}
-use Rattle.interpolation.specs.Progressive.{step_bound}
-use Rattle.kept_sets.specs.declared.verdict.Verdict.{Verdict}
-use Rattle.kept_sets.specs.declared.verdict.Verdict.TheVariants.{Damaged, Foreign, Clash, Repeated, Full, Kept}
-use Rattle.kept_sets.specs.declared.verdict.LayerSet.{LayerSet}
-use Rattle.kept_sets.specs.KeptSet.{KeptSet, IsKeptSet, open_group, payload_of, count_kept, keep}
-use Rattle.kept_sets.specs.Verdicts.{verdict_in, verdict_of, frame_verdict_by, frame_verdict, is_kept, after, clashes, is_too_much, layer_set, newly_shown}
+use Rattle.field_elements.specs.Field.{Coding}
+use Rattle.pet_interp.specs.Progressive.{step_bound}
+use Rattle.packet_verdicts.specs.declared.verdict.Verdict.{Verdict}
+use Rattle.packet_verdicts.specs.declared.verdict.Verdict.TheVariants.{Damaged, Foreign, Clash, Repeated, Full, Kept}
+use Rattle.packet_verdicts.specs.declared.verdict.LayerSet.{LayerSet}
+use Rattle.packet_verdicts.specs.KeptSet.{KeptSet, IsKeptSet, open_group, payload_of, count_kept, keep}
+use Rattle.packet_verdicts.specs.Verdicts.{verdict_in, verdict_of, frame_verdict_by, frame_verdict, is_kept, after, clashes, is_too_much, layer_set, newly_shown}
 use Rattle.pet_receive.specs.Arrivals.{Order, ReceiverState, HasKept, kept_set, stripe_lengths}
-use Rattle.kept_sets.specs.Union.{frames_in}
-use Rattle.kept_sets.specs.Group.{group_in, number_in}
-use Rattle.kept_sets.specs.laws.KeptSetLaws.{verdict_read, verdict_damaged, after_kept, keepable}
-use Rattle.kept_sets.specs.laws.FramesInOrder.{IsAbove, frames_more, above_keep}
+use Rattle.packet_verdicts.specs.Union.{frames_in}
+use Rattle.packet_verdicts.specs.Group.{group_in, number_in}
+use Rattle.packet_verdicts.specs.laws.KeptSetLaws.{verdict_read, verdict_damaged, after_kept, keepable}
+use Rattle.packet_verdicts.specs.laws.FramesInOrder.{IsAbove, frames_more, above_keep}
 use Rattle.pet_receive.specs.laws.StepLaws.{steps_keep}
 use Rattle.store_text.specs.declared.fault.StoreKind.{StoreKind}
 use Rattle.store_text.specs.declared.fault.StoreKind.TheVariants as kind

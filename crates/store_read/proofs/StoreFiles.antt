@@ -7,8 +7,8 @@ use Rattle.pet_base.specs.declared.limits.TheConstants.{MAX_SESSION, MAX_STORE}
 use Rattle.pet_base.specs.declared.faults.Stop.{Stop}
 use Rattle.pet_base.specs.declared.faults.Stop.TheVariants as place
 use Rattle.pet_base.specs.Seen.{Seen, Files, HadFault}
-use Rattle.command_files.specs.Inputs.{IsFrontOf, IsRead, Licensed}
-use Rattle.kept_sets.specs.KeptSet.{KeptSet}
+use Rattle.outside_files.specs.Inputs.{IsFrontOf, IsRead, Licensed}
+use Rattle.packet_verdicts.specs.KeptSet.{KeptSet}
 use Rattle.store_text.specs.Refusals.{read_text}
 use Rattle.store_text.specs.declared.fault.StoreKind.TheVariants.{Cut}
 use Rattle.store_text.specs.declared.fault.BadStore.{BadStore}

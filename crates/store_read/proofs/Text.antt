@@ -6,7 +6,7 @@ use Rattle.std.proofs.Common.{◌≡◌, ℕ, ◌+◌, ◌<◌, ◌≤◌, Bool,
 use Rattle.pet_base.specs.declared.limits.TheConstants.{TAG_LENGTH}
 use Rattle.packet_frame.specs.Refusals.{number, ends_in_tag}
 use Rattle.packet_frame.specs.declared.format.TheConstants.{FORMAT}
-use Rattle.kept_sets.specs.KeptSet.{KeptSet, empty_set}
+use Rattle.packet_verdicts.specs.KeptSet.{KeptSet, empty_set}
 use Rattle.store_text.specs.declared.format.TheConstants.{MARK, HEAD_LENGTH}
 use Rattle.store_text.specs.declared.fault.StoreKind.TheVariants.{Cut, Magic, Tag}
 use Rattle.store_text.specs.declared.fault.BadStore.{BadStore}

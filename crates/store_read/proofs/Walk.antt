@@ -5,11 +5,11 @@ use Rattle.std.specs.List.{flat_map}
 use Rattle.std.proofs.lemmas.List.{length-drop}
 use Rattle.packet_frame.specs.Frame.{Fields}
 use Rattle.packet_set.specs.Packets.{Packets}
-use Rattle.pet_field.specs.Field.{Coding}
-use Rattle.kept_sets.specs.KeptSet.{KeptSet, IsKeptSet, keep}
+use Rattle.field_elements.specs.Field.{Coding}
+use Rattle.packet_verdicts.specs.KeptSet.{KeptSet, IsKeptSet, keep}
 use Rattle.pet_receive.specs.Arrivals.{Order, ReceiverState, HasKept, kept_set}
-use Rattle.kept_sets.specs.Union.{frames_in_group}
-use Rattle.kept_sets.specs.laws.FramesInOrder.{above_none}
+use Rattle.packet_verdicts.specs.Union.{frames_in_group}
+use Rattle.packet_verdicts.specs.laws.FramesInOrder.{above_none}
 use Rattle.store_text.specs.declared.fault.StoreKind.{StoreKind}
 use Rattle.store_text.specs.declared.fault.StoreKind.TheVariants.{Cut, Rest}
 use Rattle.store_text.specs.declared.fault.BadStore.{BadStore}

@@ -3,14 +3,14 @@
 use Rattle.std.specs.Prelude.{ℕ, Bool, true, ◌&&◌, ◌||◌, ◌==◌, nat_lt, if◌then◌else◌, List, map, sum_by, Option, None, Some}
 use Rattle.packet_frame.specs.Frame.{Fields}
 use Rattle.packet_frame.specs.Refusals.{fields_of}
-use Rattle.pet_field.specs.Field.{Coding}
-use Rattle.kept_sets.specs.declared.verdict.Verdict.{Verdict}
-use Rattle.kept_sets.specs.declared.verdict.Verdict.TheVariants as verdict
-use Rattle.kept_sets.specs.KeptSet.{KeptSet, IsKeptSet}
+use Rattle.field_elements.specs.Field.{Coding}
+use Rattle.packet_verdicts.specs.declared.verdict.Verdict.{Verdict}
+use Rattle.packet_verdicts.specs.declared.verdict.Verdict.TheVariants as verdict
+use Rattle.packet_verdicts.specs.KeptSet.{KeptSet, IsKeptSet}
 use Rattle.packet_set.specs.Packets.{count_in}
 use Rattle.pet_receive.specs.Arrivals.{Order, ReceiverState, HasKept, kept_set, layers_of, stripe_lengths}
 use Rattle.pet_receive.specs.UnionSteps.{steps_after}
-use Rattle.kept_sets.specs.Union.{frames_in}
+use Rattle.packet_verdicts.specs.Union.{frames_in}
 use Rattle.store_text.specs.declared.fault.StoreKind.{StoreKind}
 use Rattle.store_text.specs.declared.fault.StoreKind.TheVariants as kind
 use Rattle.store_text.specs.Refusals.{Last, entry_fault}

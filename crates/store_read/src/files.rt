@@ -3,21 +3,21 @@ ghost use Rattle.std.specs.Prelude.{◌≡◌, ◌≢◌, ◌⊎◌, ◌+◌, �
 ghost use Rattle.pet_base.specs.declared.limits.TheConstants.{MAX_PACKETS};
 ghost use Rattle.pet_base.specs.Seen.{Seen, KeepsOutput, KeepsInput, HasBlame, PlaceStops};
 ghost use Rattle.pet_base.specs.Causes.{stops};
-ghost use Rattle.command_files.specs.Inputs.{Licensed};
-ghost use Rattle.command_files.specs.Uses.{writing, IsOneOf, Failed as HasFailed};
-ghost use Rattle.command_files.specs.Wrote.{Wrote};
-ghost use Rattle.kept_sets.specs.KeptSet.{IsKeptSet};
+ghost use Rattle.outside_files.specs.Inputs.{Licensed};
+ghost use Rattle.outside_files.specs.Uses.{writing, IsOneOf, Failed as HasFailed};
+ghost use Rattle.outside_files.specs.Wrote.{Wrote};
+ghost use Rattle.packet_verdicts.specs.KeptSet.{IsKeptSet};
 ghost use Rattle.pet_receive.specs.Arrivals.{kept_set, HasKept};
-ghost use Rattle.kept_sets.specs.Union.{frames_in};
+ghost use Rattle.packet_verdicts.specs.Union.{frames_in};
 ghost use Rattle.store_read.specs.Reading.{store_steps};
 ghost use Rattle.store_read.specs.Files.{IsStop, has_failed};
 ghost use Rattle.store_text.specs.Files.{HasStore, store_in, store_file};
 
 use crate::read::read_store;
-use command_files::read_file;
+use outside_files::read_file;
 use pet_base::{MAX_SESSION, MAX_STORE, Place, Steps, Stop};
 use pet_receive::Receiver;
-use pet_rows::Rows;
+use field_rows::Rows;
 use std::alloc::Global;
 use std::sync::ledger::Ledger;
 use store_text::{BadStore, StoreKind};

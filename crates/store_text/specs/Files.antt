@@ -2,8 +2,8 @@
 use Rattle.std.specs.Prelude.{◌≡◌, ℕ, nat_lt, if◌then◌else◌, List, length, Some, IfSome, Option, Result, Ok, Err}
 use Rattle.pet_base.specs.declared.limits.TheConstants.{MAX_SESSION, MAX_STORE}
 use Rattle.pet_base.specs.Seen.{Files}
-use Rattle.command_files.specs.Wrote.{File}
-use Rattle.kept_sets.specs.KeptSet.{KeptSet}
+use Rattle.outside_files.specs.Wrote.{File}
+use Rattle.packet_verdicts.specs.KeptSet.{KeptSet}
 use Rattle.store_text.specs.Store.{store_text}
 use Rattle.store_text.specs.Refusals.{read_text}
 use Rattle.store_text.specs.declared.fault.StoreKind.TheVariants.{Cut}

@@ -7,10 +7,10 @@ use Rattle.pet_base.specs.declared.limits.TheConstants.{TAG_LENGTH}
 use Rattle.packet_frame.specs.Frame.{Fields}
 use Rattle.packet_frame.specs.Refusals.{number, fields_of, first_fault, ends_in_tag}
 use Rattle.packet_frame.specs.declared.format.TheConstants.{FORMAT}
-use Rattle.kept_sets.specs.KeptSet.{KeptSet, empty_set, keep}
-use Rattle.kept_sets.specs.Verdicts.{frame_verdict}
-use Rattle.kept_sets.specs.declared.verdict.Verdict.{Verdict}
-use Rattle.kept_sets.specs.declared.verdict.Verdict.TheVariants as verdict
+use Rattle.packet_verdicts.specs.KeptSet.{KeptSet, empty_set, keep}
+use Rattle.packet_verdicts.specs.Verdicts.{frame_verdict}
+use Rattle.packet_verdicts.specs.declared.verdict.Verdict.{Verdict}
+use Rattle.packet_verdicts.specs.declared.verdict.Verdict.TheVariants as verdict
 use Rattle.store_text.specs.declared.format.TheConstants.{MARK, HEAD_LENGTH}
 use Rattle.store_text.specs.declared.fault.StoreKind.{StoreKind}
 use Rattle.store_text.specs.declared.fault.StoreKind.TheVariants.{Cut, Magic, Frame, Session, Order, Clash, Full, Rest, Tag}

@@ -4,9 +4,9 @@ use Rattle.std.specs.Prelude.{ℕ, List, ◌++◌, length}
 use Rattle.std.specs.Int.{w32, to_be_bytes}
 use Rattle.packet_frame.specs.Frame.{Fields, tag_of}
 use Rattle.packet_frame.specs.declared.format.TheConstants.{FORMAT}
-use Rattle.pet_encode.specs.Datagrams.{entries_text}
-use Rattle.kept_sets.specs.KeptSet.{KeptSet}
-use Rattle.kept_sets.specs.Union.{frames_in}
+use Rattle.packet_session.specs.Datagrams.{entries_text}
+use Rattle.packet_verdicts.specs.KeptSet.{KeptSet}
+use Rattle.packet_verdicts.specs.Union.{frames_in}
 use Rattle.store_text.specs.declared.format.TheConstants.{MARK}
 
 -- all that is before the tag: the mark, the session number, how many frames there are, and an entry for each

@@ -9,11 +9,11 @@ use Rattle.stripe_plan.specs.Sizes.{datagram_length_of}
 use Rattle.packet_frame.specs.Frame.{Fields, IsFrame, text, tag_of}
 use Rattle.packet_frame.specs.laws.Laws.{texts_have_length}
 use Rattle.packet_frame.specs.declared.format.TheConstants.{FORMAT}
-use Rattle.pet_encode.specs.Datagrams.{entries_text}
+use Rattle.packet_session.specs.Datagrams.{entries_text}
 use Rattle.pet_base.specs.Entries.{entry_text}
-use Rattle.kept_sets.specs.KeptSet.{KeptSet, IsKeptSet, told_by}
-use Rattle.kept_sets.specs.Union.{frames_in}
-use Rattle.kept_sets.specs.laws.FramesLaws.{frames_of, frames_told, no_frames}
+use Rattle.packet_verdicts.specs.KeptSet.{KeptSet, IsKeptSet, told_by}
+use Rattle.packet_verdicts.specs.Union.{frames_in}
+use Rattle.packet_verdicts.specs.laws.FramesLaws.{frames_of, frames_told, no_frames}
 use Rattle.store_text.specs.Store.{text_before_tag, store_of}
 use Rattle.store_text.specs.declared.format.TheConstants.{MARK}
 

@@ -2,8 +2,8 @@
 use Rattle.std.specs.Prelude.{option_map, OnOk, OnErr}
 use Rattle.std.proofs.Common.{◌≡◌, ◌⊎◌, ℕ, [], ◌∷◌, take, None, Some, Result, Ok, Err, inr}
 use Rattle.pet_base.specs.Seen.{Seen, Names, Grows, with_file}
-use Rattle.command_files.specs.Wrote.{File, Wrote}
-use Rattle.command_files.specs.laws.WroteLaws.{Wrote-file, Wrote-front}
+use Rattle.outside_files.specs.Wrote.{File, Wrote}
+use Rattle.outside_files.specs.laws.WroteLaws.{Wrote-file, Wrote-front}
 
 -- the file that was made, and then put whole or a front of it
 module _ {T E : Type 0} (file : File) (old made new : Seen) (create : made.files ≡ option_map (with_file file.name []) old.files) (is : Names old.files made.target file.name) where

@@ -2,17 +2,17 @@
 ghost use Rattle.std.specs.Prelude.{◌≡◌, ◌⊎◌, ◌≤◌, [], ◌∷◌, None, Some, Err, is_err, IfErr, OnOk, OnErr};
 ghost use Rattle.pet_base.specs.Seen.{Seen, KeepsInput, HasBlame, PlaceStops};
 ghost use Rattle.pet_base.specs.Causes.{stops};
-ghost use Rattle.command_files.specs.Failures.{has_failed};
-ghost use Rattle.command_files.specs.Inputs.{Licensed};
-ghost use Rattle.command_files.specs.Uses.{writing, IsOneOf, Failed as HasFailed};
-ghost use Rattle.command_files.specs.Wrote.{Wrote};
+ghost use Rattle.outside_files.specs.Failures.{has_failed};
+ghost use Rattle.outside_files.specs.Inputs.{Licensed};
+ghost use Rattle.outside_files.specs.Uses.{writing, IsOneOf, Failed as HasFailed};
+ghost use Rattle.outside_files.specs.Wrote.{Wrote};
 ghost use Rattle.pet_receive.specs.Arrivals.{kept_set};
 ghost use Rattle.store_text.specs.Files.{store_file};
 
 use crate::write::write_store;
 use pet_base::{Failed, Place, Stop};
 use pet_receive::Receiver;
-use pet_rows::Rows;
+use field_rows::Rows;
 use std::alloc::Global;
 
 /// Writes the store of all packets that the receiver has kept to the file of this name. The file is made once the store is,

@@ -5,18 +5,18 @@ ghost use Rattle.std.specs.Int.{w32, to_be_bytes};
 ghost use Rattle.packet_frame.specs.Frame.{IsFrame, tag_of, text};
 ghost use Rattle.packet_frame.specs.View.{fields_with};
 ghost use Rattle.packet_set.specs.Packets.{Packets};
-ghost use Rattle.pet_encode.specs.Datagrams.{entries_text};
+ghost use Rattle.packet_session.specs.Datagrams.{entries_text};
 ghost use Rattle.pet_base.specs.Entries.{entry_text};
-ghost use Rattle.kept_sets.specs.KeptSet.{IsKeptSet, open_group};
+ghost use Rattle.packet_verdicts.specs.KeptSet.{IsKeptSet, open_group};
 ghost use Rattle.pet_receive.specs.Arrivals.{kept_set};
-ghost use Rattle.kept_sets.specs.Union.{frames_in, frames_in_group};
-ghost use Rattle.kept_sets.specs.laws.FramesLaws.{frames_of, frame_at};
+ghost use Rattle.packet_verdicts.specs.Union.{frames_in, frames_in_group};
+ghost use Rattle.packet_verdicts.specs.laws.FramesLaws.{frames_of, frame_at};
 ghost use Rattle.store_text.specs.Store.{store_text};
 
 use packet_frame::{FORMAT, Header, frame_length, write_frame};
 use pet_base::NoMemory;
 use pet_receive::Receiver;
-use pet_rows::Rows;
+use field_rows::Rows;
 use sha2::{Digest, Sha256};
 use store_text::MARK;
 

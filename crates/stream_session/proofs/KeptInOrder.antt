@@ -17,12 +17,12 @@ use Rattle.layer_split.specs.Layers.{Cut, cut_of}
 use Rattle.layer_split.specs.Faults.{is_too_long}
 use Rattle.layer_split.specs.Splitting.{cuts_of}
 use Rattle.stripe_plan.specs.Sizes.{Sizes}
-use Rattle.group_cutter.specs.declared.fault.CutFault.{CutFault}
-use Rattle.group_cutter.specs.declared.fault.CutFault.TheVariants.{Groups}
-use Rattle.group_cutter.specs.declared.groups.GroupCutter.{GroupCutter}
-use Rattle.group_cutter.specs.CutGroups.{CutGroup}
-use Rattle.group_cutter.specs.Cutting.{HasCut, HaveEnded, AreAll, IsCutFault, groups_fault, cut_group, cut_groups, groups_in}
-use Rattle.group_cutter.specs.laws.EndedLaws.{given_ended}
+use Rattle.stream_groups.specs.declared.fault.CutFault.{CutFault}
+use Rattle.stream_groups.specs.declared.fault.CutFault.TheVariants.{Groups}
+use Rattle.stream_groups.specs.declared.groups.GroupCutter.{GroupCutter}
+use Rattle.stream_groups.specs.CutGroups.{CutGroup}
+use Rattle.stream_groups.specs.Cutting.{HasCut, HaveEnded, AreAll, IsCutFault, groups_fault, cut_group, cut_groups, groups_in}
+use Rattle.stream_groups.specs.laws.EndedLaws.{given_ended}
 use Rattle.stream_session.specs.declared.fault.SessionFault.{SessionFault}
 use Rattle.stream_session.specs.declared.fault.SessionFault.TheVariants as session
 use Rattle.stream_session.specs.declared.mark.GroupMark.{GroupMark}

@@ -20,7 +20,7 @@ use Rattle.stream_session.specs.declared.pass.StreamFault.{StreamFault}
 use Rattle.stream_session.specs.declared.pass.StreamFault.TheVariants as pass
 use Rattle.stream_session.specs.declared.source.SourceFault.TheVariants as source
 use Rattle.stream_session.specs.Refusals.{session_fault}
-use Rattle.command_files.specs.Inputs.{IsFile, IsFrontOf, IsRead, Licensed}
+use Rattle.outside_files.specs.Inputs.{IsFile, IsFrontOf, IsRead, Licensed}
 use Rattle.stream_session.specs.declared.pass.SessionPlan.{SessionPlan}
 use Rattle.stream_session.specs.Passing.{IsPlanOf, IsStreamFault}
 use Rattle.stream_session.specs.Sources.{of_stop, of_stream, of_priority, BothFiles, IsOfSource, IsSource, IsSourceFault}

@@ -5,7 +5,7 @@ use Rattle.mpeg_scan.specs.Pieces.{pieces_of}
 use Rattle.priority_file.specs.Priority.{Priorities}
 use Rattle.priority_file.specs.Refusals.{refusal_of, priorities_of}
 use Rattle.layer_split.specs.Layers.{Cut, message}
-use Rattle.pet_encode.specs.Session.{Session, SessionGroup}
+use Rattle.packet_session.specs.Session.{Session, SessionGroup}
 use Rattle.stream_session.specs.Tables.{sizes_of, cuts_of_stream}
 use Rattle.stream_session.specs.Refusals.{session_fault}
 use Rattle.stream_session.specs.Number.{session_number}

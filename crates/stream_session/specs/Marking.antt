@@ -4,9 +4,9 @@ use Rattle.std.specs.Prelude.{◌≡◌, ℕ, List, map}
 use Rattle.sha2.specs.Hashers.{Holds256}
 use Rattle.priority_file.specs.Priority.{Priorities}
 use Rattle.layer_split.specs.Layers.{Cut}
-use Rattle.group_cutter.specs.declared.groups.GroupCutter.{GroupCutter}
-use Rattle.group_cutter.specs.CutGroups.{CutGroup}
-use Rattle.group_cutter.specs.Cutting.{HasCut}
+use Rattle.stream_groups.specs.declared.groups.GroupCutter.{GroupCutter}
+use Rattle.stream_groups.specs.CutGroups.{CutGroup}
+use Rattle.stream_groups.specs.Cutting.{HasCut}
 use Rattle.stream_session.specs.declared.marking.KeptGroups.{KeptGroups}
 use Rattle.stream_session.specs.declared.marking.MarkedPass.{MarkedPass}
 use Rattle.stream_session.specs.declared.marking.MarkedPlan.{MarkedPlan}

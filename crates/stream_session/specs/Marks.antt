@@ -3,8 +3,8 @@
 use Rattle.std.specs.Prelude.{ℕ, min, List, length, map, take, replicate, slice_index_or}
 use Rattle.sha2.specs.Sha256.{sha256}
 use Rattle.priority_file.specs.Priority.{Priorities}
-use Rattle.group_cutter.specs.CutGroups.{CutGroup}
-use Rattle.group_cutter.specs.Cutting.{cut_groups}
+use Rattle.stream_groups.specs.CutGroups.{CutGroup}
+use Rattle.stream_groups.specs.Cutting.{cut_groups}
 use Rattle.stream_session.specs.declared.mark.GroupMark.{GroupMark}
 
 -- Of a group of these bytes. The length is a word of 32 bits, and stops at the greatest; a stream that is accepted is

@@ -4,7 +4,7 @@ use Rattle.pet_base.specs.Seen.{Seen, Files}
 use Rattle.stripe_plan.specs.Sizes.{Sizes}
 use Rattle.priority_file.specs.Refusals.{priorities_of}
 use Rattle.stream_session.specs.Accepted.{IsAcceptedSession}
-use Rattle.command_files.specs.Inputs.{IsFile}
+use Rattle.outside_files.specs.Inputs.{IsFile}
 use Rattle.stream_session.specs.Tables.{tables_of, cuts_of_stream}
 
 -- the two files, and that they are an accepted session

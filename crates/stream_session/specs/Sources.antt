@@ -18,7 +18,7 @@ use Rattle.stream_session.specs.Tables.{tables_of, cuts_of_stream}
 use Rattle.stream_session.specs.Refusals.{session_fault}
 use Rattle.stream_session.specs.Number.{session_number}
 use Rattle.stream_session.specs.Accepted.{IsAcceptedSession}
-use Rattle.command_files.specs.Inputs.{IsFile, IsRead}
+use Rattle.outside_files.specs.Inputs.{IsFile, IsRead}
 
 -- each cause as one of both files
 abbrev pub of_stop : Stop → SourceFault

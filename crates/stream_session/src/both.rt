@@ -6,14 +6,14 @@ ghost use Rattle.pet_base.specs.Causes.{Blames, stops};
 ghost use Rattle.pet_base.specs.Seen.{Seen, KeepsOutput, OnlyReads, HadFault, PlaceStops};
 ghost use Rattle.priority_file.specs.Priority.{Priorities};
 ghost use Rattle.priority_file.specs.Refusals.{priorities_of};
-ghost use Rattle.command_files.specs.declared.input.TheConstants.{MAX_PORTION};
-ghost use Rattle.command_files.specs.Failures.{has_failed as stop_failed};
-ghost use Rattle.command_files.specs.Inputs.{IsFrontOf, IsRead, Licensed, HasTakenAll};
+ghost use Rattle.outside_files.specs.declared.input.TheConstants.{MAX_PORTION};
+ghost use Rattle.outside_files.specs.Failures.{has_failed as stop_failed};
+ghost use Rattle.outside_files.specs.Inputs.{IsFrontOf, IsRead, Licensed, HasTakenAll};
 ghost use Rattle.stream_session.specs.Sources.{BothFiles, IsSourceFault, has_failed};
 
 use crate::reader::StreamReader;
 use crate::source::SourceFault;
-use command_files::{portion_room, read_file, take_portion};
+use outside_files::{portion_room, read_file, take_portion};
 use pet_base::{MAX_PRIORITY_FILE, MAX_STREAM, Place, Stop};
 use priority_file::{Priority, read_priority};
 use std::alloc::Global;

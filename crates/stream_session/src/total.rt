@@ -5,7 +5,7 @@ ghost use Rattle.stream_session.specs.Refusals.{first_above};
 ghost use Rattle.stream_session.specs.Planning.{table_cost};
 
 use pet_base::MAX_SESSION;
-use pet_encode::group_cost;
+use packet_session::group_cost;
 use stripe_plan::Table;
 
 /// The first group with which the packets of these tables, times their datagram lengths, pass the bytes of a session.

@@ -3,24 +3,24 @@ use Rattle.std.proofs.Common.{◌≡◌, ℕ, List, [], ◌∷◌, ◌++◌, len
 use Rattle.std.specs.Prelude.{option_map, IfSome}
 use Rattle.pet_base.specs.declared.limits.TheConstants.{MAX_SESSION}
 use Rattle.pet_base.specs.Seen.{Seen, Files, Blame, HadFault, with_file}
-use Rattle.command_files.specs.Uses.{reading, writing, Failed}
-use Rattle.command_files.specs.Wrote.{with_files}
-use Rattle.pet_encode.specs.Session.{Session}
-use Rattle.pet_field.specs.Gf16.{gf16_coding}
+use Rattle.outside_files.specs.Uses.{reading, writing, Failed}
+use Rattle.outside_files.specs.Wrote.{with_files}
+use Rattle.packet_session.specs.Session.{Session}
+use Rattle.field_elements.specs.Gf16.{gf16_coding}
 use Rattle.packet_frame.specs.Frame.{Fields}
-use Rattle.kept_sets.specs.KeptSet.{KeptSet, kept_in_all}
-use Rattle.kept_sets.specs.laws.FramesLaws.{frames_many}
-use Rattle.kept_sets.specs.Union.{union, absorb_fault}
-use Rattle.kept_sets.specs.declared.union.Absorb.{Absorb}
-use Rattle.kept_sets.specs.declared.union.Absorb.TheVariants as absorb
+use Rattle.packet_verdicts.specs.KeptSet.{KeptSet, kept_in_all}
+use Rattle.packet_verdicts.specs.laws.FramesLaws.{frames_many}
+use Rattle.packet_verdicts.specs.Union.{union, absorb_fault}
+use Rattle.packet_verdicts.specs.declared.union.Absorb.{Absorb}
+use Rattle.packet_verdicts.specs.declared.union.Absorb.TheVariants as absorb
 use Rattle.store_text.specs.Files.{store_file}
 use Rattle.store_text.specs.Store.{store_text}
 use Rattle.store_text.specs.declared.fault.BadStore.TheVariants.{At}
-use Rattle.met_packets.specs.Gf16.{met_frames}
-use Rattle.met_packets.specs.Met.{Pair}
-use Rattle.met_packets.specs.MetStore.{pairs_store}
-use Rattle.met_packets.specs.laws.SetOfPairs.{IsMetSet, its_frames, met_sets_fit, met_sets_join}
-use Rattle.met_packets.specs.laws.StoreRead.{IsStoreOf, text_is, store_is, read_so, not_refused}
+use Rattle.packet_met.specs.Gf16.{met_frames}
+use Rattle.packet_met.specs.Met.{Pair}
+use Rattle.packet_met.specs.MetStore.{pairs_store}
+use Rattle.packet_met.specs.laws.SetOfPairs.{IsMetSet, its_frames, met_sets_fit, met_sets_join}
+use Rattle.packet_met.specs.laws.StoreRead.{IsStoreOf, text_is, store_is, read_so, not_refused}
 use Rattle.command_merge.specs.Merges.{HasStores, FailedInTurn, WritesUnion, union_of, Merges}
 use Rattle.command_merge.specs.MergesSession.{HasStoresOf, CanMerge, MergesSession, CompletesMerge}
 use Rattle.command_merge.specs.declared.command.MergeEnd.{MergeEnd}

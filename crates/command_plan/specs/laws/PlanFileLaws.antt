@@ -24,14 +24,14 @@ use Rattle.stream_session.specs.laws.FitLaws.{IsWithinBounds, tables_stand}
 use Rattle.stream_session.specs.Number.{session_number}
 use Rattle.stream_session.specs.laws.SessionOfLaws.{accepted_lawful}
 use Rattle.stream_session.specs.laws.SessionLaws.{number_short, tables_few, tables_some, AreNamed, layers_named}
-use Rattle.plan_text.specs.declared.plan_file.Repeat.{Repeat}
-use Rattle.plan_text.specs.PlanFile.{lists_of}
-use Rattle.plan_text.specs.laws.PlanFileLaws.{name_plain, name_short, printed_lists}
-use Rattle.plan_text.specs.laws.PlanLengthLaws.{printed_short}
-use Rattle.plan_text.specs.PlanLines.{rows_of, plan_lengths}
-use Rattle.plan_text.specs.PlanText.{repeat_of_row, plan_lists}
-use Rattle.plan_text.specs.laws.ReadingLaws.{lacks}
-use Rattle.plan_text.specs.laws.RowLaws.{rows_back}
+use Rattle.text_plan.specs.declared.plan_file.Repeat.{Repeat}
+use Rattle.text_plan.specs.PlanFile.{lists_of}
+use Rattle.text_plan.specs.laws.PlanFileLaws.{name_plain, name_short, printed_lists}
+use Rattle.text_plan.specs.laws.PlanLengthLaws.{printed_short}
+use Rattle.text_plan.specs.PlanLines.{rows_of, plan_lengths}
+use Rattle.text_plan.specs.PlanText.{repeat_of_row, plan_lists}
+use Rattle.text_plan.specs.laws.ReadingLaws.{lacks}
+use Rattle.text_plan.specs.laws.RowLaws.{rows_back}
 use Rattle.command_plan.specs.Certified.{IsLeastAt, AreLeast}
 use Rattle.command_plan.specs.Least.{IsLeast, lengths_in, starts_by}
 use Rattle.command_plan.specs.SessionPlan.{session_plan}

@@ -4,14 +4,14 @@ use Rattle.std.specs.Io.KnownBytes.{append_known}
 use Rattle.pet_base.specs.LinkSeen.{LinkSeen}
 use Rattle.pet_base.specs.OutsideSeen.{OutsideSeen}
 use Rattle.pet_base.specs.Seen.{Seen, Files, with_file}
-use Rattle.command_files.specs.Printed.{Printed, PrintsLine}
-use Rattle.command_files.specs.Uses.{IsWell}
-use Rattle.command_files.specs.laws.PrintedLaws.{append_known-twice, well_before, well_since}
-use Rattle.datagram_route.specs.Way.{Way}
-use Rattle.datagram_route.specs.RouteFaults.{BoundFailed}
-use Rattle.pet_encode.specs.Session.{Session}
-use Rattle.met_packets.specs.Met.{layers_text}
-use Rattle.met_packets.specs.MetStore.{session_store}
+use Rattle.outside_files.specs.Printed.{Printed, PrintsLine}
+use Rattle.outside_files.specs.Uses.{IsWell}
+use Rattle.outside_files.specs.laws.PrintedLaws.{append_known-twice, well_before, well_since}
+use Rattle.outside_routes.specs.Way.{Way}
+use Rattle.outside_routes.specs.RouteFaults.{BoundFailed}
+use Rattle.packet_session.specs.Session.{Session}
+use Rattle.packet_met.specs.Met.{layers_text}
+use Rattle.packet_met.specs.MetStore.{session_store}
 use Rattle.command_receive.specs.declared.command.ReceiveEnd.{ReceiveEnd}
 use Rattle.command_receive.specs.Receives.{port_line, uses_of}
 use Rattle.command_receive.specs.ReceivesSession.{CanReceive, ReceivesSession, session_numbers}

@@ -1,8 +1,8 @@
 -- LAYERS names what STORE has, from what each end tells. For the proofs of callers.
 use Rattle.std.proofs.Common.{ℕ, List}
 use Rattle.pet_base.specs.OutsideSeen.{OutsideSeen}
-use Rattle.datagram_route.specs.Way.{Way}
-use Rattle.met_packets.specs.Kept.{kept_of}
+use Rattle.outside_routes.specs.Way.{Way}
+use Rattle.packet_met.specs.Kept.{kept_of}
 use Rattle.command_receive.specs.declared.command.ReceiveEnd.{ReceiveEnd}
 use Rattle.command_receive.specs.declared.command.ReceiveEnd.TheVariants.{Done, NoMemory, PlaceFault, LinkFault, OutFault, Incomplete, TurnsSpent}
 use Rattle.command_receive.specs.NamedLayers.{NamesStored, NamesWhatItStores}

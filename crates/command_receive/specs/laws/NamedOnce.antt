@@ -11,19 +11,19 @@ use Rattle.packet_frame.specs.Refusals.{fields_of, first_fault}
 use Rattle.packet_frame.specs.declared.frame.Header.{Header}
 use Rattle.packet_frame.specs.laws.Laws.{reads_frames}
 use Rattle.packet_set.specs.Packets.{Packets, count_in}
-use Rattle.pet_field.specs.Field.{Coding}
+use Rattle.field_elements.specs.Field.{Coding}
 use Rattle.pet_receive.specs.Arrivals.{Order, layers_of}
-use Rattle.kept_sets.specs.KeptSet.{KeptSet, IsKeptSet, keep, keep_by, open_group, group_with, count_kept}
+use Rattle.packet_verdicts.specs.KeptSet.{KeptSet, IsKeptSet, keep, keep_by, open_group, group_with, count_kept}
 use Rattle.pet_receive.specs.ShownBytes.{IsShown, IsShownIn}
-use Rattle.kept_sets.specs.Verdicts.{verdict_of, is_kept, newly_shown, after, after_in, after_all, after_all_in}
-use Rattle.kept_sets.specs.laws.KeptSetLaws.{IsKeepable, keepable, open_here, open_other, header_with, count_with, verdict_read, after_kept, after_other, after_sound, empty_sound}
-use Rattle.kept_sets.specs.laws.LayerSetLaws.{filter_more, newly_shown-is}
-use Rattle.met_packets.specs.Kept.{nothing_of, kept_of}
-use Rattle.met_packets.specs.LayersText.{AreRecords, IsArrivalText, IsLayersText, order_after, record_text, shown_by}
-use Rattle.met_packets.specs.Gf16 as G
-use Rattle.pet_field.specs.Gf16.{gf16_coding}
+use Rattle.packet_verdicts.specs.Verdicts.{verdict_of, is_kept, newly_shown, after, after_in, after_all, after_all_in}
+use Rattle.packet_verdicts.specs.laws.KeptSetLaws.{IsKeepable, keepable, open_here, open_other, header_with, count_with, verdict_read, after_kept, after_other, after_sound, empty_sound}
+use Rattle.packet_verdicts.specs.laws.LayerSetLaws.{filter_more, newly_shown-is}
+use Rattle.packet_met.specs.Kept.{nothing_of, kept_of}
+use Rattle.packet_met.specs.LayersText.{AreRecords, IsArrivalText, IsLayersText, order_after, record_text, shown_by}
+use Rattle.packet_met.specs.Gf16 as G
+use Rattle.field_elements.specs.Gf16.{gf16_coding}
 use Rattle.pet_base.specs.declared.limits.TheConstants.{MAX_SESSION}
-use Rattle.met_packets.specs.laws.KeptDatagram.{kept_frame}
+use Rattle.packet_met.specs.laws.KeptDatagram.{kept_frame}
 use Rattle.command_receive.specs.NamedLayers.{Name, HasName, AreDistinct, IsTextOf, NamesShown}
 
 -- names on end

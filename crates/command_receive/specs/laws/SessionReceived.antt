@@ -6,29 +6,29 @@ use Rattle.std.proofs.lemmas.Bool.{false_from_ne_true}
 use Rattle.std.proofs.lemmas.List.{append-nil, length-append}
 use Rattle.pet_base.specs.declared.limits.TheConstants.{MAX_SESSION, MAX_DATAGRAMS}
 use Rattle.pet_base.specs.Causes.{Rose}
-use Rattle.datagram_route.specs.Way.{Way, OnFile, OnLink}
-use Rattle.datagram_route.specs.Coming.{HaveCome}
+use Rattle.outside_routes.specs.Way.{Way, OnFile, OnLink}
+use Rattle.outside_routes.specs.Coming.{HaveCome}
 use Rattle.command_receive.specs.Opened.{IsBoundTo, PortFailed}
 use Rattle.pet_base.specs.OutsideSeen.{OutsideSeen}
 use Rattle.pet_base.specs.Seen.{Blame, Files, HadFault, with_file}
 use Rattle.pet_base.specs.laws.SeenLaws.{HadFault-since}
-use Rattle.command_files.specs.Printed.{Printed}
-use Rattle.command_files.specs.Uses.{IsOneOf, Failed}
-use Rattle.command_files.specs.Wrote.{with_files}
-use Rattle.pet_encode.specs.Session.{Session}
+use Rattle.outside_files.specs.Printed.{Printed}
+use Rattle.outside_files.specs.Uses.{IsOneOf, Failed}
+use Rattle.outside_files.specs.Wrote.{with_files}
+use Rattle.packet_session.specs.Session.{Session}
 use Rattle.pet_receive.specs.ShownBytes.{IsComplete, shown_in_all}
-use Rattle.kept_sets.specs.Union.{frames_in}
+use Rattle.packet_verdicts.specs.Union.{frames_in}
 use Rattle.pet_text.specs.Lines.{receive_text}
-use Rattle.pet_field.specs.Gf16.{gf16_coding}
-use Rattle.met_packets.specs.Kept.{kept_of}
-use Rattle.met_packets.specs.Met.{met_in, all_shown, count_met, layers_text}
-use Rattle.met_packets.specs.MetStore.{session_store}
-use Rattle.met_packets.specs.laws.FramesAreMet.{kept_frames}
-use Rattle.met_packets.specs.laws.AllDatagrams.{follows_all, text_is}
-use Rattle.met_packets.specs.laws.CountsAreMet.{kept_is, shown_is, complete_is}
-use Rattle.met_packets.specs.laws.DatagramMore.{made, IsPlain}
-use Rattle.met_packets.specs.laws.FewestStripesLaws.{all_carry_fewest}
-use Rattle.met_packets.specs.laws.KeptIsMet.{Follows}
+use Rattle.field_elements.specs.Gf16.{gf16_coding}
+use Rattle.packet_met.specs.Kept.{kept_of}
+use Rattle.packet_met.specs.Met.{met_in, all_shown, count_met, layers_text}
+use Rattle.packet_met.specs.MetStore.{session_store}
+use Rattle.packet_met.specs.laws.FramesAreMet.{kept_frames}
+use Rattle.packet_met.specs.laws.AllDatagrams.{follows_all, text_is}
+use Rattle.packet_met.specs.laws.CountsAreMet.{kept_is, shown_is, complete_is}
+use Rattle.packet_met.specs.laws.DatagramMore.{made, IsPlain}
+use Rattle.packet_met.specs.laws.FewestStripesLaws.{all_carry_fewest}
+use Rattle.packet_met.specs.laws.KeptIsMet.{Follows}
 use Rattle.command_receive.specs.declared.command.ReceiveEnd.{ReceiveEnd}
 use Rattle.command_receive.specs.declared.command.ReceiveEnd.TheVariants.{Done, NoMemory, PlaceFault, LinkFault, OutFault, Incomplete, TurnsSpent}
 use Rattle.store_text.specs.Files.{HasFile}

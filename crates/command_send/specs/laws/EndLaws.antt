@@ -4,15 +4,15 @@ use Rattle.std.specs.Prelude.{IfSome}
 use Rattle.pet_base.specs.Seen.{Blame, Files}
 use Rattle.pet_base.specs.laws.SeenLaws.{HadFault-since}
 use Rattle.pet_base.specs.OutsideSeen.{OutsideSeen}
-use Rattle.command_files.specs.Uses.{IsOneOf}
-use Rattle.command_files.specs.Wrote.{File, Wrote}
+use Rattle.outside_files.specs.Uses.{IsOneOf}
+use Rattle.outside_files.specs.Wrote.{File, Wrote}
 use Rattle.command_send.specs.declared.command.SendEnd.{SendEnd}
 use Rattle.command_send.specs.declared.session.Sent.{Sent as SentNumbers}
 use Rattle.command_send.specs.declared.command.SendEnd.TheVariants.{Done, NoMemory, PlaceFault, LinkFault, BadPriority, BadStream, BadPlan, Changed}
 use Rattle.command_send.specs.Sends.{packets_file, packets_in, routes_in, HasPackets, IsSentOf, LinkSentAll, MayBlame, SendTells, Sends}
 use Rattle.command_send.specs.SendsSession.{uses, CanSend, SendsAll, HasSent, SendsSession}
-use Rattle.datagram_route.specs.Sending.{Sent}
-use Rattle.datagram_route.specs.Way.{Way, OnFile, OnLink}
+use Rattle.outside_routes.specs.Sending.{Sent}
+use Rattle.outside_routes.specs.Way.{Way, OnFile, OnLink}
 use Rattle.stream_session.specs.Sessions.{HasSession}
 use Rattle.stream_session.specs.laws.SourceLaws.{priority_is, stream_is, none_refused}
 use Rattle.stream_session.specs.Sources.{IsSourceFault}

@@ -3,8 +3,8 @@ use Rattle.std.proofs.Common.{◌<◌, List, ℕ, All}
 use Rattle.pet_base.specs.Entries.{datagrams}
 use Rattle.stream_session.specs.Accepted.{IsAcceptedSession, session_of}
 use Rattle.stream_session.specs.laws.SessionOfLaws.{is_session}
-use Rattle.pet_encode.specs.Datagrams.{IsItsDatagram}
-use Rattle.pet_encode.specs.laws.SentLaws.{sent_are_packets}
+use Rattle.packet_session.specs.Datagrams.{IsItsDatagram}
+use Rattle.packet_session.specs.laws.SentLaws.{sent_are_packets}
 use Rattle.command_send.specs.Sends.{packets_file}
 
 -- Each datagram of the file of an accepted session is accepted, has the session's number, and is one of its packets.

@@ -20,13 +20,13 @@ use Rattle.layer_split.specs.declared.cut.Run.{Run}
 use Rattle.layer_split.specs.Groups.{groups_of}
 use Rattle.layer_split.specs.Layers.{Cut, cut_of, lengths_of, layer_length, bytes_of_run}
 use Rattle.layer_split.specs.RunTable.{fits}
-use Rattle.group_cutter.specs.laws.StandingLaws.{groups_stand}
-use Rattle.pet_field.specs.Gf16.{gf16_coding}
+use Rattle.stream_groups.specs.laws.StandingLaws.{groups_stand}
+use Rattle.field_elements.specs.Gf16.{gf16_coding}
 use Rattle.packet_set.specs.Packets.{Packets}
-use Rattle.pet_encode.specs.Session.{Session, SessionGroup, IsSession, bytes_of_layer}
-use Rattle.kept_sets.specs.KeptSet.{KeptSet, open_group}
-use Rattle.met_packets.specs.Met.{Pair}
-use Rattle.met_packets.specs.laws.SetOfPairs.{IsMetSet}
+use Rattle.packet_session.specs.Session.{Session, SessionGroup, IsSession, bytes_of_layer}
+use Rattle.packet_verdicts.specs.KeptSet.{KeptSet, open_group}
+use Rattle.packet_met.specs.Met.{Pair}
+use Rattle.packet_met.specs.laws.SetOfPairs.{IsMetSet}
 use Rattle.reassemble.specs.Leading.{AreShownBytes}
 use Rattle.reassemble.specs.Video.{group_video}
 use Rattle.reassemble.specs.laws.TableFits.{CanBeNamed}

@@ -13,25 +13,25 @@ use Rattle.stripe_plan.specs.declared.layer.LayerSize.{LayerSize}
 use Rattle.stripe_plan.specs.Layers.{count_of, needs_of, plan_ends, plan_stripes, words_before}
 use Rattle.stripe_plan.specs.Stripes.{IsPlan}
 use Rattle.stripe_plan.proofs.PlanLemmas.{plan_ends_plan}
-use Rattle.pet_field.specs.Gf16.{gf16_coding}
-use Rattle.pet_field.specs.laws.Gf16Laws.{gf16_lawful}
+use Rattle.field_elements.specs.Gf16.{gf16_coding}
+use Rattle.field_elements.specs.laws.Gf16Laws.{gf16_lawful}
 use Rattle.packet_frame.specs.Frame.{Fields}
 use Rattle.packet_frame.specs.declared.frame.Header.{Header}
 use Rattle.packet_set.specs.Packets.{Packets, slot_at, count_in}
-use Rattle.pet_encode.specs.Session.{Session, SessionGroup, IsSession, IsSessionGroup, IsMessage, IsPacketOf, bytes_of_layer, packet_of, packets_of}
-use Rattle.pet_encode.specs.laws.SessionLaws.{packets_are}
+use Rattle.packet_session.specs.Session.{Session, SessionGroup, IsSession, IsSessionGroup, IsMessage, IsPacketOf, bytes_of_layer, packet_of, packets_of}
+use Rattle.packet_session.specs.laws.SessionLaws.{packets_are}
 use Rattle.pet_receive.specs.Arrivals.{layers_of}
-use Rattle.kept_sets.specs.KeptSet.{KeptSet, open_group}
+use Rattle.packet_verdicts.specs.KeptSet.{KeptSet, open_group}
 use Rattle.pet_receive.specs.ShownBytes.{IsShown, IsShownIn, IsShownBytes}
-use Rattle.kept_sets.specs.Union.{frames_in}
-use Rattle.open_group.proofs.Agreement.{agreed_bytes}
-use Rattle.met_packets.specs.Met.{Pair, has_pair, distinct_met, shows}
-use Rattle.met_packets.specs.laws.SumLaws.{count_nothing}
-use Rattle.met_packets.specs.laws.KeptIsMet.{HasMet, count_met_in}
-use Rattle.met_packets.specs.laws.DatagramMore.{made, agrees}
-use Rattle.met_packets.specs.laws.FramesAreMet.{is_met, frames_are_met}
-use Rattle.met_packets.specs.laws.CountsAreMet.{some_count}
-use Rattle.met_packets.specs.laws.SetOfPairs.{IsMetSet, pair_of}
+use Rattle.packet_verdicts.specs.Union.{frames_in}
+use Rattle.packet_group.proofs.Agreement.{agreed_bytes}
+use Rattle.packet_met.specs.Met.{Pair, has_pair, distinct_met, shows}
+use Rattle.packet_met.specs.laws.SumLaws.{count_nothing}
+use Rattle.packet_met.specs.laws.KeptIsMet.{HasMet, count_met_in}
+use Rattle.packet_met.specs.laws.DatagramMore.{made, agrees}
+use Rattle.packet_met.specs.laws.FramesAreMet.{is_met, frames_are_met}
+use Rattle.packet_met.specs.laws.CountsAreMet.{some_count}
+use Rattle.packet_met.specs.laws.SetOfPairs.{IsMetSet, pair_of}
 use Rattle.reassemble.specs.Leading.{AreLeading}
 use Rattle.command_video.specs.StoreVideo.{numbers_in}
 use Rattle.command_video.specs.StreamVideo.{leading_shown}

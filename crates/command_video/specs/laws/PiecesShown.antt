@@ -17,9 +17,9 @@ use Rattle.layer_split.specs.Layers.{Cut, cut_of, bytes_of_run}
 use Rattle.layer_split.specs.Places.{placed, placed_at, placed_behind}
 use Rattle.layer_split.specs.Runs.{run_of, both, joined_from}
 use Rattle.layer_split.specs.laws.CutLaws.{StandsIn}
-use Rattle.group_cutter.specs.laws.StandingLaws.{groups_stand}
+use Rattle.stream_groups.specs.laws.StandingLaws.{groups_stand}
 use Rattle.reassemble.specs.laws.RunsOnEnd.{AreOnEnd}
-use Rattle.met_packets.specs.Met.{Pair}
+use Rattle.packet_met.specs.Met.{Pair}
 use Rattle.stream_session.specs.Accepted.{group_of}
 use Rattle.command_video.specs.StreamVideo.{leading_shown, cut_video, shown_video, pieces_video, shown_pieces, stream_video, stream_pieces}
 

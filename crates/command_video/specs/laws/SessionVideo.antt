@@ -3,15 +3,15 @@ use Rattle.std.proofs.Common.{◌≡◌, ℕ, ◌<◌, List, [], ◌∷◌, leng
 use Rattle.std.specs.Prelude.{option_map}
 use Rattle.pet_base.specs.Seen.{Seen, Files, with_file}
 use Rattle.pet_base.specs.laws.SeenLaws.{HadFault-since}
-use Rattle.command_files.specs.Uses.{reading, writing, Failed, IsOneOf}
-use Rattle.command_files.specs.Wrote.{with_files}
-use Rattle.pet_encode.specs.Session.{Session, IsSession}
-use Rattle.kept_sets.specs.KeptSet.{KeptSet}
+use Rattle.outside_files.specs.Uses.{reading, writing, Failed, IsOneOf}
+use Rattle.outside_files.specs.Wrote.{with_files}
+use Rattle.packet_session.specs.Session.{Session, IsSession}
+use Rattle.packet_verdicts.specs.KeptSet.{KeptSet}
 use Rattle.pet_receive.specs.ShownBytes.{groups_told}
 use Rattle.store_text.specs.Files.{HasStore}
 use Rattle.store_text.specs.declared.fault.BadStore.TheVariants.{At}
-use Rattle.met_packets.specs.Met.{Pair}
-use Rattle.met_packets.specs.laws.StoreRead.{IsStoreOf, store_is, read_so, not_refused}
+use Rattle.packet_met.specs.Met.{Pair}
+use Rattle.packet_met.specs.laws.StoreRead.{IsStoreOf, store_is, read_so, not_refused}
 use Rattle.stream_session.specs.Accepted.{session_of}
 use Rattle.stream_session.specs.laws.SessionOfLaws.{is_session, session_fits}
 use Rattle.command_video.specs.StoreVideo.{AreVideos, HasBadTable}

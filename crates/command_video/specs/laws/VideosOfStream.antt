@@ -12,15 +12,15 @@ use Rattle.pet_base.specs.declared.limits.TheConstants.{MAX_SESSION}
 use Rattle.priority_file.specs.Priority.{Priorities}
 use Rattle.priority_file.specs.Refusals.{priorities_of}
 use Rattle.layer_split.specs.Layers.{Cut}
-use Rattle.pet_field.specs.Gf16.{gf16_coding}
+use Rattle.field_elements.specs.Gf16.{gf16_coding}
 use Rattle.packet_set.specs.Packets.{Packets}
-use Rattle.pet_encode.specs.Session.{Session, IsSession}
-use Rattle.kept_sets.specs.KeptSet.{KeptSet}
+use Rattle.packet_session.specs.Session.{Session, IsSession}
+use Rattle.packet_verdicts.specs.KeptSet.{KeptSet}
 use Rattle.pet_receive.specs.ShownBytes.{IsShown, IsShownIn, groups_told}
-use Rattle.met_packets.specs.Met.{Pair}
-use Rattle.met_packets.specs.laws.CountsAreMet.{told_is}
-use Rattle.met_packets.specs.laws.DatagramMore.{made}
-use Rattle.met_packets.specs.laws.SetOfPairs.{IsMetSet}
+use Rattle.packet_met.specs.Met.{Pair}
+use Rattle.packet_met.specs.laws.CountsAreMet.{told_is}
+use Rattle.packet_met.specs.laws.DatagramMore.{made}
+use Rattle.packet_met.specs.laws.SetOfPairs.{IsMetSet}
 use Rattle.stream_session.specs.Accepted.{IsAcceptedSession, group_of, session_of}
 use Rattle.stream_session.specs.Tables.{cuts_of_stream}
 use Rattle.stream_session.specs.laws.SessionOfLaws.{is_session}

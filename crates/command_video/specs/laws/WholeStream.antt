@@ -21,11 +21,11 @@ use Rattle.layer_split.specs.Layers.{Cut, cut_of, bytes_of_run}
 use Rattle.layer_split.specs.Runs.{runs_of}
 use Rattle.layer_split.specs.laws.CutLaws.{StandsIn}
 use Rattle.layer_split.specs.laws.RunLaws.{runs_layers}
-use Rattle.group_cutter.specs.Cutting.{bytes_of_pieces}
-use Rattle.group_cutter.specs.laws.StandingLaws.{groups_stand, stand_bytes}
+use Rattle.stream_groups.specs.Cutting.{bytes_of_pieces}
+use Rattle.stream_groups.specs.laws.StandingLaws.{groups_stand, stand_bytes}
 use Rattle.reassemble.specs.laws.RunsOnEnd.{runs_on_end, on_end_bytes}
-use Rattle.pet_encode.specs.Session.{SessionGroup}
-use Rattle.met_packets.specs.Met.{Pair, shows, all_shown}
+use Rattle.packet_session.specs.Session.{SessionGroup}
+use Rattle.packet_met.specs.Met.{Pair, shows, all_shown}
 use Rattle.stream_session.specs.Accepted.{IsAcceptedSession, group_of, session_of}
 use Rattle.stream_session.specs.laws.SessionLaws.{length-sizes_of}
 use Rattle.stream_session.specs.laws.SessionOfLaws.{accepted_lawful, some_groups}

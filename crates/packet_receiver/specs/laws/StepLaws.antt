@@ -6,13 +6,13 @@ use Rattle.std.proofs.lemmas.List.Sums.{sum_by-cons, sum_by-append}
 use Rattle.packet_frame.specs.Frame.{Fields, IsFrameBy}
 use Rattle.packet_frame.specs.declared.frame.Header.{Header}
 use Rattle.packet_set.specs.Packets.{Packets, count_in}
-use Rattle.interpolation.specs.Progressive.{step_bound}
-use Rattle.kept_sets.specs.KeptSet.{KeptSet, IsKeptSetBy, open_group, count_kept, group_with_by, keep_by}
+use Rattle.pet_interp.specs.Progressive.{step_bound}
+use Rattle.packet_verdicts.specs.KeptSet.{KeptSet, IsKeptSetBy, open_group, count_kept, group_with_by, keep_by}
 use Rattle.packet_receiver.specs.Arrivals.{layers_of, stripe_lengths}
 use Rattle.packet_receiver.specs.UnionSteps.{steps_after}
-use Rattle.kept_sets.specs.laws.EntryLaws.{weight, sum_insert}
-use Rattle.kept_sets.specs.laws.LayerSetLaws.{range_more}
-use Rattle.kept_sets.specs.laws.KeptSetLaws.{IsKeepableBy, same_header, header_with, count_with}
+use Rattle.packet_verdicts.specs.laws.EntryLaws.{weight, sum_insert}
+use Rattle.packet_verdicts.specs.laws.LayerSetLaws.{range_more}
+use Rattle.packet_verdicts.specs.laws.KeptSetLaws.{IsKeepableBy, same_header, header_with, count_with}
 
 -- one packet more of a group
 pub steps_more : (lengths : List ℕ) (n : ℕ) → steps_after 0 lengths (n + 1) ≡ steps_after 0 lengths n + step_bound n lengths

@@ -2,9 +2,9 @@
 use Rattle.std.proofs.Common.{◌≡◌, ℕ, zero, suc, List, [], ◌∷◌, ◌++◌, All, refl, sym, ap, ap₂, ◌∙◌}
 use Rattle.std.specs.List.{AllByRecursion as Each}
 use Rattle.std.proofs.lemmas.List.Elements.{recursion_from_All}
-use Rattle.pet_field.specs.Field.{Operations, IsField}
+use Rattle.field_elements.specs.Field.{Operations, IsField}
 use Rattle.pet_poly.specs.Value.{power, value_from, value, value_monic}
-use Rattle.pet_field.specs.laws.FieldLaws as A
+use Rattle.field_elements.specs.laws.FieldLaws as A
 use Rattle.pet_poly.specs.Horner.{horner_from}
 
 module _ {E : Type 0} (P : E → Type 0) (o : Operations E) (f : IsField P o) where

@@ -4,12 +4,12 @@ use Rattle.std.specs.List.{AllByRecursion as Each}
 use Rattle.std.proofs.lemmas.List.Elements.{recursion_from_All, All-from_recursion}
 use Rattle.std.proofs.Math.Seq.{take-append_seam}
 use Rattle.std.proofs.lemmas.List.{length-take-le}
-use Rattle.pet_field.specs.Field.{Operations, IsField}
+use Rattle.field_elements.specs.Field.{Operations, IsField}
 use Rattle.pet_poly.specs.Value.{value, value_monic}
 use Rattle.pet_poly.specs.InPlace.{scaled_sum, linear_product_from, linear_product}
 use Rattle.pet_poly.specs.Horner.{horner_from}
 use Rattle.pet_poly.specs.laws.HornerLaws as H
-use Rattle.pet_field.specs.laws.FieldLaws as A
+use Rattle.field_elements.specs.laws.FieldLaws as A
 
 pub length-scaled_sum : {E : Type 0} (o : Operations E) (by : E) (xs ys : List E) → length (scaled_sum o by xs ys) ≡ length xs
 length-scaled_sum o by xs [] = refl

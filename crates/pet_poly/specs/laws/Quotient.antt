@@ -1,10 +1,10 @@
 -- Dividing a polynomial by X less an element leaves the value there (textbook).
 use Rattle.std.proofs.Common.{◌≡◌, suc, List, [], ◌∷◌, length, refl, sym, ap, ap₂, ◌∙◌}
 use Rattle.std.specs.List.{AllByRecursion as Each}
-use Rattle.pet_field.specs.Field.{Operations, IsField}
+use Rattle.field_elements.specs.Field.{Operations, IsField}
 use Rattle.pet_poly.specs.Horner.{horner_from}
 use Rattle.pet_poly.specs.laws.HornerLaws as H
-use Rattle.pet_field.specs.laws.FieldLaws as A
+use Rattle.field_elements.specs.laws.FieldLaws as A
 
 -- the quotient by X - r, without the remainder
 abbrev pub quotient : {E : Type 0} → Operations E → List E → E → List E

@@ -3,13 +3,13 @@
 use Rattle.std.proofs.Common.{◌≡◌, ◌≢◌, suc, pred, List, [], ◌∷◌, All, length, refl, sym, ap, ap₂, ◌∙◌}
 use Rattle.std.specs.List.{AllByRecursion as Each}
 use Rattle.std.proofs.lemmas.List.Elements.{recursion_from_All}
-use Rattle.pet_field.specs.Field.{Operations, IsField}
+use Rattle.field_elements.specs.Field.{Operations, IsField}
 use Rattle.pet_poly.specs.Value.{value, AreDistinct}
 use Rattle.pet_poly.specs.Horner.{horner_from}
 use Rattle.pet_poly.specs.laws.HornerLaws as H
 use Rattle.pet_poly.specs.laws.Quotient.{quotient, length-quotient}
 use Rattle.pet_poly.specs.laws.Quotient as Q
-use Rattle.pet_field.specs.laws.FieldLaws as A
+use Rattle.field_elements.specs.laws.FieldLaws as A
 
 abbrev difference : {E : Type 0} → Operations E → List E → List E → List E
 difference o [] ds = []

@@ -15,8 +15,8 @@ use Rattle.layer_split.specs.declared.cut.Run.{Run}
 use Rattle.layer_split.specs.RunTable.{fits}
 use Rattle.layer_split.specs.Layers.{bytes_of_run, layer_bytes, layer_length, lengths_of, padded, message}
 use Rattle.layer_split.specs.laws.PaddedLaws.{padded_length}
-use Rattle.pet_encode.specs.Session.{length_of_layer, bytes_of_layer}
-use Rattle.open_group.specs.laws.Needs.{length_all}
+use Rattle.packet_session.specs.Session.{length_of_layer, bytes_of_layer}
+use Rattle.packet_group.specs.laws.Needs.{length_all}
 use Rattle.reassemble.specs.Video.{group_video}
 use Rattle.reassemble.specs.laws.TableFits.{CanBeNamed, table_fits}
 use Rattle.reassemble.specs.laws.VideoOfCut.{video_of_cut}

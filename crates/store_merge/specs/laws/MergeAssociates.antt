@@ -1,10 +1,10 @@
 -- Three stores merged, for callers: it does not matter which two are merged first; and a store merged with an empty one.
 use Rattle.std.proofs.Common.{◌≡◌, ℕ, ◌≤◌, List, length, None, Result, Ok, refl, sym, ap, ◌∙◌, arith, subst}
-use Rattle.kept_sets.specs.KeptSet.{KeptSet, IsKeptSet, empty_set, cost_kept}
-use Rattle.kept_sets.specs.Union.{union, absorb_fault}
-use Rattle.kept_sets.specs.laws.KeptSetLaws.{empty_sound}
-use Rattle.kept_sets.specs.laws.UnionLaws.{union_nothing, fit_nothing}
-use Rattle.kept_sets.specs.laws.UnionAssociates.{union_associates, fit_rest, fit_first}
+use Rattle.packet_verdicts.specs.KeptSet.{KeptSet, IsKeptSet, empty_set, cost_kept}
+use Rattle.packet_verdicts.specs.Union.{union, absorb_fault}
+use Rattle.packet_verdicts.specs.laws.KeptSetLaws.{empty_sound}
+use Rattle.packet_verdicts.specs.laws.UnionLaws.{union_nothing, fit_nothing}
+use Rattle.packet_verdicts.specs.laws.UnionAssociates.{union_associates, fit_rest, fit_first}
 use Rattle.store_text.specs.Store.{store_text}
 use Rattle.store_text.specs.Refusals.{read_text}
 use Rattle.store_merge.specs.Merged.{merged}

@@ -1,10 +1,10 @@
 -- Laws of two stores merged, for callers: the order of the two does not matter, and a store merged with itself is what
 -- was read of it.
 use Rattle.std.proofs.Common.{◌≡◌, ℕ, ◌<◌, List, length, All, Option, None, Some, Result, Ok, Err, refl, sym, ap, ◌∙◌, subst}
-use Rattle.kept_sets.specs.KeptSet.{KeptSet, IsKeptSet}
-use Rattle.kept_sets.specs.Union.{union, absorb_fault}
-use Rattle.kept_sets.specs.declared.union.Absorb.{Absorb}
-use Rattle.kept_sets.specs.laws.UnionLaws.{fit_commutes, union_commutes, fit_sound, union_itself, fit_itself}
+use Rattle.packet_verdicts.specs.KeptSet.{KeptSet, IsKeptSet}
+use Rattle.packet_verdicts.specs.Union.{union, absorb_fault}
+use Rattle.packet_verdicts.specs.declared.union.Absorb.{Absorb}
+use Rattle.packet_verdicts.specs.laws.UnionLaws.{fit_commutes, union_commutes, fit_sound, union_itself, fit_itself}
 use Rattle.store_text.specs.Store.{store_text}
 use Rattle.store_text.specs.Refusals.{read_text}
 use Rattle.store_merge.specs.Merged.{joined, then_second, then_first, merged}

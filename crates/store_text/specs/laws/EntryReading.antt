@@ -9,7 +9,7 @@ use Rattle.std.proofs.lemmas.List.Elements.{All-take}
 use Rattle.std.proofs.lemmas.Nat.{from_be_bytes-to_be_bytes_2, be_bytes_2}
 use Rattle.packet_frame.specs.Refusals.{number, fields_of}
 use Rattle.pet_base.specs.Entries.{entry_text}
-use Rattle.kept_sets.specs.KeptSet.{KeptSet, keep}
+use Rattle.packet_verdicts.specs.KeptSet.{KeptSet, keep}
 use Rattle.store_text.specs.declared.fault.BadStore.{BadStore}
 use Rattle.store_text.specs.declared.fault.BadStore.TheVariants.{At}
 use Rattle.store_text.specs.declared.fault.StoreKind.TheVariants.{Cut}

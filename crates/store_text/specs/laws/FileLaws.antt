@@ -4,10 +4,10 @@ use Rattle.std.proofs.Common.{◌≡◌, ℕ, ◌<◌, ◌≤◌, Bool, ltb, Lis
 use Rattle.std.specs.Prelude.{if◌then◌else◌}
 use Rattle.std.proofs.lemmas.Bool.{le-ltb}
 use Rattle.pet_base.specs.declared.limits.TheConstants.{MAX_SESSION, MAX_STORE}
-use Rattle.kept_sets.specs.KeptSet.{KeptSet, IsKeptSet, cost_kept}
-use Rattle.kept_sets.specs.Union.{union, absorb_fault}
-use Rattle.kept_sets.specs.laws.UnionLaws.{fit_commutes, union_commutes, union_itself, fit_itself}
-use Rattle.kept_sets.specs.laws.UnionAssociates.{union_associates, fit_rest, fit_first}
+use Rattle.packet_verdicts.specs.KeptSet.{KeptSet, IsKeptSet, cost_kept}
+use Rattle.packet_verdicts.specs.Union.{union, absorb_fault}
+use Rattle.packet_verdicts.specs.laws.UnionLaws.{fit_commutes, union_commutes, union_itself, fit_itself}
+use Rattle.packet_verdicts.specs.laws.UnionAssociates.{union_associates, fit_rest, fit_first}
 use Rattle.store_text.specs.Files.{store_in}
 use Rattle.store_text.specs.Store.{store_text}
 use Rattle.store_text.specs.Refusals.{read_text}

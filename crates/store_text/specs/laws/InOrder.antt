@@ -15,11 +15,11 @@ use Rattle.packet_frame.specs.View.{fields_with}
 use Rattle.packet_frame.specs.declared.frame.Header.{Header}
 use Rattle.packet_set.specs.Packets.{Packets, count_held}
 use Rattle.stripe_plan.specs.Sizes.{cost_by}
-use Rattle.kept_sets.specs.KeptSet.{KeptSet, IsKeptSet, IsKeptGroup, empty_set, open_group, cost_in, cost_kept}
-use Rattle.kept_sets.specs.Union.{frames_in_group, frames_in}
-use Rattle.kept_sets.specs.laws.EntryLaws.{all_found, cmp_says_less}
-use Rattle.kept_sets.specs.laws.FramesInOrder.{frames_from, group_from}
-use Rattle.kept_sets.specs.laws.LastEntry.{below_end}
+use Rattle.packet_verdicts.specs.KeptSet.{KeptSet, IsKeptSet, IsKeptGroup, empty_set, open_group, cost_in, cost_kept}
+use Rattle.packet_verdicts.specs.Union.{frames_in_group, frames_in}
+use Rattle.packet_verdicts.specs.laws.EntryLaws.{all_found, cmp_says_less}
+use Rattle.packet_verdicts.specs.laws.FramesInOrder.{frames_from, group_from}
+use Rattle.packet_verdicts.specs.laws.LastEntry.{below_end}
 use Rattle.store_text.specs.Refusals.{Last, is_above}
 use Rattle.store_text.specs.laws.Leading.{Leads}
 use Rattle.store_text.specs.laws.NextFault.{both_false, same_itself, IsNextGroup, before, opened, above_in, none_opens, keep_opens, none_goes_on, keep_goes_on}

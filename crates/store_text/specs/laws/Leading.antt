@@ -9,10 +9,10 @@ use Rattle.packet_frame.specs.Frame.{Fields, IsFrame, text}
 use Rattle.packet_frame.specs.Refusals.{number, fields_of, first_fault}
 use Rattle.packet_frame.specs.declared.fault.FrameFault.{FrameFault}
 use Rattle.packet_frame.specs.laws.Laws.{texts_are_read, reads_frames, reads_texts}
-use Rattle.pet_encode.specs.Datagrams.{entries_text}
+use Rattle.packet_session.specs.Datagrams.{entries_text}
 use Rattle.pet_base.specs.Entries.{entry_text}
-use Rattle.pet_encode.specs.laws.SentLaws.{text_short}
-use Rattle.kept_sets.specs.KeptSet.{KeptSet, keep}
+use Rattle.packet_session.specs.laws.SentLaws.{text_short}
+use Rattle.packet_verdicts.specs.KeptSet.{KeptSet, keep}
 use Rattle.store_text.specs.declared.fault.StoreKind.{StoreKind}
 use Rattle.store_text.specs.declared.fault.StoreKind.TheVariants.{Frame, Cut}
 use Rattle.store_text.specs.declared.fault.BadStore.{BadStore}

@@ -7,13 +7,13 @@ use Rattle.std.proofs.lemmas.Bool.{cases_lt, le-ltb}
 use Rattle.std.proofs.lemmas.Map.Views.{exact_unsigned_eq}
 use Rattle.packet_frame.specs.Frame.{Fields}
 use Rattle.packet_set.specs.Packets.{Packets, slot_at}
-use Rattle.kept_sets.specs.KeptSet.{KeptSet, IsKeptSet, empty_set, open_group, payload_of, keep}
-use Rattle.kept_sets.specs.Verdicts.{clashes, is_too_much, newly_shown, layer_set, frame_verdict, frame_verdict_by, is_kept}
-use Rattle.kept_sets.specs.Union.{frames_in}
-use Rattle.kept_sets.specs.declared.verdict.Verdict.TheVariants as verdict
-use Rattle.kept_sets.specs.declared.verdict.LayerSet.{LayerSet}
-use Rattle.kept_sets.specs.laws.KeptSetLaws.{IsKeepable, keepable, keep_sound, keep_session, keep_limit, empty_sound}
-use Rattle.kept_sets.specs.laws.FramesInOrder.{IsAbove, ComesBefore, frames_more, above_keep, above_none}
+use Rattle.packet_verdicts.specs.KeptSet.{KeptSet, IsKeptSet, empty_set, open_group, payload_of, keep}
+use Rattle.packet_verdicts.specs.Verdicts.{clashes, is_too_much, newly_shown, layer_set, frame_verdict, frame_verdict_by, is_kept}
+use Rattle.packet_verdicts.specs.Union.{frames_in}
+use Rattle.packet_verdicts.specs.declared.verdict.Verdict.TheVariants as verdict
+use Rattle.packet_verdicts.specs.declared.verdict.LayerSet.{LayerSet}
+use Rattle.packet_verdicts.specs.laws.KeptSetLaws.{IsKeepable, keepable, keep_sound, keep_session, keep_limit, empty_sound}
+use Rattle.packet_verdicts.specs.laws.FramesInOrder.{IsAbove, ComesBefore, frames_more, above_keep, above_none}
 use Rattle.store_text.specs.declared.fault.StoreKind.{StoreKind}
 use Rattle.store_text.specs.declared.fault.StoreKind.TheVariants.{Session, Order}
 use Rattle.store_text.specs.Refusals.{Last, is_above, kind_of, frame_fault}

@@ -16,11 +16,11 @@ use Rattle.packet_frame.specs.laws.Formats.{format_is}
 use Rattle.packet_frame.specs.laws.Laws.{texts_have_length}
 use Rattle.packet_frame.specs.laws.Again.{length-tag}
 use Rattle.packet_set.specs.Packets.{Packets, count_held, count_in}
-use Rattle.pet_encode.specs.Datagrams.{entries_text}
+use Rattle.packet_session.specs.Datagrams.{entries_text}
 use Rattle.pet_base.specs.Entries.{entry_text}
-use Rattle.kept_sets.specs.KeptSet.{KeptSet, IsKeptSet, IsKeptGroup, cost_in, cost_kept}
-use Rattle.kept_sets.specs.Union.{frames_in_group, frames_in}
-use Rattle.kept_sets.specs.laws.FramesInOrder.{frames_from, group_from}
+use Rattle.packet_verdicts.specs.KeptSet.{KeptSet, IsKeptSet, IsKeptGroup, cost_in, cost_kept}
+use Rattle.packet_verdicts.specs.Union.{frames_in_group, frames_in}
+use Rattle.packet_verdicts.specs.laws.FramesInOrder.{frames_from, group_from}
 use Rattle.store_text.specs.declared.format.TheConstants.{MARK}
 use Rattle.store_text.specs.Store.{store_text, store_of, text_before_tag}
 use Rattle.store_text.specs.laws.ManyFrames.{each_kept, group_frame}

@@ -12,10 +12,10 @@ use Rattle.packet_frame.specs.Frame.{IsFrame}
 use Rattle.packet_frame.specs.View.{fields_with}
 use Rattle.packet_frame.specs.declared.frame.Header.{Header}
 use Rattle.packet_set.specs.Packets.{Packets, count_held, count_in}
-use Rattle.kept_sets.specs.KeptSet.{KeptSet, IsKeptSet, IsKeptGroup}
-use Rattle.kept_sets.specs.Union.{frames_in_group, frames_in}
-use Rattle.kept_sets.specs.laws.EntryLaws.{all_found, cmp_says_less}
-use Rattle.kept_sets.specs.laws.FramesInOrder.{frames_from, group_from}
+use Rattle.packet_verdicts.specs.KeptSet.{KeptSet, IsKeptSet, IsKeptGroup}
+use Rattle.packet_verdicts.specs.Union.{frames_in_group, frames_in}
+use Rattle.packet_verdicts.specs.laws.EntryLaws.{all_found, cmp_says_less}
+use Rattle.packet_verdicts.specs.laws.FramesInOrder.{frames_from, group_from}
 
 -- as many frames are kept of a group as slots hold a payload
 from_many : (h : Header) (at : ℕ) (slots : List (Option (List ℕ))) → length (frames_from h at slots) ≡ count_held slots

@@ -18,12 +18,12 @@ use Rattle.packet_frame.specs.View.{fields_with}
 use Rattle.packet_frame.specs.declared.frame.Header.{Header}
 use Rattle.packet_set.specs.Packets.{Packets, slot_at, with_packet, no_packets}
 use Rattle.stripe_plan.specs.Sizes.{cost_of}
-use Rattle.kept_sets.specs.KeptSet.{KeptSet, open_group, payload_of, cost_in, cost_kept, keep, keep_by}
-use Rattle.kept_sets.specs.Verdicts.{tells_other_count, tells_other_table, tells_other_payload, is_too_much, newly_shown, layer_set, frame_verdict_by}
-use Rattle.kept_sets.specs.declared.verdict.Verdict.TheVariants as verdict
-use Rattle.kept_sets.specs.declared.verdict.LayerSet.{LayerSet}
-use Rattle.kept_sets.specs.laws.FramesInOrder.{lookup_past}
-use Rattle.kept_sets.specs.laws.LastEntry.{insert_end, insert_at_end, lookup_end}
+use Rattle.packet_verdicts.specs.KeptSet.{KeptSet, open_group, payload_of, cost_in, cost_kept, keep, keep_by}
+use Rattle.packet_verdicts.specs.Verdicts.{tells_other_count, tells_other_table, tells_other_payload, is_too_much, newly_shown, layer_set, frame_verdict_by}
+use Rattle.packet_verdicts.specs.declared.verdict.Verdict.TheVariants as verdict
+use Rattle.packet_verdicts.specs.declared.verdict.LayerSet.{LayerSet}
+use Rattle.packet_verdicts.specs.laws.FramesInOrder.{lookup_past}
+use Rattle.packet_verdicts.specs.laws.LastEntry.{insert_end, insert_at_end, lookup_end}
 use Rattle.store_text.specs.declared.fault.StoreKind.TheVariants.{Session, Order}
 use Rattle.store_text.specs.Refusals.{Last, is_above, kind_of, frame_fault}
 

@@ -13,9 +13,9 @@ use Rattle.pet_base.specs.declared.limits.TheConstants.{TAG_LENGTH}
 use Rattle.packet_frame.specs.Frame.{Fields, tag_of}
 use Rattle.packet_frame.specs.Refusals.{number, ends_in_tag}
 use Rattle.packet_frame.specs.declared.format.TheConstants.{FORMAT}
-use Rattle.pet_encode.specs.Datagrams.{entries_text}
-use Rattle.kept_sets.specs.KeptSet.{KeptSet, IsKeptSet, empty_set}
-use Rattle.kept_sets.specs.Union.{frames_in}
+use Rattle.packet_session.specs.Datagrams.{entries_text}
+use Rattle.packet_verdicts.specs.KeptSet.{KeptSet, IsKeptSet, empty_set}
+use Rattle.packet_verdicts.specs.Union.{frames_in}
 use Rattle.store_text.specs.declared.format.TheConstants.{MARK, HEAD_LENGTH}
 use Rattle.store_text.specs.declared.fault.StoreKind.TheVariants.{Cut, Magic, Tag}
 use Rattle.store_text.specs.declared.fault.BadStore.{BadStore}

@@ -13,9 +13,9 @@ use Rattle.packet_frame.specs.Refusals.{number, ends_in_tag}
 use Rattle.packet_frame.specs.declared.format.TheConstants.{FORMAT}
 use Rattle.packet_frame.specs.laws.Formats.{format_is}
 use Rattle.packet_frame.specs.laws.Again.{length-tag}
-use Rattle.pet_encode.specs.Datagrams.{entries_text}
-use Rattle.kept_sets.specs.KeptSet.{KeptSet, IsKeptSet, empty_set, cost_kept}
-use Rattle.kept_sets.specs.Union.{frames_in}
+use Rattle.packet_session.specs.Datagrams.{entries_text}
+use Rattle.packet_verdicts.specs.KeptSet.{KeptSet, IsKeptSet, empty_set, cost_kept}
+use Rattle.packet_verdicts.specs.Union.{frames_in}
 use Rattle.store_text.specs.declared.format.TheConstants.{MARK, HEAD_LENGTH}
 use Rattle.store_text.specs.declared.fault.StoreKind.TheVariants.{Cut, Magic}
 use Rattle.store_text.specs.declared.fault.BadStore.{BadStore}

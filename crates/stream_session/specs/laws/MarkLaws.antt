@@ -5,8 +5,8 @@ use Rattle.std.proofs.lemmas.List.{length-map}
 use Rattle.mpeg_scan.specs.Pieces.{pieces_of}
 use Rattle.priority_file.specs.Priority.{Priorities}
 use Rattle.layer_split.specs.Groups.{groups_of}
-use Rattle.group_cutter.specs.CutGroups.{CutGroup}
-use Rattle.group_cutter.specs.Cutting.{cut_group, cut_groups}
+use Rattle.stream_groups.specs.CutGroups.{CutGroup}
+use Rattle.stream_groups.specs.Cutting.{cut_group, cut_groups}
 use Rattle.stream_session.specs.Tables.{tables_of, cuts_of_stream}
 use Rattle.stream_session.specs.laws.SessionLaws.{length-tables}
 use Rattle.stream_session.specs.Marks.{mark_of, no_mark, marks_of}

@@ -13,8 +13,8 @@ use Rattle.layer_split.proofs.Beginning.{layer_size}
 use Rattle.layer_split.specs.declared.cut.Run.{Run}
 use Rattle.layer_split.specs.Layers.{run_entry, run_table, runs_in, bytes_of_run, layer_bytes, layer_length, lengths_of, padded, message}
 use Rattle.layer_split.specs.laws.PaddedLaws.{padded_length}
-use Rattle.group_cutter.specs.CutGroups.{CutGroup}
-use Rattle.group_cutter.specs.laws.FittingLaws.{IsWhole}
+use Rattle.stream_groups.specs.CutGroups.{CutGroup}
+use Rattle.stream_groups.specs.laws.FittingLaws.{IsWhole}
 use Rattle.stream_session.specs.Tables.{sizes_of, sizes_with}
 
 words_from : (s : List ℕ) (runs : List Run) → All (λ (r : Run). r.at + r.len ≤ length s) runs → (rules : List Rule) (a : ℕ)

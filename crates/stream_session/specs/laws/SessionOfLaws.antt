@@ -33,15 +33,15 @@ use Rattle.layer_split.specs.Groups.{groups_of, groups_from, begins_group}
 use Rattle.layer_split.specs.Layers.{Cut, cut_of, lengths_of, layer_length, message}
 use Rattle.layer_split.specs.Runs.{runs_of}
 use Rattle.layer_split.specs.Splitting.{cuts_of}
-use Rattle.pet_encode.specs.Session.{SessionGroup, IsMessage, IsSession, IsSessionGroup, Fits}
+use Rattle.packet_session.specs.Session.{SessionGroup, IsMessage, IsSession, IsSessionGroup, Fits}
 use Rattle.stream_session.specs.Accepted.{IsAcceptedSession, group_of, session_of}
-use Rattle.group_cutter.specs.CutGroups.{CutGroup}
+use Rattle.stream_groups.specs.CutGroups.{CutGroup}
 use Rattle.stream_session.specs.laws.FitLaws.{IsWithinBounds, few_groups, tables_stand, costs_fit}
 use Rattle.stream_session.specs.laws.MessageLaws.{IsByte, word_bytes, message_words, message_bytes}
 use Rattle.stream_session.specs.Number.{hashed, session_number}
 use Rattle.stream_session.specs.Refusals.{cost_in}
 use Rattle.stream_session.specs.laws.SessionLaws.{layers_named, none_here, from_not}
-use Rattle.group_cutter.specs.laws.StandingLaws.{groups_stand}
+use Rattle.stream_groups.specs.laws.StandingLaws.{groups_stand}
 use Rattle.stream_session.specs.Tables.{sizes_of, table_of, tables_of, cuts_of_stream}
 
 -- the rows behind the first that do not hold

@@ -5,8 +5,8 @@ use Rattle.std.specs.Prelude.{All, length, IsTrue}
 use Rattle.pet_base.specs.declared.limits.TheConstants.{MAX_GROUPS}
 use Rattle.pet_base.specs.Seen.{Seen, Files, Blame, HadFault}
 use Rattle.pet_base.specs.laws.SeenLaws.{HadFault-since}
-use Rattle.command_files.specs.Inputs.{IsFile, IsRead}
-use Rattle.command_files.specs.Uses.{Failed, reading}
+use Rattle.outside_files.specs.Inputs.{IsFile, IsRead}
+use Rattle.outside_files.specs.Uses.{Failed, reading}
 use Rattle.priority_file.specs.Refusals.{refusal_of, priorities_of}
 use Rattle.priority_file.specs.Priority.{Priorities}
 use Rattle.mpeg_scan.specs.Pieces.{pieces_of}

@@ -2,7 +2,7 @@ use Rattle.std.proofs.Common.{◌≡◌, ◌*◌, ◌++◌, List, ℕ, refl, ap,
 use Rattle.std.proofs.lemmas.List.{take_all}
 use Rattle.std.proofs.lemmas.List.Sums.{sum_by_more}
 use Rattle.command_plan.specs.Least.{lengths_in, starts_by}
-use Rattle.plan_text.specs.declared.plan_file.Repeat.{Repeat}
+use Rattle.text_plan.specs.declared.plan_file.Repeat.{Repeat}
 use Rattle.command_plan.proofs.Starts.{starts_more, length-starts_by, few_stripes, row_within}
 use Rattle.command_plan.proofs.least.stripe_starts.Goals as goal
 

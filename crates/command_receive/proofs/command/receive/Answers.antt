@@ -5,7 +5,7 @@ use Rattle.command_receive.specs.Failures.{end_of_place, end_of_link}
 use Rattle.command_receive.specs.Receives.{Receives}
 use Rattle.pet_base.specs.Lent.{seen}
 use Rattle.pet_base.specs.OutsideSeen.{outside_seen}
-use Rattle.datagram_route.specs.Way.{way_of}
+use Rattle.outside_routes.specs.Way.{way_of}
 use Rattle.command_receive.proofs.Ends.{receives_all, place_alike, link_alike, line_calm}
 use Rattle.command_receive.proofs.Stops.{bound_at_stop}
 use Rattle.command_receive.specs.laws.NamedLaws.{names_what_it_stores}

@@ -1,8 +1,8 @@
 use Rattle.std.proofs.Common.{ℕ, List, refl, rules}
 use Rattle.pet_base.specs.Lent.{seen}
 use Rattle.pet_base.specs.OutsideSeen.{outside_seen}
-use Rattle.datagram_route.specs.Way.{OnFile}
-use Rattle.datagram_route.specs.declared.fault.RouteStop.TheVariants as stop
+use Rattle.outside_routes.specs.Way.{OnFile}
+use Rattle.outside_routes.specs.declared.fault.RouteStop.TheVariants as stop
 use Rattle.command_receive.specs.Opened.{Begins, StopsOpening}
 use Rattle.command_receive.proofs.Begun.{mapped_ok, mapped_err, entered, not_entered}
 use Rattle.command_receive.proofs.opening.enter.Goals as goal

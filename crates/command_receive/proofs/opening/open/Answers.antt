@@ -1,8 +1,8 @@
 use Rattle.std.proofs.Common.{refl, rules}
 use Rattle.pet_base.specs.Lent.{seen}
 use Rattle.pet_base.specs.OutsideSeen.{outside_seen}
-use Rattle.datagram_route.specs.Way.{way_of}
-use Rattle.datagram_route.specs.declared.fault.RouteStop.TheVariants as stop
+use Rattle.outside_routes.specs.Way.{way_of}
+use Rattle.outside_routes.specs.declared.fault.RouteStop.TheVariants as stop
 use Rattle.command_receive.specs.Opened.{Opened, StopsOpening}
 use Rattle.command_receive.proofs.Begun.{mapped_ok, mapped_err, made, not_made}
 use Rattle.command_receive.proofs.Stops.{stop_is}

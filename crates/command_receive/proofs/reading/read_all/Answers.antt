@@ -1,6 +1,6 @@
 use Rattle.std.proofs.lemmas.Result.{IfOk-weaker, IfErr-weaker}
 use Rattle.pet_base.specs.Lent.{seen}
-use Rattle.datagram_route.specs.Way.{way_of}
+use Rattle.outside_routes.specs.Way.{way_of}
 use Rattle.command_receive.specs.Opened.{IsBoundWhereStopped}
 use Rattle.command_receive.proofs.FilesRead.{link_same, link_kept, still_bound, begun_bound, begun_input}
 use Rattle.command_receive.proofs.Stops.{stop_is, always_ok, all_bound_where_stopped, unbound_where_stopped, stopped_first, stopped_opening}

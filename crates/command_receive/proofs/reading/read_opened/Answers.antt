@@ -1,10 +1,10 @@
 use Rattle.std.proofs.Common.{ℕ, List, refl, subst}
 use Rattle.pet_base.specs.Lent.{seen}
 use Rattle.pet_base.specs.OutsideSeen.{OutsideSeen, outside_seen}
-use Rattle.datagram_route.specs.Way.{way_of}
-use Rattle.datagram_route.specs.Coming.{coming}
-use Rattle.datagram_route.specs.RouteFaults.{stop_of_place}
-use Rattle.kept_sets.specs.KeptSet.{KeptSet}
+use Rattle.outside_routes.specs.Way.{way_of}
+use Rattle.outside_routes.specs.Coming.{coming}
+use Rattle.outside_routes.specs.RouteFaults.{stop_of_place}
+use Rattle.packet_verdicts.specs.KeptSet.{KeptSet}
 use Rattle.command_receive.specs.Numbers.{end_of}
 use Rattle.command_receive.specs.Opened.{OnlyOpens, Opened}
 use Rattle.command_receive.specs.Receives.{EndsReceive}

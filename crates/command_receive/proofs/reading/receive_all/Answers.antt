@@ -1,7 +1,7 @@
 use Rattle.std.proofs.Common.{◌+◌, ◌∙◌, arith, refl, subst}
-use Rattle.datagram_route.specs.Way.{way_of}
-use Rattle.datagram_route.specs.Coming.{coming, TakesDatagram}
-use Rattle.datagram_route.specs.RouteFaults.{stop_of_place, stop_of_route}
+use Rattle.outside_routes.specs.Way.{way_of}
+use Rattle.outside_routes.specs.Coming.{coming, TakesDatagram}
+use Rattle.outside_routes.specs.RouteFaults.{stop_of_place, stop_of_route}
 use Rattle.pet_base.specs.laws.SeenLaws.{KeepsNames-same, KeepsNames-then, OnlyReads-KeepsNames, OnlyWrites-KeepsNames}
 use Rattle.pet_receive.specs.Arrivals.{kept_set}
 use Rattle.command_receive.specs.SoFar.{StoppedSoFar}

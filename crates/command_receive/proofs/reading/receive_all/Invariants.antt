@@ -1,9 +1,9 @@
 use Rattle.std.proofs.Common.{◌≡◌, ◌≤◌}
 use Rattle.pet_base.specs.Seen.{KeepsNames}
-use Rattle.datagram_route.specs.Way.{way_of}
-use Rattle.datagram_route.specs.Coming.{coming, HasInput}
+use Rattle.outside_routes.specs.Way.{way_of}
+use Rattle.outside_routes.specs.Coming.{coming, HasInput}
 use Rattle.pet_receive.specs.Arrivals.{kept_set}
-use Rattle.kept_sets.specs.KeptSet.{IsKeptSet}
+use Rattle.packet_verdicts.specs.KeptSet.{IsKeptSet}
 use Rattle.command_receive.specs.SoFar.{SoFar, LinkReceives}
 use Rattle.command_receive.proofs.reading.receive_all.Given as goal
 

@@ -2,16 +2,16 @@ use Rattle.std.proofs.Common.{◌≡◌, ◌<◌, ℕ, Bool, false, cond, List, 
 use Rattle.pet_base.specs.laws.Through.{on_any_err}
 use Rattle.packet_frame.specs.Refusals.{fields_of}
 use Rattle.pet_receive.specs.Arrivals.{ReceiverState, kept_set}
-use Rattle.kept_sets.specs.declared.verdict.Verdict.{Verdict}
-use Rattle.kept_sets.specs.declared.verdict.Verdict.TheVariants.{Damaged, Foreign, Clash, Repeated, Full, Kept}
-use Rattle.kept_sets.specs.declared.verdict.LayerSet.{LayerSet}
-use Rattle.pet_field.specs.Gf16.{gf16_coding}
-use Rattle.met_packets.specs.Gf16.{HasKeptIn}
-use Rattle.kept_sets.specs.KeptSet.{KeptSet, open_group, group_with}
+use Rattle.packet_verdicts.specs.declared.verdict.Verdict.{Verdict}
+use Rattle.packet_verdicts.specs.declared.verdict.Verdict.TheVariants.{Damaged, Foreign, Clash, Repeated, Full, Kept}
+use Rattle.packet_verdicts.specs.declared.verdict.LayerSet.{LayerSet}
+use Rattle.field_elements.specs.Gf16.{gf16_coding}
+use Rattle.packet_met.specs.Gf16.{HasKeptIn}
+use Rattle.packet_verdicts.specs.KeptSet.{KeptSet, open_group, group_with}
 use Rattle.pet_receive.specs.ShownBytes.{IsShown}
-use Rattle.kept_sets.specs.Verdicts.{verdict_of, is_kept, after}
-use Rattle.command_files.specs.laws.OutputLaws.{puts_nothing}
-use Rattle.met_packets.specs.laws.KeptDatagram.{kept_shows, text_at, nothing_at}
+use Rattle.packet_verdicts.specs.Verdicts.{verdict_of, is_kept, after}
+use Rattle.outside_files.specs.laws.OutputLaws.{puts_nothing}
+use Rattle.packet_met.specs.laws.KeptDatagram.{kept_shows, text_at, nothing_at}
 use Rattle.command_receive.proofs.reading.receive_one.Goals as goal
 
 pub group_of-group-requires : goal.group_of-group-requires

@@ -3,7 +3,7 @@ use Rattle.pet_base.specs.Seen.{PlaceStops}
 use Rattle.pet_base.specs.LinkSeen.{LinkStops}
 use Rattle.pet_base.specs.Lent.{seen}
 use Rattle.pet_base.specs.OutsideSeen.{outside_seen}
-use Rattle.datagram_route.specs.Way.{way_of}
+use Rattle.outside_routes.specs.Way.{way_of}
 use Rattle.command_send.specs.laws.EndLaws.{sends_session}
 use Rattle.command_send.proofs.Ends.{tells_fault, no_output, place_alike, link_alike}
 use Rattle.command_send.proofs.command.send.Goals as goal

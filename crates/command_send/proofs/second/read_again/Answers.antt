@@ -4,8 +4,8 @@ use Rattle.pet_base.specs.laws.Through.{on_any_err}
 use Rattle.command_send.proofs.GroupsSoFar.{stands_known}
 use Rattle.command_send.proofs.Passes.{passes_open, passes_then, passes_reads, passes_grows}
 use Rattle.command_send.proofs.ReadPortions.{part_fed, part_taken, rest_more, stands_read, taken_end}
-use Rattle.datagram_route.specs.Sending.{routes}
-use Rattle.datagram_route.specs.Way.{way_of}
+use Rattle.outside_routes.specs.Sending.{routes}
+use Rattle.outside_routes.specs.Way.{way_of}
 use Rattle.command_send.proofs.second.read_again.Goals as goal
 
 pub returns-in_err-count-clause-part : goal.returns-in_err-count-clause-part

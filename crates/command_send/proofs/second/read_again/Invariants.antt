@@ -2,8 +2,8 @@ use Rattle.std.proofs.Common.{◌≡◌, ◌+◌, ◌-◌, ◌≤◌, List, ℕ,
 use Rattle.std.specs.Io.KnownBytes.{prepend_known}
 use Rattle.pet_base.specs.declared.limits.TheConstants.{MAX_STREAM}
 use Rattle.command_send.specs.Second.{HasReached, OnlyPasses, cost_left}
-use Rattle.datagram_route.specs.Sending.{routes}
-use Rattle.datagram_route.specs.Way.{way_of}
+use Rattle.outside_routes.specs.Sending.{routes}
+use Rattle.outside_routes.specs.Way.{way_of}
 use Rattle.command_send.proofs.second.read_again.Given as goal
 
 abbrev pub invariant-loop-read : goal.invariant-loop-read

@@ -4,9 +4,9 @@ use Rattle.command_send.proofs.GroupsSoFar.{cost_all, stands_known}
 use Rattle.command_send.proofs.Passes.{passes_open, passes_same, passes_then, passes_grows, handed_on, stop_after}
 use Rattle.command_send.proofs.ReadPortions.{part_start, gone_start, part_end, sent_end, taken_write}
 use Rattle.command_send.specs.Sending.{PassFailed}
-use Rattle.datagram_route.specs.RouteFaults.{IsStop}
-use Rattle.datagram_route.specs.Sending.{routes, SendingFailed}
-use Rattle.datagram_route.specs.Way.{way_of}
+use Rattle.outside_routes.specs.RouteFaults.{IsStop}
+use Rattle.outside_routes.specs.Sending.{routes, SendingFailed}
+use Rattle.outside_routes.specs.Way.{way_of}
 use Rattle.command_send.proofs.second.send_again.Goals as goal
 
 pub returns-in_err-buffer-clause-part : goal.returns-in_err-buffer-clause-part

@@ -1,15 +1,15 @@
 use Rattle.std.proofs.Common.{◌+◌, ◌++◌, ◌∙◌, ap, sym, subst, refl, arith}
 use Rattle.std.specs.Prelude.{Option, is_some}
-use Rattle.datagram_route.specs.laws.SendingLaws.{grows_same, grows_then, grows_open}
+use Rattle.outside_routes.specs.laws.SendingLaws.{grows_same, grows_then, grows_open}
 use Rattle.pet_base.specs.laws.Through.{on_any_err}
-use Rattle.group_cutter.specs.CutGroups.{CutGroup}
-use Rattle.group_cutter.specs.Cutting.{HasCut, groups_in}
+use Rattle.stream_groups.specs.CutGroups.{CutGroup}
+use Rattle.stream_groups.specs.Cutting.{HasCut, groups_in}
 use Rattle.command_send.specs.Second.{SendsGroup, Differs}
 use Rattle.command_send.proofs.LeastChange.{stands_change, sends_none, sent_within, when_change}
 use Rattle.command_send.proofs.Passes.{stop_on}
 use Rattle.command_send.proofs.GroupsSoFar.{cost_next, gone_more, gone_part, part_gone, knows_more, knows_whole, knows_filled}
-use Rattle.datagram_route.specs.Sending.{routes}
-use Rattle.datagram_route.specs.Way.{way_of}
+use Rattle.outside_routes.specs.Sending.{routes}
+use Rattle.outside_routes.specs.Way.{way_of}
 use Rattle.command_send.proofs.second.send_ended.Goals as goal
 
 pub loop-group-init : goal.loop-group-init

@@ -1,9 +1,9 @@
 use Rattle.std.proofs.Common.{◌≡◌, ℕ, ◌+◌, ◌≤◌, List}
-use Rattle.datagram_route.specs.Sending.{Routes, OnlyGrows}
-use Rattle.group_cutter.specs.Cutting.{pieces_left}
+use Rattle.outside_routes.specs.Sending.{Routes, OnlyGrows}
+use Rattle.stream_groups.specs.Cutting.{pieces_left}
 use Rattle.command_send.specs.Second.{Knows, HasGone, cost_left}
-use Rattle.datagram_route.specs.Sending.{routes}
-use Rattle.datagram_route.specs.Way.{way_of}
+use Rattle.outside_routes.specs.Sending.{routes}
+use Rattle.outside_routes.specs.Way.{way_of}
 use Rattle.command_send.proofs.second.send_ended.Given as goal
 
 abbrev pub invariant-loop-group : goal.invariant-loop-group

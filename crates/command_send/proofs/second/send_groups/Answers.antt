@@ -1,9 +1,9 @@
 use Rattle.std.proofs.lemmas.Option.{MatchOption-at_none, MatchOption-at_some}
 use Rattle.stream_session.specs.Accepted.{session_of}
-use Rattle.pet_encode.specs.Datagrams.{session_datagrams}
+use Rattle.packet_session.specs.Datagrams.{session_datagrams}
 use Rattle.command_send.proofs.SameStream.{told_part, told_sent, told_changed, told_stop}
-use Rattle.datagram_route.specs.Sending.{routes}
-use Rattle.datagram_route.specs.Way.{way_of}
+use Rattle.outside_routes.specs.Sending.{routes}
+use Rattle.outside_routes.specs.Way.{way_of}
 use Rattle.command_send.proofs.second.send_groups.Goals as goal
 
 pub returns-in_err-change-clause-told : goal.returns-in_err-change-clause-told

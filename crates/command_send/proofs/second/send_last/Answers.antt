@@ -1,15 +1,15 @@
 use Rattle.std.proofs.Common.{◌++◌, length, subst, sym, List}
 use Rattle.std.proofs.lemmas.Result.{IfOk-weaker, on_err_weaker}
-use Rattle.group_cutter.specs.CutGroups.{CutGroup}
-use Rattle.group_cutter.specs.Cutting.{AreAll}
-use Rattle.group_cutter.specs.laws.EndedLaws.{given_ended, fault_refuses}
-use Rattle.group_cutter.specs.laws.FilledLaws.{IsFilled, groups_filled}
-use Rattle.group_cutter.specs.laws.FittingLaws.{IsWhole, groups_whole}
+use Rattle.stream_groups.specs.CutGroups.{CutGroup}
+use Rattle.stream_groups.specs.Cutting.{AreAll}
+use Rattle.stream_groups.specs.laws.EndedLaws.{given_ended, fault_refuses}
+use Rattle.stream_groups.specs.laws.FilledLaws.{IsFilled, groups_filled}
+use Rattle.stream_groups.specs.laws.FittingLaws.{IsWhole, groups_whole}
 use Rattle.command_send.proofs.LeastChange.{ends_lost}
 use Rattle.command_send.proofs.FoundGroups.{all_refused}
 use Rattle.command_send.proofs.GroupsSoFar.{part_gone, part_found, left_all}
-use Rattle.datagram_route.specs.Sending.{routes}
-use Rattle.datagram_route.specs.Way.{way_of}
+use Rattle.outside_routes.specs.Sending.{routes}
+use Rattle.outside_routes.specs.Way.{way_of}
 use Rattle.command_send.proofs.second.send_last.Goals as goal
 
 pub returns-in-NoMemory-clause-part : goal.returns-in-NoMemory-clause-part

@@ -1,18 +1,18 @@
 use Rattle.std.proofs.Common.{◌≡◌, ◌++◌, ◌∙◌, length, take, sym, subst, arith, ℕ, List}
 use Rattle.std.proofs.lemmas.List.{take_all, length-append}
-use Rattle.datagram_route.specs.laws.SendingLaws.{grows_then, grows_open}
+use Rattle.outside_routes.specs.laws.SendingLaws.{grows_then, grows_open}
 use Rattle.pet_base.specs.laws.Through.{on_any_err}
-use Rattle.group_cutter.specs.CutGroups.{CutGroup}
-use Rattle.group_cutter.specs.laws.FilledLaws.{IsFilled}
-use Rattle.group_cutter.specs.laws.FittingLaws.{IsWhole}
+use Rattle.stream_groups.specs.CutGroups.{CutGroup}
+use Rattle.stream_groups.specs.laws.FilledLaws.{IsFilled}
+use Rattle.stream_groups.specs.laws.FittingLaws.{IsWhole}
 use Rattle.command_send.specs.Sending.{HasSentSome}
 use Rattle.command_send.specs.Second.{SendsGroup, Differs}
 use Rattle.command_send.proofs.LeastChange.{sends_none, sent_within, left_change, ends_lost}
 use Rattle.command_send.proofs.Passes.{stop_on}
 use Rattle.command_send.proofs.FoundGroups.{all_found}
 use Rattle.command_send.proofs.GroupsSoFar.{cost_next, left_part, left_more}
-use Rattle.datagram_route.specs.Sending.{routes}
-use Rattle.datagram_route.specs.Way.{way_of}
+use Rattle.outside_routes.specs.Sending.{routes}
+use Rattle.outside_routes.specs.Way.{way_of}
 use Rattle.command_send.proofs.second.send_left.Goals as goal
 
 pub returns-in_err-change-clause-part : goal.returns-in_err-change-clause-part

@@ -1,10 +1,10 @@
 use Rattle.std.proofs.Common.{◌≡◌, ◌+◌, ◌≤◌, ◌++◌, List, length, take}
-use Rattle.datagram_route.specs.Sending.{Routes, OnlyGrows}
-use Rattle.group_cutter.specs.CutGroups.{CutGroup}
+use Rattle.outside_routes.specs.Sending.{Routes, OnlyGrows}
+use Rattle.stream_groups.specs.CutGroups.{CutGroup}
 use Rattle.command_send.specs.Sending.{HasSentSome}
 use Rattle.command_send.specs.Second.{cost_left}
-use Rattle.datagram_route.specs.Sending.{routes}
-use Rattle.datagram_route.specs.Way.{way_of}
+use Rattle.outside_routes.specs.Sending.{routes}
+use Rattle.outside_routes.specs.Way.{way_of}
 use Rattle.command_send.proofs.second.send_left.Given as goal
 
 abbrev pub invariant-loop-group : goal.invariant-loop-group

@@ -1,6 +1,6 @@
 use Rattle.std.proofs.Common.{◌++◌, ◌∙◌, length, ap}
 use Rattle.layer_split.specs.Layers.{message}
-use Rattle.group_cutter.specs.CutGroups.{CutGroup}
+use Rattle.stream_groups.specs.CutGroups.{CutGroup}
 use Rattle.command_send.proofs.sent_group.message_of.Goals as goal
 
 pub returns : goal.returns

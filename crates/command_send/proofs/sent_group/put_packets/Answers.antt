@@ -1,13 +1,13 @@
 use Rattle.std.proofs.Common.{refl, subst}
 use Rattle.pet_base.specs.laws.Through.{on_any_err}
 use Rattle.std.specs.Prelude.{OnErr}
-use Rattle.pet_encode.specs.Encoding.{Encoding}
-use Rattle.pet_encode.specs.Datagrams.{group_datagrams}
+use Rattle.packet_session.specs.Encoding.{Encoding}
+use Rattle.packet_session.specs.Datagrams.{group_datagrams}
 use Rattle.command_send.specs.Sending.{encoding_of}
-use Rattle.datagram_route.specs.Sending.{SendsPart}
-use Rattle.datagram_route.specs.laws.SendingLaws.{part_nothing}
-use Rattle.datagram_route.specs.Way.{way_of}
-use Rattle.datagram_route.specs.Sending.{routes}
+use Rattle.outside_routes.specs.Sending.{SendsPart}
+use Rattle.outside_routes.specs.laws.SendingLaws.{part_nothing}
+use Rattle.outside_routes.specs.Way.{way_of}
+use Rattle.outside_routes.specs.Sending.{routes}
 use Rattle.command_send.proofs.sent_group.put_packets.Goals as goal
 
 pub returns-in_err-encoder-clause-part : goal.returns-in_err-encoder-clause-part

@@ -1,11 +1,11 @@
 use Rattle.std.proofs.Common.{◌≡◌, ◌∙◌, ap, sym, refl, rules, inr}
 use Rattle.std.specs.Prelude.{true, false, Some}
 use Rattle.pet_base.specs.laws.Through.{on_any_err}
-use Rattle.group_cutter.specs.CutGroups.{CutGroup}
+use Rattle.stream_groups.specs.CutGroups.{CutGroup}
 use Rattle.stream_session.specs.laws.MarkLaws.{mark_found}
 use Rattle.stream_session.specs.Marks.{mark_of}
 use Rattle.stream_session.specs.Tables.{table_of}
-use Rattle.datagram_route.specs.Sending.{routes}
+use Rattle.outside_routes.specs.Sending.{routes}
 use Rattle.command_send.proofs.sent_group.send_group.Goals as goal
 
 not_both : true ≡ false → ⊥

@@ -1,8 +1,8 @@
 use Rattle.std.proofs.Common.{ap, inl, subst, refl}
-use Rattle.command_files.specs.laws.WroteLaws.{Wrote-nothing}
+use Rattle.outside_files.specs.laws.WroteLaws.{Wrote-nothing}
 use Rattle.pet_base.specs.laws.Through.{on_any_err}
-use Rattle.datagram_route.specs.Sending.{routes}
-use Rattle.datagram_route.specs.Way.{Way, way_of}
+use Rattle.outside_routes.specs.Sending.{routes}
+use Rattle.outside_routes.specs.Way.{Way, way_of}
 use Rattle.command_send.proofs.SessionRead.{numbers_of_pass, left_to, sent_to, stops_to, costs_to, keeps_same, leaves_nothing}
 use Rattle.command_send.proofs.Passes.{handed_on}
 use Rattle.command_send.specs.declared.fault.SendFault.TheVariants.{Source}

@@ -1,6 +1,6 @@
 use Rattle.pet_base.specs.laws.Through.{on_any_err}
-use Rattle.datagram_route.specs.Sending.{routes}
-use Rattle.datagram_route.specs.Way.{way_of}
+use Rattle.outside_routes.specs.Sending.{routes}
+use Rattle.outside_routes.specs.Way.{way_of}
 use Rattle.command_send.proofs.ReopenedFiles.{session_sent, session_left, session_stops, not_reopened, reopened_open, keeps_reopened}
 use Rattle.command_send.proofs.session.send_session.Goals as goal
 

@@ -3,8 +3,8 @@ use Rattle.pet_base.specs.Causes.{Blames}
 use Rattle.pet_base.specs.declared.place.Side.TheVariants.{Written}
 use Rattle.pet_base.specs.Seen.{HadFault}
 use Rattle.pet_base.specs.laws.SeenLaws.{HadFault-err}
-use Rattle.command_files.specs.Outputs.{Puts}
-use Rattle.command_files.specs.laws.PartLaws.{part_of_take}
+use Rattle.outside_files.specs.Outputs.{Puts}
+use Rattle.outside_files.specs.laws.PartLaws.{part_of_take}
 use Rattle.pet_receive.specs.Arrivals.{kept_set}
 use Rattle.command_video.specs.Ends.{IsGroupEnd}
 use Rattle.command_video.proofs.Causes.{end_is}

@@ -5,7 +5,7 @@ use Rattle.pet_base.specs.Causes.{Blames}
 use Rattle.pet_base.specs.declared.place.Side.TheVariants.{Written}
 use Rattle.pet_base.specs.Seen.{HadFault}
 use Rattle.pet_base.specs.laws.SeenLaws.{OnlyWrites-then}
-use Rattle.command_files.specs.laws.OutputLaws.{puts_nothing, puts_then}
+use Rattle.outside_files.specs.laws.OutputLaws.{puts_nothing, puts_then}
 use Rattle.pet_receive.specs.Arrivals.{kept_set}
 use Rattle.pet_receive.specs.ShownBytes.{groups_told}
 use Rattle.command_video.specs.Ends.{IsPutEnd}

@@ -1,7 +1,7 @@
 use Rattle.std.proofs.Common.{◌≡◌, ℕ, ◌*◌, ◌≤◌, List, length}
 use Rattle.pet_base.specs.declared.limits.TheConstants.{MAX_GROUP_BYTES}
 use Rattle.pet_base.specs.Seen.{OnlyWrites}
-use Rattle.command_files.specs.Outputs.{Puts}
+use Rattle.outside_files.specs.Outputs.{Puts}
 use Rattle.pet_receive.specs.Arrivals.{kept_set}
 use Rattle.command_video.specs.StoreVideo.{AreVideos}
 use Rattle.command_video.proofs.files.put_groups.Given as goal

@@ -1,5 +1,5 @@
 use Rattle.std.proofs.Common.{◌∙◌}
-use Rattle.command_files.specs.laws.FailureLaws.{stops_since}
+use Rattle.outside_files.specs.laws.FailureLaws.{stops_since}
 use Rattle.command_video.proofs.Causes.{when_put}
 use Rattle.command_video.proofs.files.write_video.Goals as goal
 

@@ -1,5 +1,5 @@
 use Rattle.stripe_plan.specs.Walk.{stripes_left}
-use Rattle.pet_rows.specs.Blocks.{lengths_of}
+use Rattle.field_rows.specs.Blocks.{lengths_of}
 use Rattle.stripe_plan.specs.Layers.{stripe_lengths}
 use Rattle.packet_encoder.proofs.Walk.{all_words, lengths_end}
 use Rattle.packet_encoder.proofs.laid.plan_blocks.Goals as goal

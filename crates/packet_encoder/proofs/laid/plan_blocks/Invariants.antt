@@ -1,7 +1,7 @@
 use Rattle.std.proofs.Common.{◌≡◌, ◌≤◌, ◌++◌, map, All}
 use Rattle.stripe_plan.specs.Layers.{stripe_lengths}
-use Rattle.pet_rows.specs.Blocks.{lengths_of}
-use Rattle.pet_rows.specs.declared.blocks.TheConstants.{MAX_WIDTH}
+use Rattle.field_rows.specs.Blocks.{lengths_of}
+use Rattle.field_rows.specs.declared.blocks.TheConstants.{MAX_WIDTH}
 use Rattle.stripe_plan.specs.Walk.{stripes_left}
 use Rattle.packet_encoder.proofs.laid.plan_blocks.Given as goal
 

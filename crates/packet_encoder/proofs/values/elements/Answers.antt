@@ -1,6 +1,6 @@
 use Rattle.std.proofs.Common.{◌≡◌, ℕ, ◌+◌, ◌-◌, length, subst, sym, ◌∙◌, arith}
 use Rattle.std.proofs.lemmas.List.{append-nil}
-use Rattle.pet_rows.specs.laws.PlaceLaws.{rows_le}
+use Rattle.field_rows.specs.laws.PlaceLaws.{rows_le}
 use Rattle.packet_encoder.proofs.Walk.{words_on, less_one}
 use Rattle.packet_encoder.proofs.values.elements.Goals as goal
 

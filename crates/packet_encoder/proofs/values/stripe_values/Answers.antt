@@ -1,7 +1,7 @@
 use Rattle.std.proofs.Common.{◌∙◌, length, drop, map, sym, ap, subst, arith}
 use Rattle.std.proofs.lemmas.List.{take_at}
 use Rattle.pet_poly.specs.Value.{value}
-use Rattle.pet_rows.specs.Blocks.{columns_of}
+use Rattle.field_rows.specs.Blocks.{columns_of}
 use Rattle.packet_encoder.proofs.values.stripe_values.Goals as goal
 
 pub returns-clause-cost : goal.returns-clause-cost

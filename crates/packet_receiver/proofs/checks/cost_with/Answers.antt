@@ -2,8 +2,8 @@ use Rattle.std.specs.Prelude.{option_copied, is_none, sum_by}
 use Rattle.std.proofs.Common.{◌≡◌, ℕ, ◌+◌, ◌≤◌, Option, None, Some, List, [], ◌∷◌, All, subst, sym, ap, ap₂, ◌∙◌, arith}
 use Rattle.std.proofs.lemmas.List.Elements.{All-head, All-tail}
 use Rattle.packet_set.specs.Packets.{Packets}
-use Rattle.kept_sets.specs.KeptSet.{cost_in}
-use Rattle.kept_sets.specs.Union.{first_past}
+use Rattle.packet_verdicts.specs.KeptSet.{cost_in}
+use Rattle.packet_verdicts.specs.Union.{first_past}
 use Rattle.packet_receiver.specs.Joining.{packets_by, packets_at, cost_beside, new_of}
 use Rattle.packet_receiver.proofs.Clashes.{beside_next, beside_stop, past_end}
 use Rattle.packet_receiver.proofs.checks.cost_with.Goals as goal

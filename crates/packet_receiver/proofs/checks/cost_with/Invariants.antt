@@ -1,6 +1,6 @@
 use Rattle.std.proofs.Common.{◌≡◌, ◌+◌, ◌≤◌, All, sum_by}
-use Rattle.kept_sets.specs.KeptSet.{cost_in}
-use Rattle.kept_sets.specs.Union.{first_past}
+use Rattle.packet_verdicts.specs.KeptSet.{cost_in}
+use Rattle.packet_verdicts.specs.Union.{first_past}
 use Rattle.packet_receiver.specs.Joining.{packets_by, new_of}
 use Rattle.packet_receiver.proofs.checks.cost_with.Given as goal
 

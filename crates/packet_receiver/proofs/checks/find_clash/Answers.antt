@@ -1,7 +1,7 @@
 use Rattle.std.specs.Prelude.{option_copied}
 use Rattle.std.proofs.Common.{◌≡◌, ℕ, Option, List, ◌∷◌, sym, ap, ◌∙◌}
 use Rattle.packet_set.specs.Packets.{Packets}
-use Rattle.kept_sets.specs.GroupClash.{first_clash_in}
+use Rattle.packet_verdicts.specs.GroupClash.{first_clash_in}
 use Rattle.packet_receiver.specs.Joining.{clash_from, clash_or, packets_by, packets_at}
 use Rattle.packet_receiver.proofs.Clashes.{clash_next, clash_end}
 use Rattle.packet_receiver.proofs.checks.find_clash.Goals as goal

@@ -2,7 +2,7 @@ use Rattle.std.specs.Prelude.{option_map}
 use Rattle.std.proofs.Common.{Some, nat_cmp, sym, ap, ◌∙◌}
 use Rattle.std.specs.BTreeMap.{is_at}
 use Rattle.packet_set.specs.Packets.{Packets}
-use Rattle.kept_sets.specs.laws.EntryLaws.{lookup_values}
+use Rattle.packet_verdicts.specs.laws.EntryLaws.{lookup_values}
 use Rattle.packet_receiver.proofs.checks.packets_in.Goals as goal
 
 pub returns-in-Some : goal.returns-in-Some

@@ -3,7 +3,7 @@ use Rattle.std.specs.List.{flat_map}
 use Rattle.std.proofs.Common.{◌≡◌, ℕ, List, Option, ◌∷◌, ◌++◌, sym, ap, ap₂, ◌∙◌}
 use Rattle.std.proofs.lemmas.List.{append_assoc}
 use Rattle.packet_set.specs.Packets.{Packets}
-use Rattle.kept_sets.specs.GroupLayers.{shown_by_both}
+use Rattle.packet_verdicts.specs.GroupLayers.{shown_by_both}
 use Rattle.packet_receiver.specs.Joining.{packets_by, packets_at, shown_at}
 use Rattle.packet_receiver.proofs.shown.newly_shown.Goals as goal
 

@@ -1,7 +1,7 @@
 use Rattle.std.proofs.Common.{◌≡◌, ◌∙◌, ◌<◌, ◌++◌, length, map, get_or, take, refl, ap, ap₂, sym, arith}
 use Rattle.std.proofs.lemmas.List.{length-set, length-map, map-append}
 use Rattle.pet_interp.specs.Blocks.{HeldBlock, stripes_in, no_block}
-use Rattle.interpolation.specs.Lifted.{grown}
+use Rattle.pet_interp.specs.Lifted.{grown}
 use Rattle.pet_interp.proofs.Passes.{blocks_kept, block_ahead, cost_block, stripes_more, stripes_more_set, rest_more, all_stripes, all_cost}
 use Rattle.pet_interp.proofs.lift.add_part.Goals as goal
 

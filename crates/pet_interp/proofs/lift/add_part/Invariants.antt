@@ -1,7 +1,7 @@
 use Rattle.std.proofs.Common.{◌≡◌, ℕ, ◌+◌, ◌*◌, ◌≤◌, All, length, map, take, drop}
-use Rattle.interpolation.specs.Progressive.{longer_than}
+use Rattle.pet_interp.specs.Progressive.{longer_than}
 use Rattle.pet_interp.specs.Blocks.{IsBlock, stripes_in}
-use Rattle.interpolation.specs.Lifted.{grown}
+use Rattle.pet_interp.specs.Lifted.{grown}
 use Rattle.pet_interp.proofs.lift.add_part.Given as goal
 
 abbrev pub invariant-loop-i : goal.invariant-loop-i

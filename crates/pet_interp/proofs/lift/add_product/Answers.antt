@@ -1,9 +1,9 @@
 use Rattle.std.proofs.Common.{◌≡◌, ◌∙◌, ℕ, ◌+◌, ◌-◌, ◌≤◌, List, ◌++◌, length, map, take, drop, ap, sym, arith, refl}
 use Rattle.std.proofs.lemmas.List.{length-append, length-drop, length-take-le, take_all, take_at}
 use Rattle.std.proofs.lemmas.List.Elements.{All-take, All-drop, All-same}
-use Rattle.interpolation.specs.Progressive.{longer_than}
+use Rattle.pet_interp.specs.Progressive.{longer_than}
 use Rattle.pet_interp.specs.Blocks.{stripes_in}
-use Rattle.interpolation.specs.Lifted.{grown_to}
+use Rattle.pet_interp.specs.Lifted.{grown_to}
 use Rattle.pet_interp.proofs.Passes.{grown_part, grown_nothing, lengths_grown, cost_part}
 use Rattle.pet_interp.proofs.lift.add_product.Goals as goal
 

@@ -1,7 +1,7 @@
 use Rattle.std.proofs.Common.{◌≡◌, ℕ, ◌+◌, ◌-◌, ◌*◌, ◌≤◌, All, length, map, take}
-use Rattle.interpolation.specs.Progressive.{longer_than}
+use Rattle.pet_interp.specs.Progressive.{longer_than}
 use Rattle.pet_interp.specs.Blocks.{IsBlock, stripes_in}
-use Rattle.interpolation.specs.Lifted.{grown_to}
+use Rattle.pet_interp.specs.Lifted.{grown_to}
 use Rattle.pet_interp.proofs.lift.add_product.Given as goal
 
 abbrev pub invariant-loop-from : goal.invariant-loop-from

@@ -2,7 +2,7 @@ use Rattle.std.proofs.Common.{◌≡◌, ◌∙◌, ◌+◌, ◌-◌, ◌*◌, �
 use Rattle.std.proofs.lemmas.List.{length-set, length-append}
 use Rattle.pet_poly.specs.Rows.{words}
 use Rattle.pet_interp.specs.Blocks.{HeldBlock, stripes_in, no_block}
-use Rattle.interpolation.specs.Lifted.{begun_all}
+use Rattle.pet_interp.specs.Lifted.{begun_all}
 use Rattle.pet_interp.proofs.Columns.{parts}
 use Rattle.pet_interp.proofs.BlockStripes.{length-begun_all}
 use Rattle.pet_interp.proofs.Passes.{blocks_kept, block_ahead, cost_block, stripes_more, rest_more, values_ahead, words_take, begun_block, all_stripes, all_cost}

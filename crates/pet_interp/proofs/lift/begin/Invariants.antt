@@ -1,8 +1,8 @@
 use Rattle.std.proofs.Common.{◌≡◌, ℕ, ◌+◌, ◌*◌, ◌≤◌, All, length, map, take, drop}
 use Rattle.pet_poly.specs.Rows.{words}
-use Rattle.interpolation.specs.Progressive.{longer_than}
+use Rattle.pet_interp.specs.Progressive.{longer_than}
 use Rattle.pet_interp.specs.Blocks.{IsBlock, stripes_in}
-use Rattle.interpolation.specs.Lifted.{begun_all}
+use Rattle.pet_interp.specs.Lifted.{begun_all}
 use Rattle.pet_interp.proofs.lift.begin.Given as goal
 
 abbrev pub invariant-loop-i : goal.invariant-loop-i

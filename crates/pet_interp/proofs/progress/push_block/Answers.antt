@@ -2,7 +2,7 @@ use Rattle.std.proofs.Common.{◌++◌, replicate, ap, ◌∙◌, sym, subst, ar
 use Rattle.std.specs.Prelude.{nat_lt}
 use Rattle.std.proofs.lemmas.Nat.{mul-le}
 use Rattle.std.proofs.lemmas.Result.{IfOk-from_err}
-use Rattle.pet_rows.specs.declared.blocks.TheConstants.{MAX_WIDTH}
+use Rattle.field_rows.specs.declared.blocks.TheConstants.{MAX_WIDTH}
 use Rattle.pet_interp.specs.Blocks.{HasRoom}
 use Rattle.pet_interp.proofs.Grown.{room_grown}
 use Rattle.pet_interp.proofs.progress.push_block.Goals as goal

@@ -1,5 +1,5 @@
 use Rattle.std.proofs.Common.{◌≡◌, ℕ, ◌+◌, ◌-◌, ◌<◌, ◌≤◌, length, slice_index}
-use Rattle.pet_rows.specs.declared.blocks.TheConstants.{MAX_WIDTH}
+use Rattle.field_rows.specs.declared.blocks.TheConstants.{MAX_WIDTH}
 use Rattle.pet_interp.proofs.progress.run_width.Given as goal
 
 abbrev pub invariant-loop-width : goal.invariant-loop-width

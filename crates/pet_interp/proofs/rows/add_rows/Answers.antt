@@ -1,8 +1,8 @@
 use Rattle.std.proofs.Common.{◌≡◌, ◌+◌, ◌-◌, ◌*◌, ◌<◌, ◌≤◌, ◌++◌, length, map, All, get_or, take, drop, ap, ap₂, sym, ◌∙◌, arith}
 use Rattle.std.proofs.lemmas.List.{length-map, length-take-le, length-drop, get_or-take, take_all}
 use Rattle.std.proofs.lemmas.List.Elements.{All-append, All-take, All-drop, All-same}
-use Rattle.pet_rows.specs.Columns.{column}
-use Rattle.pet_rows.specs.laws.PlaceLaws.{rows_le}
+use Rattle.field_rows.specs.Columns.{column}
+use Rattle.field_rows.specs.laws.PlaceLaws.{rows_le}
 use Rattle.pet_interp.proofs.Columns.{parts, put_end, back, grown_column}
 use Rattle.pet_interp.proofs.Places.{row_inside, row_long}
 use prog.Memory.{size}

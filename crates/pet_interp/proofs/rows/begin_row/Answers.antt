@@ -2,7 +2,7 @@ use Rattle.std.proofs.Common.{◌≡◌, ◌*◌, ◌++◌, length, get_or, take
 use Rattle.std.proofs.lemmas.List.Elements.{All-append, All-drop, All-take, All-same}
 use Rattle.pet_poly.specs.Rows.{words}
 use Rattle.pet_poly.specs.Value.{value}
-use Rattle.pet_rows.specs.Columns.{column}
+use Rattle.field_rows.specs.Columns.{column}
 use Rattle.pet_interp.proofs.Columns.{begun_column}
 use Rattle.pet_interp.proofs.Places.{row_inside, row_long}
 use Rattle.pet_interp.proofs.rows.begin_row.Goals as goal

@@ -3,7 +3,7 @@ use Rattle.std.proofs.lemmas.List.{length-take-le, length-drop, length-set, get_
 use Rattle.std.proofs.lemmas.List.Elements.{All-set}
 use Rattle.pet_poly.specs.Rows.{words}
 use Rattle.pet_poly.specs.laws.RowLaws.{word_at}
-use Rattle.pet_rows.specs.laws.PlaceLaws.{more_rows, filled}
+use Rattle.field_rows.specs.laws.PlaceLaws.{more_rows, filled}
 use Rattle.pet_interp.proofs.Places.{row_inside}
 use Rattle.pet_interp.proofs.rows.subtract.Goals as goal
 

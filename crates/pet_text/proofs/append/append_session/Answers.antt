@@ -1,6 +1,6 @@
 use Rattle.std.proofs.Common.{ℕ, [], ◌∷◌, ◌++◌, ap, ◌∙◌, arith}
-use Rattle.plan_text.specs.PlanLines.{hex_text}
-use Rattle.plan_text.proofs.HexDigits.{byte_more}
+use Rattle.text_plan.specs.PlanLines.{hex_text}
+use Rattle.text_plan.proofs.HexDigits.{byte_more}
 use Rattle.pet_text.proofs.append.append_session.Goals as goal
 
 pub loop-byte-preserved : goal.loop-byte-preserved

@@ -1,5 +1,5 @@
 use Rattle.std.proofs.Common.{Some, sym, subst}
-use Rattle.datagram_route.specs.Way.{way_of}
+use Rattle.outside_routes.specs.Way.{way_of}
 use Rattle.pet_base.specs.Lent.{seen}
 use Rattle.pet_text.specs.declared.words.Command.{Command}
 use Rattle.pet_tool.specs.Does.{Does}

@@ -1,6 +1,6 @@
 use Rattle.pet_base.specs.Lent.{seen}
 use Rattle.command_send.specs.Sends.{Sends}
-use Rattle.datagram_route.specs.Way.{way_of}
+use Rattle.outside_routes.specs.Way.{way_of}
 use Rattle.pet_tool.specs.declared.end.End.TheVariants.{Send}
 use Rattle.pet_tool.proofs.Ends.{send_agrees, runs_with}
 use Rattle.pet_tool.proofs.commands.run_send.Goals as goal

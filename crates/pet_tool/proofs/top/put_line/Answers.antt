@@ -1,5 +1,5 @@
 use Rattle.std.proofs.Common.{ℕ, List, ◌<◌, length, refl, ap, arith}
-use Rattle.command_files.specs.laws.PrintedLaws.{line_put, count_once}
+use Rattle.outside_files.specs.laws.PrintedLaws.{line_put, count_once}
 use Rattle.pet_tool.proofs.top.put_line.Goals as goal
 
 pub returns-clause-prints : goal.returns-clause-prints

@@ -2,7 +2,7 @@
 use Rattle.std.proofs.Common.{◌≡◌, ◌+◌, List, [], ◌∷◌, ◌++◌, length, refl, sym, ap, subst, ◌∙◌, arith, inl, inr}
 use Rattle.std.proofs.lemmas.Bool.{cases_eq}
 use Rattle.std.proofs.lemmas.List.{length_push}
-use Rattle.pet_encode.specs.Session.{bytes_of_layer}
+use Rattle.packet_session.specs.Session.{bytes_of_layer}
 use Rattle.pet_receive.specs.Arrivals.{kept_set, numbers_of, layers_of}
 use Rattle.pet_receive.specs.ShownBytes.{IsShown}
 use Rattle.reassemble.specs.declared.leading.ShownLayer.{ShownLayer}

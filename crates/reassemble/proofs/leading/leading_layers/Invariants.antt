@@ -1,9 +1,9 @@
 use Rattle.std.proofs.Common.{◌≡◌, ℕ, ◌<◌, List, length, map, Some}
 use Rattle.std.specs.List.{range_with_len}
 use Rattle.packet_set.specs.Packets.{Packets}
-use Rattle.pet_encode.specs.Session.{IsMessage, bytes_of_layer}
+use Rattle.packet_session.specs.Session.{IsMessage, bytes_of_layer}
 use Rattle.pet_receive.specs.Arrivals.{Order, HasKept, kept_set, numbers_of, layers_of}
-use Rattle.kept_sets.specs.KeptSet.{open_group}
+use Rattle.packet_verdicts.specs.KeptSet.{open_group}
 use Rattle.pet_receive.specs.ShownBytes.{IsShown, Agrees}
 use Rattle.reassemble.specs.Leading.{AreShownBytes}
 use Rattle.reassemble.proofs.leading.leading_layers.Given as goal

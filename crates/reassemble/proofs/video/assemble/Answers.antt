@@ -5,9 +5,9 @@ use Rattle.std.proofs.lemmas.List.FromFn.{get_or-map-range_with_len}
 use Rattle.packet_frame.specs.declared.frame.Header.{Header}
 use Rattle.packet_set.specs.Packets.{Packets}
 use Rattle.layer_split.specs.RunTable.{fits}
-use Rattle.pet_encode.specs.Session.{bytes_of_layer}
+use Rattle.packet_session.specs.Session.{bytes_of_layer}
 use Rattle.pet_receive.specs.Arrivals.{kept_set, numbers_of, layers_of}
-use Rattle.kept_sets.specs.KeptSet.{open_group}
+use Rattle.packet_verdicts.specs.KeptSet.{open_group}
 use Rattle.reassemble.specs.declared.leading.ShownLayer.{ShownLayer}
 use Rattle.reassemble.specs.Leading.{lengths_in}
 use Rattle.reassemble.specs.Taking.{bytes_each, first_of}

@@ -1,7 +1,7 @@
 use Rattle.std.proofs.Common.{◌∙◌, ap, ◌++◌}
 use Rattle.pet_receive.specs.Arrivals.{kept_set}
-use Rattle.kept_sets.specs.KeptSet.{KeptSet}
-use Rattle.kept_sets.specs.Union.{union}
+use Rattle.packet_verdicts.specs.KeptSet.{KeptSet}
+use Rattle.packet_verdicts.specs.Union.{union}
 use Rattle.store_text.specs.Store.{store_text}
 use Rattle.store_merge.proofs.Joining.{first_refused, second_refused, both_refused, both_joined, steps_of}
 use Rattle.store_merge.proofs.merge.merge_stores.Goals as goal

@@ -1,6 +1,6 @@
 use Rattle.std.specs.List.{cons_option}
 use Rattle.std.proofs.Common.{[]}
-use Rattle.kept_sets.specs.laws.FramesLaws.{first_frames, frame_at, frames_one_number}
+use Rattle.packet_verdicts.specs.laws.FramesLaws.{first_frames, frame_at, frames_one_number}
 use Rattle.store_write.proofs.Appended.{entries_then, front_then}
 use Rattle.store_write.proofs.write.append_group.Goals as goal
 

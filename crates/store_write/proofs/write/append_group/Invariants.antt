@@ -1,9 +1,9 @@
 use Rattle.std.proofs.Common.{◌≡◌, ◌++◌, length, take, Some}
 use Rattle.packet_set.specs.Packets.{Packets}
-use Rattle.pet_encode.specs.Datagrams.{entries_text}
-use Rattle.kept_sets.specs.KeptSet.{open_group}
+use Rattle.packet_session.specs.Datagrams.{entries_text}
+use Rattle.packet_verdicts.specs.KeptSet.{open_group}
 use Rattle.pet_receive.specs.Arrivals.{kept_set}
-use Rattle.kept_sets.specs.laws.FramesLaws.{first_frames}
+use Rattle.packet_verdicts.specs.laws.FramesLaws.{first_frames}
 use Rattle.store_write.proofs.write.append_group.Given as goal
 
 abbrev pub invariant-loop-number : goal.invariant-loop-number

@@ -1,8 +1,8 @@
 use Rattle.std.proofs.Common.{◌≡◌, ◌++◌, ◌∙◌, ap, arith}
 use Rattle.std.specs.List.{flat_map, range_with_len}
-use Rattle.pet_encode.specs.Datagrams.{entries_text}
+use Rattle.packet_session.specs.Datagrams.{entries_text}
 use Rattle.pet_receive.specs.Arrivals.{kept_set}
-use Rattle.kept_sets.specs.laws.FramesLaws.{frames_of, frames_one_group}
+use Rattle.packet_verdicts.specs.laws.FramesLaws.{frames_of, frames_one_group}
 use Rattle.store_write.proofs.Appended.{entries_then, front_then, all_groups}
 use Rattle.store_write.proofs.write.append_groups.Goals as goal
 

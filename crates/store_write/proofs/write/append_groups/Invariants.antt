@@ -1,8 +1,8 @@
 use Rattle.std.proofs.Common.{◌≡◌, ◌++◌, length, take}
 use Rattle.std.specs.List.{flat_map, range_with_len}
-use Rattle.pet_encode.specs.Datagrams.{entries_text}
+use Rattle.packet_session.specs.Datagrams.{entries_text}
 use Rattle.pet_receive.specs.Arrivals.{kept_set}
-use Rattle.kept_sets.specs.laws.FramesLaws.{frames_of}
+use Rattle.packet_verdicts.specs.laws.FramesLaws.{frames_of}
 use Rattle.store_write.proofs.write.append_groups.Given as goal
 
 abbrev pub invariant-loop-group : goal.invariant-loop-group

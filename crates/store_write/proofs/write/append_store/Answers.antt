@@ -1,8 +1,8 @@
 use Rattle.std.proofs.Common.{rules, ◌≡◌, ◌∙◌, ◌++◌, ap, sym, List, ℕ}
 use Rattle.std.specs.Int.{w32, to_be_bytes}
 use Rattle.pet_receive.specs.Arrivals.{kept_set}
-use Rattle.kept_sets.specs.Union.{frames_in}
-use Rattle.kept_sets.specs.laws.FramesLaws.{frames_many}
+use Rattle.packet_verdicts.specs.Union.{frames_in}
+use Rattle.packet_verdicts.specs.laws.FramesLaws.{frames_many}
 use Rattle.store_write.proofs.Appended.{stored}
 use Rattle.store_text.specs.declared.format.TheConstants.{MARK}
 use Rattle.store_write.proofs.write.append_store.Goals as goal

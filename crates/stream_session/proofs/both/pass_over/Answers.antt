@@ -1,7 +1,7 @@
 use Rattle.std.proofs.Common.{◌≡◌, ◌++◌, length, take, ◌∙◌, arith}
 use Rattle.std.proofs.lemmas.List.{length-append, length-take-le}
 use Rattle.pet_base.specs.declared.limits.TheConstants.{MAX_STREAM}
-use Rattle.command_files.specs.laws.InputLaws.{taken_more, few_more}
+use Rattle.outside_files.specs.laws.InputLaws.{taken_more, few_more}
 use Rattle.stream_session.proofs.both.pass_over.Goals as goal
 
 pub loop-read-preserved : goal.loop-read-preserved

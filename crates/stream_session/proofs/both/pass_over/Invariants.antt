@@ -1,7 +1,7 @@
 use Rattle.std.proofs.Common.{◌≡◌, ◌+◌, ◌-◌, List, [], ℕ, length}
 use Rattle.pet_base.specs.declared.limits.TheConstants.{MAX_STREAM}
 use Rattle.priority_file.specs.Priority.{Priorities}
-use Rattle.command_files.specs.Inputs.{HasTaken}
+use Rattle.outside_files.specs.Inputs.{HasTaken}
 use Rattle.stream_session.proofs.both.pass_over.Given as goal
 
 abbrev pub invariant-loop-read : goal.invariant-loop-read

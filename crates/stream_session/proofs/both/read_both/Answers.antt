@@ -1,7 +1,7 @@
 use Rattle.std.proofs.Common.{◌∙◌, ℕ, subst, ap, sym}
 use Rattle.std.proofs.lemmas.Result.{err_from_is_err_and}
 use Rattle.priority_file.specs.Refusals.{refusal_of}
-use Rattle.command_files.specs.Inputs.{IsFrontOf}
+use Rattle.outside_files.specs.Inputs.{IsFrontOf}
 use Rattle.stream_session.proofs.Sourced.{judged, priority_at, rules_failed, stream_at, stream_failed, answer_at}
 use Rattle.stream_session.proofs.both.read_both.Goals as goal
 

@@ -1,6 +1,6 @@
 use Rattle.std.proofs.lemmas.Result.{err_from_is_err_and}
 use Rattle.pet_base.specs.declared.limits.TheConstants.{MAX_STREAM}
-use Rattle.command_files.specs.laws.InputLaws.{front_of, failed_at}
+use Rattle.outside_files.specs.laws.InputLaws.{front_of, failed_at}
 use Rattle.stream_session.proofs.both.read_through.Goals as goal
 
 pub returns-clause-read : goal.returns-clause-read

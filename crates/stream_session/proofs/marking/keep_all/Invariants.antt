@@ -2,7 +2,7 @@ use Rattle.std.proofs.Common.{◌≤◌, ◌++◌, List, length, take}
 use Rattle.std.specs.Prelude.{All}
 use Rattle.pet_base.specs.declared.limits.TheConstants.{MAX_GROUPS}
 use Rattle.priority_file.specs.Priority.{Priorities}
-use Rattle.group_cutter.specs.CutGroups.{CutGroup}
+use Rattle.stream_groups.specs.CutGroups.{CutGroup}
 use Rattle.stream_session.specs.Tables.{IsFit}
 use Rattle.stream_session.specs.Marking.{AreKept}
 use Rattle.stream_session.proofs.marking.keep_all.Given as goal

@@ -1,6 +1,6 @@
 use Rattle.std.proofs.Common.{ℕ, List}
 use Rattle.priority_file.specs.Priority.{Priorities}
-use Rattle.group_cutter.specs.Cutting.{pieces_left}
+use Rattle.stream_groups.specs.Cutting.{pieces_left}
 use Rattle.stream_session.specs.Marking.{HasKept}
 use Rattle.stream_session.proofs.marking.keep_ended.Given as goal
 

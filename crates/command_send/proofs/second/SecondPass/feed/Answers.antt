@@ -2,8 +2,8 @@ use Rattle.std.proofs.Common.{◌∙◌, sym}
 use Rattle.pet_base.specs.laws.Through.{on_any_err}
 use Rattle.command_send.proofs.LeastChange.{is_change, stands_longer}
 use Rattle.command_send.proofs.GroupsSoFar.{part_longer, part_stands}
-use Rattle.datagram_route.specs.Sending.{routes}
-use Rattle.datagram_route.specs.Way.{way_of}
+use Rattle.outside_routes.specs.Sending.{routes}
+use Rattle.outside_routes.specs.Way.{way_of}
 use Rattle.command_send.proofs.second.SecondPass.feed.Goals as goal
 
 pub returns-then-is_some-clause-stands : goal.returns-then-is_some-clause-stands

@@ -1,8 +1,8 @@
 use Rattle.std.proofs.Common.{◌∙◌, sym}
 use Rattle.pet_base.specs.laws.Through.{on_any_err}
 use Rattle.command_send.proofs.GroupsSoFar.{stands_none}
-use Rattle.datagram_route.specs.Sending.{routes}
-use Rattle.datagram_route.specs.Way.{way_of}
+use Rattle.outside_routes.specs.Sending.{routes}
+use Rattle.outside_routes.specs.Way.{way_of}
 use Rattle.command_send.proofs.second.SecondPass.finish.Goals as goal
 
 pub returns-in_err-self-clause-part : goal.returns-in_err-self-clause-part

@@ -3,7 +3,7 @@ use Rattle.std.proofs.Common.{ap}
 use Rattle.std.proofs.Common.{◌≡◌, ◌*◌, ◌++◌, ◌∙◌, rules, sym, subst, length, flat_map, arith}
 use Rattle.packet_frame.specs.declared.format.Format.{Format}
 use Rattle.packet_frame.specs.Planned.{by_text, planned_text, IsPlannedFrame}
-use Rattle.pet_encode.specs.Encoding.{frame_of}
+use Rattle.packet_session.specs.Encoding.{frame_of}
 use Rattle.stripe_plan.specs.Layers.{plan_ends}
 use Rattle.packet_frame.specs.Frame.{Fields}
 use Rattle.packet_frame.specs.View.{fields_with}

@@ -2,7 +2,7 @@ use Rattle.std.proofs.Common.{◌≡◌, ◌+◌, ◌*◌, ◌≤◌, ◌++◌, 
 use Rattle.std.proofs.lemmas.List.{append-nil}
 use Rattle.stripe_plan.specs.Layers.{plan_stripes}
 use Rattle.packet_frame.specs.declared.frame.Header.{Header}
-use Rattle.pet_encode.specs.Encoding.{values_at}
+use Rattle.packet_session.specs.Encoding.{values_at}
 use Rattle.packet_encoder.specs.CodedGroup.{frames_by}
 use Rattle.packet_encoder.proofs.Ranges.{row_at, row_room, text_more, ranges_more}
 use Rattle.packet_encoder.proofs.encoder.PacketEncoder.frames.Goals as goal

@@ -1,6 +1,6 @@
 use Rattle.std.proofs.Common.{◌≡◌, ℕ, ◌+◌, ◌*◌, ◌++◌, ◌<◌, ◌≤◌}
 use Rattle.packet_frame.specs.Planned.{IsPlannedFrame}
-use Rattle.pet_encode.specs.Encoding.{frame_of}
+use Rattle.packet_session.specs.Encoding.{frame_of}
 use Rattle.packet_encoder.specs.CodedGroup.{frames_by}
 use Rattle.packet_encoder.proofs.encoder.PacketEncoder.frames.Given as goal
 

@@ -1,7 +1,7 @@
 use Rattle.packet_encoder.specs.CodedGroup.{CodedGroup}
 use Rattle.std.proofs.Common.{subst, ap, ◌∙◌, ◌*◌}
-use Rattle.pet_encode.specs.Encoding.{Encoding}
-use Rattle.pet_encode.specs.Session.{IsMessage}
+use Rattle.packet_session.specs.Encoding.{Encoding}
+use Rattle.packet_session.specs.Session.{IsMessage}
 use Rattle.packet_encoder.specs.Stored.{words_in}
 use Rattle.packet_encoder.proofs.Message.{length-spellings, bytes_spellings, words_are_elements, words_are_whole}
 use Rattle.packet_encoder.proofs.encoder.PacketEncoder.header.Goals as goal

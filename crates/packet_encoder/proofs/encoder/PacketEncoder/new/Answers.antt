@@ -1,5 +1,5 @@
 use Rattle.std.proofs.Common.{◌≡◌, length, flat_map, ap, sym, ◌∙◌, arith}
-use Rattle.pet_rows.specs.Blocks.{size_of}
+use Rattle.field_rows.specs.Blocks.{size_of}
 use Rattle.packet_encoder.proofs.Columns.{carried}
 use Rattle.packet_encoder.proofs.Message.{row_is, row_length, row_message, laid_elements, laid_row}
 use Rattle.packet_encoder.proofs.encoder.PacketEncoder.new.Goals as goal

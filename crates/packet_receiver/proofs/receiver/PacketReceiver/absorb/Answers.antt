@@ -1,7 +1,7 @@
 use Rattle.std.proofs.Common.{◌≡◌, ◌+◌, ◌≤◌, ℕ, Option, None, sym, ap₂, ◌∙◌, subst, map-id, ◌++◌}
-use Rattle.kept_sets.specs.KeptSet.{cost_kept}
+use Rattle.packet_verdicts.specs.KeptSet.{cost_kept}
 use Rattle.packet_receiver.specs.UnionSteps.{union_steps}
-use Rattle.kept_sets.specs.Union.{absorb_fault, union, new_pairs, shown_by_union}
+use Rattle.packet_verdicts.specs.Union.{absorb_fault, union, new_pairs, shown_by_union}
 use Rattle.packet_receiver.specs.Arrivals.{ReceiverState, Order, HasKept, kept_set}
 use Rattle.packet_receiver.specs.Receiving.{IsReceiver}
 use Rattle.packet_receiver.proofs.Absorbed.{some_kept, each_few, shown_is, can_take, taken_set, taken_order, taken_steps, taken_again}

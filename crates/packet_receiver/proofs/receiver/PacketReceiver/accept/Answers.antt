@@ -5,12 +5,12 @@ use Rattle.std.proofs.Common.{None, ◌∙◌, ◌≡◌, ℕ, ◌+◌, ◌≤�
 use Rattle.packet_frame.specs.Frame.{Fields}
 use Rattle.packet_frame.specs.Planned.{planned_fields}
 use Rattle.packet_frame.specs.View.{view}
-use Rattle.interpolation.specs.Progressive.{step_bound}
-use Rattle.kept_sets.specs.declared.verdict.Verdict.{Verdict}
-use Rattle.kept_sets.specs.KeptSet.{IsKeptSetBy, count_kept}
-use Rattle.kept_sets.specs.Verdicts.{after_in, verdict_in, is_kept, opens}
+use Rattle.pet_interp.specs.Progressive.{step_bound}
+use Rattle.packet_verdicts.specs.declared.verdict.Verdict.{Verdict}
+use Rattle.packet_verdicts.specs.KeptSet.{IsKeptSetBy, count_kept}
+use Rattle.packet_verdicts.specs.Verdicts.{after_in, verdict_in, is_kept, opens}
 use Rattle.packet_receiver.specs.Arrivals.{ReceiverState, Order, HasKept, kept_set, stripe_lengths}
-use Rattle.kept_sets.specs.laws.KeptSetLaws.{verdict_damaged_in, after_other_in}
+use Rattle.packet_verdicts.specs.laws.KeptSetLaws.{verdict_damaged_in, after_other_in}
 use Rattle.packet_receiver.proofs.Accepted.{Answers, read_verdict, verdict_answered, after_answered}
 use Rattle.packet_receiver.proofs.receiver.PacketReceiver.accept.Given.{Over}
 use Rattle.packet_receiver.proofs.receiver.PacketReceiver.accept.Goals as goal

@@ -2,8 +2,8 @@ use Rattle.std.specs.Prelude.{IsTrue, nat_eq}
 use Rattle.std.proofs.Common.{◌≡◌, ◌↔◌, None, Some, false, sym, ◌∙◌, arith, subst}
 use Rattle.packet_receiver.specs.ShownBytes.{IsComplete}
 use Rattle.packet_receiver.specs.Arrivals.{ReceiverState, kept_set}
-use Rattle.kept_sets.specs.KeptSet.{told_by}
-use Rattle.kept_sets.specs.GroupLayers.{whole_in}
+use Rattle.packet_verdicts.specs.KeptSet.{told_by}
+use Rattle.packet_verdicts.specs.GroupLayers.{whole_in}
 use Rattle.packet_receiver.proofs.Sums.{sum_is, whole_fits, complete_is, not_complete}
 use Rattle.packet_receiver.proofs.receiver.PacketReceiver.complete.Goals as goal
 

@@ -1,12 +1,12 @@
 use Rattle.std.specs.Prelude.{not, sum_by}
 use Rattle.std.proofs.Common.{◌≡◌, ℕ, ◌+◌, subst, Bool, true, false, Option, refl, sym, ap, ap₂, ◌∙◌}
 use Rattle.std.specs.Str.{bytes_eq}
-use Rattle.kept_sets.specs.declared.union.Absorb.{Absorb}
-use Rattle.kept_sets.specs.KeptSet.{IsKeptSet, IsKeptSetBy, cost_kept, cost_in}
-use Rattle.kept_sets.specs.Union.{absorb_fault, union, first_past}
+use Rattle.packet_verdicts.specs.declared.union.Absorb.{Absorb}
+use Rattle.packet_verdicts.specs.KeptSet.{IsKeptSet, IsKeptSetBy, cost_kept, cost_in}
+use Rattle.packet_verdicts.specs.Union.{absorb_fault, union, first_past}
 use Rattle.packet_receiver.specs.Joining.{packets_of, new_of}
 use Rattle.packet_receiver.specs.Arrivals.{ReceiverState, kept_set}
-use Rattle.kept_sets.specs.laws.UnionSound.{union_cost}
+use Rattle.packet_verdicts.specs.laws.UnionSound.{union_cost}
 use Rattle.packet_receiver.proofs.Fitting.{clash_is, fault_session, fault_clash, fault_full, fault_none}
 use Rattle.packet_receiver.proofs.Absorbed.{each_word}
 use Rattle.packet_receiver.proofs.receiver.PacketReceiver.fit.Goals as goal

@@ -3,7 +3,7 @@ use Rattle.std.specs.Option.{option_map_or}
 use Rattle.std.specs.Str.{bytes_eq}
 use Rattle.std.proofs.Common.{◌≡◌, ◌==◌, ℕ, Bool, false, true, Option, refl, sym, ap, ◌∙◌}
 use Rattle.packet_frame.specs.View.{view}
-use Rattle.kept_sets.specs.Verdicts.{tells_other_count, frame_verdict_by}
+use Rattle.packet_verdicts.specs.Verdicts.{tells_other_count, frame_verdict_by}
 use Rattle.packet_receiver.specs.Arrivals.{ReceiverState, kept_set}
 use Rattle.packet_receiver.specs.Receiving.{verdict_by}
 use Rattle.packet_receiver.proofs.Received.{count_told, is_foreign, is_clash, is_by}

@@ -1,9 +1,9 @@
 use Rattle.std.specs.Prelude.{option_map, is_none, OnErr}
 use Rattle.std.proofs.Common.{◌≡◌, ℕ, ◌+◌, ◌≤◌, List, None, Some, Result, Ok, Err, true, sym, ap, ◌∙◌, arith, subst}
 use Rattle.packet_frame.specs.View.{view}
-use Rattle.interpolation.specs.Progressive.{step_bound}
-use Rattle.kept_sets.specs.KeptSet.{open_group, count_kept, keep_by}
-use Rattle.kept_sets.specs.Verdicts.{opens}
+use Rattle.pet_interp.specs.Progressive.{step_bound}
+use Rattle.packet_verdicts.specs.KeptSet.{open_group, count_kept, keep_by}
+use Rattle.packet_verdicts.specs.Verdicts.{opens}
 use Rattle.packet_receiver.specs.Arrivals.{GroupState, ReceiverState, HasKept, kept_set, stripe_lengths}
 use Rattle.packet_receiver.specs.Receiving.{IsReceiver}
 use Rattle.packet_receiver.proofs.Received.{HasKeptOne, keepable_at, is_ready, kept_one, found_in, count_is}

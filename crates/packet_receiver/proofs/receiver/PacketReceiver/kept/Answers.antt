@@ -1,6 +1,6 @@
 use Rattle.std.proofs.Common.{ap, ◌∙◌, arith}
 use Rattle.packet_set.specs.Packets.{count_in}
-use Rattle.kept_sets.specs.KeptSet.{kept_in_all}
+use Rattle.packet_verdicts.specs.KeptSet.{kept_in_all}
 use Rattle.packet_receiver.specs.Arrivals.{ReceiverState, kept_set}
 use Rattle.packet_receiver.proofs.Sums.{sum_is, kept_fits}
 use Rattle.packet_receiver.proofs.receiver.PacketReceiver.kept.Goals as goal

@@ -2,8 +2,8 @@ use Rattle.std.specs.Prelude.{IsSome, IfSome, MatchOption, option_map}
 use Rattle.std.proofs.Common.{◌≡◌, ◌↔◌, [], None, Some, sym, ap, ◌∙◌, subst}
 use Rattle.std.proofs.lemmas.Option.{same_Some}
 use Rattle.packet_set.specs.Packets.{Packets}
-use Rattle.pet_encode.specs.Session.{IsMessage, bytes_of_layer}
-use Rattle.kept_sets.specs.KeptSet.{open_group}
+use Rattle.packet_session.specs.Session.{IsMessage, bytes_of_layer}
+use Rattle.packet_verdicts.specs.KeptSet.{open_group}
 use Rattle.packet_receiver.specs.Arrivals.{GroupState, ReceiverState, HasKept, HoldsAfter, kept_set, state_of, numbers_of, layers_of}
 use Rattle.packet_receiver.specs.ShownBytes.{IsShown, IsShownIn, IsShownBytes, Agrees}
 use Rattle.packet_receiver.proofs.Received.{found_in}

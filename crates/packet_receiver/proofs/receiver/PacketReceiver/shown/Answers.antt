@@ -1,5 +1,5 @@
 use Rattle.std.proofs.Common.{ap, ◌∙◌, arith}
-use Rattle.kept_sets.specs.GroupLayers.{shown_in}
+use Rattle.packet_verdicts.specs.GroupLayers.{shown_in}
 use Rattle.packet_receiver.specs.ShownBytes.{shown_in_all}
 use Rattle.packet_receiver.specs.Arrivals.{ReceiverState, kept_set}
 use Rattle.packet_receiver.proofs.Sums.{sum_is, shown_fits}

@@ -2,9 +2,9 @@ use Rattle.std.proofs.Common.{◌≡◌, ◌∙◌, ◌*◌, true, All, length, 
 use Rattle.std.specs.Vec.{with_items}
 use Rattle.std.proofs.lemmas.List.{with_items_is}
 use Rattle.std.proofs.lemmas.List.Elements.{All-same}
-use Rattle.pet_rows.specs.Columns.{block_columns}
+use Rattle.field_rows.specs.Columns.{block_columns}
 use Rattle.pet_interp.specs.Blocks.{HeldBlock, stripes_of}
-use Rattle.interpolation.specs.Lifted.{grown}
+use Rattle.pet_interp.specs.Lifted.{grown}
 use Rattle.pet_interp.proofs.BlockStripes.{stripes_each, stripes_waiting, columns_grown, grown_none, each_new, waits_here, each_seen, longer_seen}
 use Rattle.pet_interp.proofs.block.StripeBlock.add_multiples.Goals as goal
 

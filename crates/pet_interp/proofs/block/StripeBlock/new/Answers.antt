@@ -4,7 +4,7 @@ use Rattle.std.proofs.lemmas.List.{length-replicate}
 use Rattle.std.proofs.lemmas.List.Elements.{All-same, All-replicate}
 use Rattle.std.proofs.lemmas.Nat.{mul-le}
 use Rattle.std.proofs.lemmas.Result.{IfOk-from_err}
-use Rattle.pet_rows.specs.declared.blocks.TheConstants.{MAX_WIDTH}
+use Rattle.field_rows.specs.declared.blocks.TheConstants.{MAX_WIDTH}
 use Rattle.pet_interp.proofs.BlockStripes.{length-stripes, stripes_each}
 use Rattle.pet_interp.proofs.block.StripeBlock.new.Goals as goal
 

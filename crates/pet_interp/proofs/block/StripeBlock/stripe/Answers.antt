@@ -1,7 +1,7 @@
 use Rattle.std.proofs.Common.{◌≡◌, ◌∙◌, ◌+◌, ◌-◌, ◌*◌, ◌≤◌, false, [], length, get_or, take, drop, ap, ap₂, sym, arith}
 use Rattle.pet_interp.specs.Blocks.{HeldBlock}
 use Rattle.pet_interp.proofs.BlockStripes.{length-stripes, stripes_known, inside_cut}
-use Rattle.pet_rows.specs.laws.StripeLaws.{cut_at}
+use Rattle.field_rows.specs.laws.StripeLaws.{cut_at}
 use Rattle.pet_interp.proofs.block.StripeBlock.stripe.Goals as goal
 
 pub overflow_mul-start : goal.overflow_mul-start

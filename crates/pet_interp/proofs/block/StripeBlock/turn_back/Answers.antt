@@ -3,8 +3,8 @@ use Rattle.std.specs.Prelude.{nat_lt}
 use Rattle.std.proofs.lemmas.Bool.{lt-ltb}
 use Rattle.std.proofs.lemmas.List.{with_items_is}
 use Rattle.std.proofs.lemmas.List.Elements.{All-same}
-use Rattle.pet_rows.specs.Columns.{block_columns}
-use Rattle.pet_rows.specs.Stripes.{cut}
+use Rattle.field_rows.specs.Columns.{block_columns}
+use Rattle.field_rows.specs.Stripes.{cut}
 use Rattle.pet_interp.specs.Blocks.{HeldBlock}
 use Rattle.pet_interp.proofs.BlockStripes.{length-stripes, stripes_waiting, turned_stripes, turned_elements}
 use Rattle.pet_interp.proofs.block.StripeBlock.turn_back.Goals as goal

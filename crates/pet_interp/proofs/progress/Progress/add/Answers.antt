@@ -6,7 +6,7 @@ use Rattle.pet_poly.specs.InPlace.{linear_product}
 use Rattle.pet_poly.specs.Rows.{words}
 use Rattle.pet_poly.specs.laws.InPlaceLaws.{linear_front}
 use Rattle.pet_poly.specs.laws.RowLaws.{length-words, words_are}
-use Rattle.interpolation.specs.Progressive.{Held, StandsFor, step_bound}
+use Rattle.pet_interp.specs.Progressive.{Held, StandsFor, step_bound}
 use Rattle.pet_interp.specs.Blocks.{IsBlock, stripes_in}
 use Rattle.pet_interp.proofs.Grown.{longest_same}
 use Rattle.pet_interp.proofs.Added.{weight_of, stands_added}

@@ -1,10 +1,10 @@
 use Rattle.std.proofs.Common.{◌≡◌, ◌∙◌, All, [], length, get_or, take, ap, sym, subst, arith}
-use Rattle.interpolation.specs.Progressive.{Held, column}
+use Rattle.pet_interp.specs.Progressive.{Held, column}
 use Rattle.pet_interp.specs.Blocks.{HeldBlock, IsBlock, stripes_in, no_block}
 use Rattle.std.proofs.lemmas.List.{get_or_default}
-use Rattle.interpolation.specs.Points.{IsOnlyThrough}
+use Rattle.pet_interp.specs.Points.{IsOnlyThrough}
 use Rattle.pet_interp.proofs.Places.{waits_not}
-use Rattle.interpolation.specs.laws.ProgressiveLaws.{stripe_is_common}
+use Rattle.pet_interp.specs.laws.ProgressiveLaws.{stripe_is_common}
 use Rattle.pet_interp.proofs.progress.Progress.coefficients.Goals as goal
 
 pub returns-clause-value : goal.returns-clause-value

@@ -1,7 +1,7 @@
 use Rattle.std.proofs.Common.{◌≡◌, ◌≢◌, ℕ, ◌<◌, ◌&&◌, ◌==◌, ◌∙◌, [], length, ap, sym, subst}
 use Rattle.std.specs.Prelude.{nat_lt}
 use Rattle.std.specs.List.{list_any}
-use Rattle.interpolation.specs.Progressive.{Held, stripe_of}
+use Rattle.pet_interp.specs.Progressive.{Held, stripe_of}
 use Rattle.pet_interp.proofs.Reached.{none_reached, some_reached}
 use Rattle.pet_interp.proofs.progress.Progress.has_just_enough.Goals as goal
 

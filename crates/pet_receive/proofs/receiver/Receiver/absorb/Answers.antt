@@ -1,6 +1,6 @@
 use Rattle.std.specs.Prelude.{IfOk, OnOk, map}
 use Rattle.std.proofs.Common.{ℕ, ◌≡◌, ◌+◌, ◌≤◌, ◌++◌, subst}
-use Rattle.kept_sets.specs.Union.{new_pairs, shown_by_union}
+use Rattle.packet_verdicts.specs.Union.{new_pairs, shown_by_union}
 use Rattle.pet_receive.specs.Arrivals.{Order, ReceiverState, HasKept, kept_set}
 use Rattle.pet_receive.specs.UnionSteps.{union_steps}
 use Rattle.pet_receive.proofs.receiver.Receiver.absorb.Goals as goal

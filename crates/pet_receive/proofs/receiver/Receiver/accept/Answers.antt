@@ -3,9 +3,9 @@ use Rattle.std.proofs.Common.{ℕ, ◌≡◌, ◌+◌, ◌≤◌, true, subst}
 use Rattle.packet_frame.specs.declared.format.Format.{Format}
 use Rattle.packet_frame.specs.declared.format.TheConstants.{FORMAT}
 use Rattle.packet_frame.specs.Planned.{planned_fields}
-use Rattle.interpolation.specs.Progressive.{step_bound}
-use Rattle.kept_sets.specs.KeptSet.{IsKeptSetBy, count_kept}
-use Rattle.kept_sets.specs.Verdicts.{is_kept}
+use Rattle.pet_interp.specs.Progressive.{step_bound}
+use Rattle.packet_verdicts.specs.KeptSet.{IsKeptSetBy, count_kept}
+use Rattle.packet_verdicts.specs.Verdicts.{is_kept}
 use Rattle.packet_receiver.specs.Arrivals.{ReceiverState, kept_set, stripe_lengths}
 use Rattle.pet_receive.proofs.receiver.Receiver.accept.Goals as goal
 

@@ -1,8 +1,8 @@
 -- The groups that are left, of an accepted stream, or the fault.
 use Rattle.std.proofs.Common.{List, ◌++◌, subst, sym}
 use Rattle.std.proofs.lemmas.Result.{IfOk-weaker, IfErr-weaker}
-use Rattle.group_cutter.specs.CutGroups.{CutGroup}
-use Rattle.group_cutter.specs.Cutting.{AreAll}
+use Rattle.stream_groups.specs.CutGroups.{CutGroup}
+use Rattle.stream_groups.specs.Cutting.{AreAll}
 use Rattle.stream_session.proofs.marking.MarkedPassStreamReader.end.Goals as goal
 
 pub returns-in-Ok-clause-answer : goal.returns-in-Ok-clause-answer

@@ -1,4 +1,0 @@
-use Rattle.additive_fft.proofs.butterflies.+fly.Given as goal
-
-abbrev pub decreases-fly : goal.decreases-fly
-decreases-fly g l = l.level

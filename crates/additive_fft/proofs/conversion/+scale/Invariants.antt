@@ -1,4 +1,0 @@
-use Rattle.additive_fft.proofs.conversion.+scale.Given as goal
-
-abbrev pub decreases-scale : goal.decreases-scale
-decreases-scale g l = l.level

@@ -1,4 +1,0 @@
-use Rattle.algebra_tests.proofs.rows_tests.first_wrong.Given as goal
-
-abbrev pub ghosts-digests : goal.ghosts-digests
-ghosts-digests g a = record { name = a.blank.name; parts = a.blank.parts }

@@ -1,4 +1,0 @@
-use Rattle.algebra_tests.proofs.rows_tests.laid_out.Given as goal
-
-abbrev pub ghosts-stripe_values : goal.ghosts-stripe_values
-ghosts-stripe_values a = record { name = a.blank.name; parts = a.blank.parts }

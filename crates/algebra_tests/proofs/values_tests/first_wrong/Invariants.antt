@@ -1,4 +1,0 @@
-use Rattle.algebra_tests.proofs.values_tests.first_wrong.Given as goal
-
-abbrev pub ghosts-digest_of_values : goal.ghosts-digest_of_values
-ghosts-digest_of_values g a = record { name = a.blank.name; parts = a.blank.parts }

@@ -1,8 +1,0 @@
-use Rattle.std.proofs.Common.{rules}
-use Rattle.datagram_route.proofs.receiving.receive.Goals as goal
-
-pub returns-in-Datagram-clause-datagram : goal.returns-in-Datagram-clause-datagram
-returns-in-Datagram-clause-datagram g c = search rules
-
-pub returns-in-Quiet-clause-cause : goal.returns-in-Quiet-clause-cause
-returns-in-Quiet-clause-cause g c = search rules

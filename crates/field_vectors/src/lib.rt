@@ -1,0 +1,20 @@
+//! The field of 65,536 elements on vectors: many products by one factor at once.
+//!
+//! `Products` is a factor with its products with each nibble at each of the four places of a word, so that 32 products take a
+//! few looks into tables of sixteen bytes. `column_values`, `scale_row` and `add_multiples` do with the rows of a block what
+//! `Rows` of `field_rows` asks of a field, 32 columns at once; `multiply_row`, `add_multiple_row` and `butterfly_row` go along
+//! rows of any length. A step for each product is counted by `count_steps`. No call takes memory.
+#![tactic(auto)]
+
+mod count;
+mod kernels;
+mod lanes;
+mod long_rows;
+mod memory;
+mod nibbles;
+mod products;
+
+pub use count::count_steps;
+pub use kernels::{add_multiples, column_values, scale_row};
+pub use long_rows::{add_multiple_row, butterfly_row, multiply_row};
+pub use products::Products;

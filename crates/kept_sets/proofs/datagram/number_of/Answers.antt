@@ -1,6 +1,0 @@
-use Rattle.packet_frame.specs.declared.format.TheConstants.{FORMAT}
-use Rattle.packet_frame.specs.laws.Laws.{reads_heads_in}
-use Rattle.kept_sets.proofs.datagram.number_of.Goals as goal
-
-pub named_number-requires : goal.named_number-requires
-named_number-requires c = reads_heads_in FORMAT c.args.datagram.now c.requires

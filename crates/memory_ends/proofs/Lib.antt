@@ -1,2 +1,0 @@
-pub mod StoredLemmas
-pub mod Moved

@@ -1,0 +1,161 @@
+//! One open group: its packets, its stripes and its message.
+ghost use Rattle.std.specs.Prelude.{◌≡◌, ◌↔◌, ℕ, ◌+◌, ◌*◌, ◌<◌, ◌≤◌, List, [], ◌∷◌, ◌++◌, length, map, None, IsSome, IfOk, IfSome, ◌^◌, sum_by, replicate};
+ghost use Rattle.stripe_plan.specs.Layers.{needs_of, plan_stripes, words_of};
+ghost use Rattle.packet_session.specs.Session.{IsMessage, bytes_of_layer, bytes_in_layer};
+ghost use Rattle.stripe_plan.specs.Sizes.{IsTable};
+ghost use Rattle.packet_set.specs.Packets.{slot_at, with_packet, payload_length, no_packets_of};
+ghost use Rattle.pet_interp.specs.Progressive.{step_bound};
+ghost use Rattle.packet_group.specs.OpenGroup.{count_in, HoldsAfter, layers_of, stripe_lengths};
+ghost use Rattle.packet_group.specs.ShownBytes.{IsShownIn, IsShownBytes, Agrees};
+
+use crate::write::write_known;
+use packet_frame::Header;
+use packet_set::PacketSet;
+use pet_base::{NoMemory, Steps};
+use pet_interp::Progress;
+use field_rows::Rows;
+use std::alloc::Global;
+use std::marker::Model;
+use std::sync::ledger::Ledger;
+use stripe_plan::{LayerSize, Table, first_word, layer_words};
+
+/// The packets that are kept of one group, what is known of its stripes, and the words of its message as far as they are
+/// known.
+#[derive(Drop)]
+pub struct OpenGroup<'f, F: Rows> {
+    /// The field of the words.
+    field: &'f F,
+    /// The packets.
+    packets: PacketSet,
+    /// What is known of each stripe of the plan.
+    progress: Progress<'f, F>,
+    /// The field's width in bytes a word. A stripe's words stand here from the packet on that makes them known.
+    message: Vec<u8>,
+}
+
+impl<'f, F: Rows> Model for OpenGroup<'f, F> {
+    ghost use Rattle.packet_group.specs.OpenGroup.{GroupState};
+
+    ghost Value = { GroupState F.Elem };
+
+    ghost view = { λ g. record { packets = g.packets; message = g.message.items; held = g.progress } };
+}
+
+impl<'f, F: Rows> OpenGroup<'f, F> {
+    /// A group of this header that has kept no packet. It takes all the memory that the group will need, and fails only
+    /// where there is not so much. An element of the field has at most two bytes.
+    pub fn open(alloc: Global, field: &'f F, header: &Header) -> Result<OpenGroup<'f, F>, NoMemory>
+        requires width { F.coding.width ≤ 2 }
+        ensures packets { IfOk result (λ g. g.packets ≡ no_packets_of F.coding.width header.now) }
+        ensures held { IfOk result (λ g. HoldsAfter F.is_element F.coding g []) }
+    {
+        let lengths = lengths_of_stripes(alloc, &header.table)?;
+        let progress = Progress::new(alloc, field, &lengths)?;
+        let packets = PacketSet::new(alloc, header, F::WIDTH)?;
+        let message = empty_message(alloc, &header.table, F::WIDTH)?;
+        Ok(OpenGroup {
+            field,
+            packets,
+            progress,
+            message,
+        })
+    }
+
+    /// Keeps the packet of a number that is not kept yet and is below the group's number of packets. Its payload has a word
+    /// of the field for each stripe of the plan. It takes no memory.
+    pub fn keep<L: Ledger>(&mut self, number: u16, payload: &[u8], steps: &mut Steps<L>)
+        requires points { self.old.packets.header.table.packets ≤ F.COUNT }
+        requires held { (numbers : List ℕ) × HoldsAfter F.is_element F.coding self.old numbers }
+        requires table { IsTable self.old.packets.header.table.packets
+            (layers_of self.old.packets) }
+        requires slots { length self.old.packets.slots ≡ self.old.packets.header.table.packets }
+        requires number { number < self.old.packets.header.table.packets }
+        requires absent { slot_at self.old.packets number ≡ None }
+        requires word { self.old.packets.word ≡ F.coding.width }
+        requires payload { length payload.now ≡ payload_length self.old.packets }
+        ensures packets { self.new.packets ≡ with_packet self.old.packets number payload.now }
+        ensures held { (numbers : List ℕ) → HoldsAfter F.is_element F.coding
+            self.old numbers → HoldsAfter F.is_element F.coding self.new
+            (numbers ++ (number ∷ [])) }
+        ensures cost { steps.new ≤ steps.old + step_bound (count_in self.old.packets)
+            (stripe_lengths (layers_of self.old.packets)) }
+    {
+        self.packets.put(number, payload);
+        let x = self.field.point(u32::from(number));
+        self.progress.add(x, payload, steps);
+        write_known(
+            self.field,
+            &self.packets.header().table,
+            &self.progress,
+            &mut self.message,
+        );
+    }
+
+    /// The packets that are kept.
+    pub fn packets(&self) -> &PacketSet
+        ensures { result.now ≡ self.now.packets }
+    {
+        &self.packets
+    }
+
+    /// The bytes of a layer, where the group has it and as many packets are kept as its count says. The first layer is 0.
+    pub fn layer(&self, layer: u8) -> Option<&[u8]>
+        requires points { self.now.packets.header.table.packets ≤ F.COUNT }
+        requires held { (numbers : List ℕ) × HoldsAfter F.is_element F.coding self.now numbers }
+        ensures shown { IsSome result ↔ IsShownIn self.now.packets layer }
+        ensures bytes { (numbers : List ℕ) → HoldsAfter F.is_element F.coding self.now numbers → IfSome result
+            (λ bytes. IsShownBytes F.is_element F.coding self.now.packets
+            numbers layer bytes.now) }
+        ensures agreed { (message : List ℕ) → IsMessage F.coding.width (layers_of self.now.packets) message → Agrees F.coding self.now.packets message
+            → IfSome result (λ bytes. bytes.now ≡ bytes_of_layer F.coding.width (layers_of self.now.packets) message layer) }
+    {
+        let counts = self.packets.counts();
+        if usize::from(layer) >= counts.len() || self.packets.len() < counts[usize::from(layer)] {
+            return None;
+        }
+        let layers = self.packets.header().table.layers();
+        Some(layer_bytes(&self.message, layers, layer, F::WIDTH))
+    }
+}
+
+/// The lengths of the stripes of the plan.
+fn lengths_of_stripes(alloc: Global, table: &Table) -> Result<Vec<u16>, NoMemory>
+    ensures { IfOk result (λ lengths. lengths.items ≡ stripe_lengths table.now.layers) }
+{
+    let mut lengths = Vec::new(alloc);
+    for (_, length) in table.plan() {
+        lengths.push(length)?;
+    }
+    Ok(lengths)
+}
+
+/// A message of words of `width` bytes, none of which is known.
+fn empty_message(alloc: Global, table: &Table, width: usize) -> Result<Vec<u8>, NoMemory>
+    ensures { IfOk result (λ message. message.items
+        ≡ replicate (length (needs_of table.now.layers) * width) 0) }
+{
+    match (table.words() as usize).checked_mul(width) {
+        Some(size) => Ok(vec![in alloc; 0u8; size]?),
+        None => Err(NoMemory),
+    }
+}
+
+/// The bytes of a layer in a message of words of `width` bytes.
+fn layer_bytes<'a>(message: &'a [u8], layers: &[LayerSize], layer: u8, width: usize) -> &'a [u8]
+    requires room { length message.now ≡ length (needs_of layers.now) * width }
+    requires few { sum_by words_of layers.now < 2 ^ 32 }
+    requires layer { layer < length layers.now }
+    ensures { result.now ≡ bytes_of_layer width layers.now message.now layer }
+{
+    let start = first_word(layers, usize::from(layer)) as usize * width;
+    let size = layer_size(&layers[usize::from(layer)], width);
+    &message[start..start + size]
+}
+
+/// How many bytes a layer has, by words of `width` bytes.
+fn layer_size(layer: &LayerSize, width: usize) -> usize
+    requires { words_of layer.now * width < 2 ^ 64 }
+    ensures { result ≡ bytes_in_layer width layer.now }
+{
+    (layer.length as usize).min(layer_words(layer) as usize * width)
+}

@@ -1,0 +1,160 @@
+//! The packets of one group, sent on a route.
+ghost use Rattle.std.specs.Prelude.{◌≡◌, ◌∷◌, [], ◌+◌, ◌*◌, ◌<◌, ◌≤◌, length, OnOk, OnErr, IfErr};
+ghost use Rattle.stripe_plan.specs.Layers.{needs_of};
+ghost use Rattle.pet_base.specs.Causes.{stops};
+ghost use Rattle.pet_base.specs.Seen.{PlaceStops};
+ghost use Rattle.pet_base.specs.LinkSeen.{LinkStops};
+ghost use Rattle.outside_routes.specs.RouteFaults.{IsStop, stop_of_a_place, stop_of_a_link};
+ghost use Rattle.outside_routes.specs.Sending.{routes, Sends, SendsPart, IsOpen, OnlyGrows, OutputFailed, SendingFailed};
+ghost use Rattle.outside_routes.specs.Way.{way_of};
+ghost use Rattle.packet_session.specs.Datagrams.{group_datagrams, range_datagrams};
+ghost use Rattle.pet_base.specs.Entries.{entry_text};
+
+use outside_routes::{Route, RouteStop, put_entry};
+use pet_encode::Encoder;
+use pet_base::{Link, MAX_DATAGRAM, NoMemory, Place, Steps};
+use pet_field::Gf16Tables;
+use std::alloc::Global;
+use std::sync::ledger::Ledger;
+use stripe_plan::datagram_length;
+
+/// The bytes that the packets of a range may have: those of a group that fit are made at once.
+const RANGE_ROOM: u32 = 16_777_216;
+
+/// Sends the packets of the encoder's group, each once, by number: to a file as entries, each the length of a packet in two
+/// bytes and then the packet, or by the link as they are. Where it stops, a front of the entries stands in the file, or the link
+/// has sent the first of them. It counts at most packets times words of the group.
+///
+/// # Errors
+///
+/// There was no memory, or the object that the route leads to failed.
+pub fn put_group<P: Place, K: Link, L: Ledger>(
+    alloc: Global,
+    to: Route<'_>,
+    place: &mut P,
+    link: &mut K,
+    encoder: &Encoder<'_, Gf16Tables>,
+    steps: &mut Steps<L>,
+) -> Result<(), RouteStop>
+    requires open { IsOpen (way_of to) (routes P.Place K.Link place.old link.old) }
+    ensures sends { OnOk result (Sends (way_of to.entry) (group_datagrams encoder.now)
+        (routes P.Place K.Link place.old link.old) (routes P.Place K.Link place.new link.new)) }
+    ensures part { OnErr result (SendsPart (way_of to.entry) (group_datagrams encoder.now)
+        (routes P.Place K.Link place.old link.old) (routes P.Place K.Link place.new link.new)) }
+    ensures others { OnlyGrows (routes P.Place K.Link place.old link.old)
+        (routes P.Place K.Link place.new link.new) }
+    ensures cause { IfErr result (IsStop
+        (OutputFailed (way_of to.entry) (P.seen place.old) (P.seen place.new))
+        (SendingFailed (way_of to.entry) (K.seen link.old) (K.seen link.new)) ⊥) }
+    ensures once_place { PlaceStops (stops stop_of_a_place result) (P.seen place.old)
+        (P.seen place.new) }
+    ensures once_link { LinkStops (stops stop_of_a_link result) (K.seen link.old)
+        (K.seen link.new) }
+    ensures cost { steps.new ≤ steps.old + encoder.now.header.table.packets * length
+        (needs_of encoder.now.header.table.layers) }
+{
+    let table = &encoder.header().table;
+    let packets = table.packets();
+    let most = (RANGE_ROOM / datagram_length(table)).max(1);
+    let mut frames = Vec::new(alloc);
+    let mut entry = Vec::new(alloc);
+    let mut first = 0;
+    while first < packets {
+        let count = most.min(u32::from(packets - first)) as u16;
+        put_range(
+            to,
+            place,
+            link,
+            encoder,
+            first,
+            count,
+            &mut frames,
+            &mut entry,
+            steps,
+        )?;
+        first += count;
+    }
+    Ok(())
+}
+
+/// Sends the packets `first` to `first + count - 1`, which are packets of the group. The buffers are emptied first.
+fn put_range<P: Place, K: Link, L: Ledger>(
+    to: Route<'_>,
+    place: &mut P,
+    link: &mut K,
+    encoder: &Encoder<'_, Gf16Tables>,
+    first: u16,
+    count: u16,
+    frames: &mut Vec<u8>,
+    entry: &mut Vec<u8>,
+    steps: &mut Steps<L>,
+) -> Result<(), RouteStop>
+    requires open { IsOpen (way_of to) (routes P.Place K.Link place.old link.old) }
+    requires within { first + count ≤ encoder.now.header.table.packets }
+    ensures sends { OnOk result (Sends (way_of to.entry) (range_datagrams encoder.now first count)
+        (routes P.Place K.Link place.old link.old) (routes P.Place K.Link place.new link.new)) }
+    ensures part { OnErr result (SendsPart (way_of to.entry) (range_datagrams encoder.now first count)
+        (routes P.Place K.Link place.old link.old) (routes P.Place K.Link place.new link.new)) }
+    ensures others { OnlyGrows (routes P.Place K.Link place.old link.old)
+        (routes P.Place K.Link place.new link.new) }
+    ensures cause { IfErr result (IsStop
+        (OutputFailed (way_of to.entry) (P.seen place.old) (P.seen place.new))
+        (SendingFailed (way_of to.entry) (K.seen link.old) (K.seen link.new)) ⊥) }
+    ensures once_place { PlaceStops (stops stop_of_a_place result) (P.seen place.old)
+        (P.seen place.new) }
+    ensures once_link { LinkStops (stops stop_of_a_link result) (K.seen link.old)
+        (K.seen link.new) }
+    ensures cost { steps.new ≤ steps.old + count * length (needs_of encoder.now.header.table.layers) }
+{
+    let length = datagram_length(&encoder.header().table) as usize;
+    frames.clear();
+    encoder.range(first, count, frames, steps)?;
+    let mut at = 0;
+    for _ in 0..count {
+        let end = at + length;
+        put_packet(to, place, link, &frames[at..end], entry)?;
+        at = end;
+    }
+    Ok(())
+}
+
+/// Sends one packet. The buffer is emptied first, and is then its entry.
+fn put_packet<P: Place, K: Link>(
+    to: Route<'_>,
+    place: &mut P,
+    link: &mut K,
+    packet: &[u8],
+    entry: &mut Vec<u8>,
+) -> Result<(), RouteStop>
+    requires open { IsOpen (way_of to) (routes P.Place K.Link place.old link.old) }
+    requires short { length packet.now ≤ MAX_DATAGRAM }
+    ensures sends { OnOk result (Sends (way_of to.entry) (packet.now ∷ [])
+        (routes P.Place K.Link place.old link.old) (routes P.Place K.Link place.new link.new)) }
+    ensures part { OnErr result (SendsPart (way_of to.entry) (packet.now ∷ [])
+        (routes P.Place K.Link place.old link.old) (routes P.Place K.Link place.new link.new)) }
+    ensures others { OnlyGrows (routes P.Place K.Link place.old link.old)
+        (routes P.Place K.Link place.new link.new) }
+    ensures cause { IfErr result (IsStop
+        (OutputFailed (way_of to.entry) (P.seen place.old) (P.seen place.new))
+        (SendingFailed (way_of to.entry) (K.seen link.old) (K.seen link.new)) ⊥) }
+    ensures once_place { PlaceStops (stops stop_of_a_place result) (P.seen place.old)
+        (P.seen place.new) }
+    ensures once_link { LinkStops (stops stop_of_a_link result) (K.seen link.old)
+        (K.seen link.new) }
+{
+    write_entry(packet, entry)?;
+    put_entry(to, place, link, entry)?;
+    Ok(())
+}
+
+/// Makes the buffer the entry of one packet.
+fn write_entry(packet: &[u8], entry: &mut Vec<u8>) -> Result<(), NoMemory>
+    requires { length packet.now ≤ MAX_DATAGRAM }
+    ensures { OnOk result (entry.new.items ≡ entry_text packet.now) }
+{
+    let length = packet.len() as u16;
+    entry.clear();
+    entry.extend_from_slice(&length.to_be_bytes())?;
+    entry.extend_from_slice(packet)?;
+    Ok(())
+}

@@ -1,4 +1,0 @@
-use Rattle.packet_tests.proofs.encode_tests.most_frames.Given as goal
-
-abbrev pub ghosts-made : goal.ghosts-made
-ghosts-made a = record { name = a.blank.name; parts = a.blank.parts }

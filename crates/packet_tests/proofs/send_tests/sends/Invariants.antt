@@ -1,4 +1,0 @@
-use Rattle.packet_tests.proofs.send_tests.sends.Given as goal
-
-abbrev pub ghosts-send_example : goal.ghosts-send_example
-ghosts-send_example a = record { name = a.blank.name; parts = a.blank.parts }

@@ -1,5 +1,0 @@
-use Rattle.std.proofs.Common.{rules}
-use Rattle.pet_field.proofs.gf16.Gf16PlainField.point.Goals as goal
-
-pub returns : goal.returns
-returns c = search rules

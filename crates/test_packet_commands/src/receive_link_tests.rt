@@ -1,0 +1,158 @@
+//! `receive` from a link: the example session, each call failing, and when the layers are put.
+use crate::cases::{ALL_GO, Case, Run, first_wrong, runs};
+use crate::files::{File, OTHER_SESSION, WHOLE};
+use crate::links::feed_of;
+use crate::receive_fixtures::{
+    ALL, ALL_RECORDS, EMPTY, FIRST, FIRST_STORE, RECORD_HEAD, WHOLE_RECORD,
+};
+use crate::untold::{UntoldLink, UntoldPlace};
+use command_receive::ReceiveEnd;
+use test_example::SESSION;
+use pet_base::MemorySink;
+use std::cell::Cell;
+use std::marker::Brand;
+use std::sync::ledger::Blank;
+use std::test::Fail;
+
+const ENTRIES: (Option<File>, Option<File>) = (Some(FIRST), None);
+
+const BOTH: (Option<File>, Option<File>) = (Some(WHOLE_RECORD), Some(FIRST_STORE));
+
+const DONE: Run = Run::Hear(OTHER_SESSION, ReceiveEnd::Done);
+
+const FAULT: Run = Run::Hear(OTHER_SESSION, ReceiveEnd::LinkFault);
+
+const PLACE_FAULT: Run = Run::Hear(OTHER_SESSION, ReceiveEnd::PlaceFault);
+
+const OUT_FAULT: Run = Run::Hear(OTHER_SESSION, ReceiveEnd::OutFault);
+
+const BOUND: &str = "bound 40000\n";
+
+const NUMBERS: &str = "bound 40000\nread 3 kept 2 shown 1\n";
+
+/// The example session, and calls of the link that fail, with the records and the store that are then there.
+static HEARD: [Case; 7] = [
+    (
+        (Some(ALL), None),
+        ALL_GO,
+        Run::Hear(SESSION, ReceiveEnd::Done),
+        (Some(ALL_RECORDS), Some(WHOLE)),
+        "bound 40000\nread 7 kept 6 shown 3\n",
+    ),
+    // the address
+    (ENTRIES, [&[0], &[], &[]], FAULT, (None, None), ""),
+    // the datagrams, of which the second shows the layer, and the end
+    (ENTRIES, [&[1], &[], &[]], FAULT, (Some(EMPTY), None), BOUND),
+    (ENTRIES, [&[2], &[], &[]], FAULT, (Some(EMPTY), None), BOUND),
+    (
+        ENTRIES,
+        [&[3], &[], &[]],
+        FAULT,
+        (Some(WHOLE_RECORD), None),
+        BOUND,
+    ),
+    (
+        ENTRIES,
+        [&[4], &[], &[]],
+        FAULT,
+        (Some(WHOLE_RECORD), None),
+        BOUND,
+    ),
+    // there are no more calls
+    (ENTRIES, [&[5], &[], &[]], DONE, BOTH, NUMBERS),
+];
+
+#[test]
+fn leaves_the_whole_text_where_a_call_of_the_link_fails(rt: HostRuntime) {
+    assert_eq!(rt; first_wrong(rt.alloc(), &HEARD), None);
+}
+
+/// Calls of the place and of the output that fail.
+static FAILING: [Case; 9] = [
+    // LAYERS is made, behind the line of the port
+    (ENTRIES, [&[], &[0], &[]], PLACE_FAULT, (None, None), BOUND),
+    // the head of the record, and its bytes
+    (
+        ENTRIES,
+        [&[], &[1], &[]],
+        PLACE_FAULT,
+        (Some(EMPTY), None),
+        BOUND,
+    ),
+    (
+        ENTRIES,
+        [&[], &[2], &[]],
+        PLACE_FAULT,
+        (Some(RECORD_HEAD), None),
+        BOUND,
+    ),
+    // STORE is made, and put in one
+    (
+        ENTRIES,
+        [&[], &[3], &[]],
+        PLACE_FAULT,
+        (Some(WHOLE_RECORD), None),
+        BOUND,
+    ),
+    (
+        ENTRIES,
+        [&[], &[4], &[]],
+        PLACE_FAULT,
+        (Some(WHOLE_RECORD), Some(EMPTY)),
+        BOUND,
+    ),
+    (ENTRIES, [&[], &[5], &[]], DONE, BOTH, NUMBERS),
+    // the line of the port, before LAYERS is made, and that of the numbers
+    (ENTRIES, [&[], &[], &[0]], OUT_FAULT, (None, None), ""),
+    (ENTRIES, [&[], &[], &[1]], OUT_FAULT, BOTH, BOUND),
+    (ENTRIES, [&[], &[], &[2]], DONE, BOTH, NUMBERS),
+];
+
+#[test]
+fn leaves_fronts_where_a_call_of_the_place_or_the_output_fails(rt: HostRuntime) {
+    assert_eq!(rt; first_wrong(rt.alloc(), &FAILING), None);
+}
+
+#[test]
+fn puts_each_layer_before_the_next_datagram(rt: HostRuntime) -> Result<(), Fail> {
+    let alloc = rt.alloc();
+    let feed = feed_of(alloc, ALL)?;
+    let asked = Cell::new(0);
+    let mut link = UntoldLink {
+        feed: &feed,
+        later: &[],
+        asked: &asked,
+        port: 0,
+    };
+    let mut place = UntoldPlace::new(alloc, &asked);
+    let mut out = MemorySink::new(alloc, Vec::new(alloc));
+    let done = Run::Hear(SESSION, ReceiveEnd::Done);
+    let ended = runs::<Brand>(alloc, done, &mut place, &mut link, &mut out, Blank::new(1));
+    assert!(rt; ended);
+    // each record is put in two
+    assert!(rt; place.moments.as_slice() == [3, 3, 4, 4, 6, 6].as_slice());
+    assert!(rt; out.bytes() == b"bound 7\nread 7 kept 6 shown 3\n".as_slice());
+    Ok(())
+}
+
+#[test]
+fn asks_a_link_for_nothing_once_it_was_quiet(rt: HostRuntime) -> Result<(), Fail> {
+    let alloc = rt.alloc();
+    let feed = feed_of(alloc, FIRST)?;
+    let later = feed_of(alloc, ALL)?;
+    let asked = Cell::new(0);
+    let mut link = UntoldLink {
+        feed: &feed,
+        later: &later,
+        asked: &asked,
+        port: 0,
+    };
+    let mut place = UntoldPlace::new(alloc, &asked);
+    let mut out = MemorySink::new(alloc, Vec::new(alloc));
+    let ended = runs::<Brand>(alloc, DONE, &mut place, &mut link, &mut out, Blank::new(1));
+    assert!(rt; ended);
+    // three datagrams, and the quiet behind them
+    assert!(rt; asked.get() == 4);
+    assert!(rt; out.bytes() == b"bound 7\nread 3 kept 2 shown 1\n".as_slice());
+    Ok(())
+}

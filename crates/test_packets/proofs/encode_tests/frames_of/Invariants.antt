@@ -1,0 +1,4 @@
+use Rattle.test_packets.proofs.encode_tests.frames_of.Given as goal
+
+abbrev pub ghosts-made : goal.ghosts-made
+ghosts-made a = record { name = a.blank.name; parts = a.blank.parts }

@@ -1,0 +1,15 @@
+//! Tests of the scanner and of the priority file: values from outside.
+//!
+//! They run the public calls of `mpeg_scan` and `priority_file`, as a caller sees them, a module a crate. They stand apart
+//! because the gate proves a crate that has tests twice, once alone and once whole with its tests: here the second time is
+//! the tests' own. `fixtures` is what they share, with `test_sessions` too. No program uses this crate.
+#![tactic(auto)]
+
+mod fixtures;
+
+pub use fixtures::{EXAMPLE_PIECES, TWO_GROUPS, piece, pieces_on_end, priority_of, three_layers};
+
+#[cfg(test)]
+mod priority_tests;
+#[cfg(test)]
+mod scan_tests;
