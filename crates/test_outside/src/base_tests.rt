@@ -6,8 +6,10 @@ ghost use Rattle.pet_base.specs.Lent.{seen, AreSame};
 ghost use Rattle.pet_base.specs.PlaceMemory.{seen_of};
 
 use crate::room;
-use pet_base::{MemoryLink, MemoryPlace, MemorySink};
-use pet_base::{Entry, Failed, Got, Link, NoMemory, Outside, Place, Sink, Steps, next_entry};
+use pet_base::{
+    Entry, Failed, Got, Link, MemoryLink, MemoryPlace, MemorySink, NoMemory, Outside, Place, Sink,
+    Steps, next_entry,
+};
 use std::alloc::{AllocError, Global};
 use std::marker::Brand;
 use std::sync::ledger::{Blank, Ledger};
@@ -190,5 +192,14 @@ fn a_sink_fails_at_the_listed_call(rt: HostRuntime) {
     let failing = Vec::from_slice(rt.alloc(), &[1]).expect(&rt, "memory");
     let mut sink = MemorySink::new(rt.alloc(), failing);
     assert!(rt; sink.put(b"ab").is_ok() && sink.put(b"c").is_err());
+    assert!(rt; sink.bytes() == b"ab".as_slice());
+}
+
+#[test]
+fn a_sink_fails_from_the_first_of_two_numbers_on(rt: HostRuntime) {
+    let mut sink = MemorySink::new(rt.alloc(), Vec::new(rt.alloc()));
+    sink.failing_from(1);
+    sink.failing_from(2);
+    assert!(rt; sink.put(b"ab").is_ok() && sink.put(b"c").is_err() && sink.put(b"d").is_err());
     assert!(rt; sink.bytes() == b"ab".as_slice());
 }

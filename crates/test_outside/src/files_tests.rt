@@ -1,7 +1,6 @@
 //! Files in memory that are read to their end, or one byte past a limit.
 use outside_files::read_file;
-use pet_base::MemoryPlace;
-use pet_base::{NoMemory, Stop};
+use pet_base::{MemoryPlace, NoMemory, Stop};
 use std::alloc::Global;
 
 /// A file, a limit, and how many bytes are read.
