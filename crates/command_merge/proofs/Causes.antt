@@ -12,11 +12,11 @@ use Rattle.packet_verdicts.specs.KeptSet.{KeptSet, kept_in_all}
 use Rattle.packet_verdicts.specs.Union.{union, absorb_fault}
 use Rattle.packet_verdicts.specs.declared.union.Absorb.{Absorb}
 use Rattle.packet_verdicts.specs.declared.union.Absorb.TheVariants as absorb
-use Rattle.store_read.specs.Files.{IsStop}
+use Rattle.store_merge.specs.Files.{IsStop}
 use Rattle.store_text.specs.Files.{HasBadStore, HasStore, store_file}
 use Rattle.store_text.specs.declared.fault.BadStore.TheVariants.{At}
-use Rattle.store_read.specs.declared.files.StoreStop.{StoreStop}
-use Rattle.store_read.specs.declared.files.StoreStop.TheVariants as unread
+use Rattle.store_merge.specs.declared.read_files.StoreStop.{StoreStop}
+use Rattle.store_merge.specs.declared.read_files.StoreStop.TheVariants as unread
 use Rattle.command_merge.specs.Ends.{absorb_end, stop_end, store_end}
 use Rattle.command_merge.specs.Merges.{HasStores, CanJoin, Merges, WritesUnion, union_of}
 use Rattle.command_merge.specs.declared.command.MergeEnd.{MergeEnd}

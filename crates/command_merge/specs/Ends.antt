@@ -4,8 +4,8 @@ use Rattle.pet_base.specs.declared.faults.Stop.{Stop}
 use Rattle.pet_base.specs.declared.faults.Stop.TheVariants as stop
 use Rattle.packet_verdicts.specs.declared.union.Absorb.{Absorb}
 use Rattle.packet_verdicts.specs.declared.union.Absorb.TheVariants as absorb
-use Rattle.store_read.specs.declared.files.StoreStop.{StoreStop}
-use Rattle.store_read.specs.declared.files.StoreStop.TheVariants as unread
+use Rattle.store_merge.specs.declared.read_files.StoreStop.{StoreStop}
+use Rattle.store_merge.specs.declared.read_files.StoreStop.TheVariants as unread
 use Rattle.command_merge.specs.declared.files.Which.{Which}
 use Rattle.command_merge.specs.declared.files.Which.TheVariants.{First, Second}
 use Rattle.command_merge.specs.declared.command.MergeEnd.{MergeEnd}

@@ -36,7 +36,7 @@ use pet_receive::Receiver;
 use pet_field::Gf16Tables;
 use std::alloc::{AllocError, Global};
 use std::sync::ledger::Ledger;
-use store_write::write_store_file;
+use store_merge::write_store_file;
 
 /// What a reading comes to.
 #[derive(Clone, Copy)]

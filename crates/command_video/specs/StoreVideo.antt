@@ -6,7 +6,7 @@ use Rattle.packet_set.specs.Packets.{Packets}
 use Rattle.packet_verdicts.specs.KeptSet.{KeptSet, open_group}
 use Rattle.pet_receive.specs.Arrivals.{numbers_of}
 use Rattle.pet_receive.specs.ShownBytes.{IsShown}
-use Rattle.store_read.specs.Reading.{pairs_in}
+use Rattle.store_merge.specs.Reading.{pairs_in}
 use Rattle.reassemble.specs.Leading.{AreLeading, IsAssembled, IsUnfit}
 
 -- the numbers of the packets that a store has of a group, in its order

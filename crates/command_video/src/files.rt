@@ -8,7 +8,7 @@ ghost use Rattle.pet_receive.specs.Arrivals.{HasKept, kept_set};
 ghost use Rattle.packet_verdicts.specs.KeptSet.{IsKeptSet};
 ghost use Rattle.pet_receive.specs.ShownBytes.{groups_told};
 ghost use Rattle.store_text.specs.Files.{HasStore};
-ghost use Rattle.store_read.specs.Reading.{pairs_in};
+ghost use Rattle.store_merge.specs.Reading.{pairs_in};
 ghost use Rattle.outside_files.specs.Outputs.{Puts};
 ghost use Rattle.command_video.specs.Ends.{IsReadEnd, IsTableEnd, IsGroupEnd, IsPutEnd, has_failed};
 ghost use Rattle.command_video.specs.StoreVideo.{AreVideos, IsGroupVideo};
@@ -21,7 +21,7 @@ use pet_field::Gf16Tables;
 use reassemble::{Assemble, assemble};
 use std::alloc::Global;
 use std::sync::ledger::Ledger;
-use store_read::{StoreStop, read_store_file};
+use store_merge::{StoreStop, read_store_file};
 
 impl From<NoMemory> for VideoEnd {
     ghost use Rattle.command_video.specs.declared.command.VideoEnd.TheVariants.{NoMemory as no_memory};

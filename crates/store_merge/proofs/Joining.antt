@@ -6,7 +6,7 @@ use Rattle.pet_receive.specs.UnionSteps.{union_steps}
 use Rattle.packet_verdicts.specs.Union.{union, absorb_fault}
 use Rattle.packet_verdicts.specs.declared.union.Absorb.{Absorb}
 use Rattle.packet_verdicts.specs.declared.union.Absorb.TheVariants as absorb
-use Rattle.store_read.specs.Reading.{store_steps}
+use Rattle.store_merge.specs.Reading.{store_steps}
 use Rattle.store_text.specs.Refusals.{read_text}
 use Rattle.store_merge.specs.Merged.{of_first, of_second, of_both, joined, then_second, then_first, merged}
 use Rattle.store_text.specs.declared.fault.BadStore.{BadStore}

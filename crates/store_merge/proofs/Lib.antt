@@ -1,1 +1,7 @@
+pub mod Appended
+pub mod WrittenFiles
+pub mod Entry
+pub mod Walk
+pub mod Text
+pub mod StoreFiles
 pub mod Joining

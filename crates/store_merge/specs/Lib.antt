@@ -1,2 +1,4 @@
+pub mod Reading
+pub mod Files
 pub mod Merged
 pub mod laws

@@ -1,15 +1,28 @@
-//! Merging stores: two texts of one session become the store of all packets that the one or the other has.
+//! Stores read, written and merged: the text and the file of all packets that a receiver has kept of one session.
 //!
-//! `merge_stores` reads the first, then the second (`store_read`), joins them and writes the store of both (`store_write`);
-//! `specs/Merged.antt` defines what two texts come to, or why there is no store of both. `specs/laws/` says for callers that
-//! the merged stores do not tell in which order, how often or which two first they were merged.
+//! A store is a function of the set of packets (`store_text`): two receivers that have kept the same packets write the same
+//! bytes, whatever the order in which these came. `read_store` reads the receiver of a store, or answers its first refusal;
+//! `write_store` appends the store of a receiver, or nothing where there is no memory; `read_store_file` and `write_store_file`
+//! do it with a file, which is made once its bytes are there.
+//!
+//! `merge_stores` reads the first, then the second, joins them and writes the store of both; `specs/Merged.antt` defines what
+//! two texts come to, or why there is no store of both. `specs/laws/` says for callers that the merged stores do not tell in
+//! which order, how often or which two first they were merged. `migrate_store`, which takes a store of the first version over,
+//! is that of `store_packets`, given out here.
 #![tactic(auto)]
 
 mod fault;
 mod merge;
+mod read;
+mod read_files;
+mod write;
+mod write_files;
 
 pub use fault::MergeFault;
 pub use merge::merge_stores;
-pub use store_read::read_store;
+pub use read::read_store;
+pub use read_files::{StoreStop, read_store_file};
+pub use store_packets::{MigrateFault, migrate_store};
 pub use store_text::{BadStore, StoreKind};
-pub use store_write::write_store;
+pub use write::write_store;
+pub use write_files::write_store_file;

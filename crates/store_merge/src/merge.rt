@@ -1,22 +1,21 @@
 //! Merging two stores.
-ghost use Rattle.std.specs.Prelude.{◌≡◌, ◌≢◌, ◌++◌, ◌+◌, ◌≤◌, IfErr, OnOk, OnErr, Ok, Err};
+ghost use Rattle.std.specs.Prelude.{◌≡◌, ◌≢◌, ℕ, List, ◌++◌, ◌+◌, ◌≤◌, IfErr, OnOk, OnErr, Ok, Err};
 ghost use Rattle.pet_base.specs.declared.limits.TheConstants.{MAX_PACKETS};
 ghost use Rattle.packet_verdicts.specs.KeptSet.{KeptSet};
 ghost use Rattle.pet_receive.specs.UnionSteps.{union_steps};
 ghost use Rattle.store_text.specs.Store.{store_text};
-ghost use Rattle.store_read.specs.Reading.{store_steps};
+ghost use Rattle.store_merge.specs.Reading.{store_steps};
 ghost use Rattle.store_text.specs.Refusals.{read_text};
 ghost use Rattle.store_merge.specs.Merged.{merged, of_first, of_second};
 
 use crate::fault::MergeFault;
+use crate::{read_store, write_store};
+use field_rows::Rows;
 use packet_verdicts::Absorb;
 use pet_base::{NoMemory, Steps};
-use field_rows::Rows;
 use std::alloc::Global;
 use std::sync::ledger::Ledger;
-use store_read::read_store;
 use store_text::BadStore;
-use store_write::write_store;
 
 impl From<Absorb> for MergeFault {
     ghost use Rattle.store_merge.specs.Merged.{of_both};
@@ -66,6 +65,17 @@ pub fn merge_stores<F: Rows, L: Ledger>(
     ensures cost { OnOk result ((a b : KeptSet) → read_text limit first.now ≡ Ok a
         → read_text limit second.now ≡ Ok b
         → steps.new ≤ steps.old + store_steps a + store_steps b + union_steps a b) }
+
+    // It does not matter which store is named first, and which two of three are merged first; a store merged with itself is
+    // what was read of it.
+    ensures commutes { (set : KeptSet) → merged limit first.now second.now ≡ Ok set
+        → merged limit second.now first.now ≡ Ok set }
+    ensures associates { (third : List ℕ) (set all : KeptSet)
+        → merged limit first.now second.now ≡ Ok set → merged limit (store_text set) third ≡ Ok all
+        → (rest : KeptSet) × (merged limit second.now third ≡ Ok rest)
+        × (merged limit first.now (store_text rest) ≡ Ok all) }
+    ensures itself { (set : KeptSet) → read_text limit first.now ≡ Ok set
+        → merged limit first.now first.now ≡ Ok set }
 {
     let mut joined = match read_store(alloc, f, first, limit, steps) {
         Ok(receiver) => receiver,

@@ -1,3 +1,4 @@
+pub mod Form
 pub mod Store
 pub mod Refusals
 pub mod Files

@@ -1,3 +1,4 @@
+pub mod FormLaws
 pub mod EntryReading
 pub mod Leading
 pub mod LedKeptSets

@@ -7,7 +7,8 @@ use pet_base::NoMemory;
 /// The kind of a store's refusal. Each comes with the place of a byte, counted from 0.
 #[derive(Clone, Copy, Debug, PartialEq, Eq)]
 pub enum StoreKind {
-    /// There are fewer than 32 bytes, and the place is their number; or the entry at the place does not end before the tag.
+    /// There are fewer bytes than head and tag have, and the place is their number; or the entry at the place does not end
+    /// before the tag.
     Cut,
     /// The first four bytes are not those of a store.
     Magic,

@@ -2,15 +2,15 @@
 ghost use Rattle.std.specs.Prelude.{◌≡◌, ◌<◌, OnOk};
 ghost use Rattle.pet_receive.specs.Arrivals.{Order, HasKept};
 
-use test_example::{ENTRY_LENGTH, SESSION, STREAM, packets};
-use pet_base::{NoMemory, Steps};
 use field_elements::{Field, Gf16Plain};
-use pet_receive::Receiver;
 use field_rows::Rows;
+use pet_base::{NoMemory, Steps};
+use pet_receive::Receiver;
 use reassemble::{Assemble, assemble};
 use std::alloc::Global;
 use std::marker::Brand;
 use std::sync::ledger::{Blank, Ledger};
+use test_example::{ENTRY_LENGTH, SESSION, STREAM, packets};
 
 /// The only packet of a group of one layer of need 1, the bytes 0, 0, 0 and 1: they tell one run, and have none.
 const NO_RUN: [u8; 51] = [

@@ -2,17 +2,15 @@
 ghost use Rattle.std.specs.Prelude.{◌≡◌, ◌<◌};
 
 use crate::store_fixtures::{ALL, NONE, ONE_TWO, Stored, bytes_of};
-use test_example::{SESSION, packets};
-use pet_base::MemoryPlace;
-use pet_base::{MAX_SESSION, NoMemory, Steps};
 use field_elements::Gf16Plain;
+use pet_base::{MAX_SESSION, MemoryPlace, NoMemory, Steps};
 use pet_receive::Receiver;
 use std::alloc::{AllocError, Global};
 use std::marker::Brand;
 use std::sync::ledger::{Blank, Ledger};
-use store_read::{StoreStop, read_store_file};
+use store_merge::{StoreStop, read_store_file, write_store_file};
 use store_text::StoreKind;
-use store_write::write_store_file;
+use test_example::{SESSION, packets};
 
 /// A receiver that these packets of the example session have come to.
 fn kept<'f, L: Ledger>(

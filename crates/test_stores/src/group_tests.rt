@@ -2,9 +2,9 @@
 use crate::store_fixtures::{
     Merge, Stored, Written, first_merged_otherwise, first_written_otherwise,
 };
-use test_example::SESSION;
 use store_merge::MergeFault;
 use store_text::StoreKind;
+use test_example::SESSION;
 
 /// What both groups cost: four packets each, of 49 bytes.
 const BOTH_COST: u64 = 392;

@@ -1,4 +1,4 @@
-//! Tests over the public calls of `store_write`, `store_read`, `store_merge` and `reassemble`, as a caller sees
+//! Tests over the public calls of `store_merge` and `reassemble`, as a caller sees
 //! them.
 //!
 //! They stand apart because the gate proves a crate with tests twice, once alone and once with them: here the second time is
@@ -17,6 +17,10 @@ mod files_tests;
 mod group_tests;
 #[cfg(test)]
 mod merge_tests;
+#[cfg(test)]
+mod migrate_tests;
+#[cfg(test)]
+mod old_stores;
 #[cfg(test)]
 mod read_tests;
 #[cfg(test)]

@@ -1,14 +1,14 @@
 //! Stores of packets of the example session, whole, cut and wrong. The tags were made by another program.
 ghost use Rattle.std.specs.Prelude.{◌≡◌, ◌<◌};
 
-use test_example::{ENTRY_LENGTH, SESSION, packets};
-use pet_base::Steps;
 use field_elements::Gf16Plain;
+use pet_base::Steps;
 use std::alloc::{AllocError, Global};
 use std::marker::Brand;
 use std::sync::ledger::{Blank, Ledger};
-use store_read::read_store;
+use store_merge::read_store;
 use store_text::{BadStore, StoreKind};
+use test_example::{ENTRY_LENGTH, SESSION, packets};
 
 /// An entry of a store of the example session.
 type Entry = [u8; ENTRY_LENGTH];

@@ -2,16 +2,15 @@
 ghost use Rattle.std.specs.Prelude.{◌≡◌, ◌<◌};
 
 use crate::group_fixtures::entry;
-use test_example::{SESSION, packets};
-use pet_base::{NoMemory, Steps};
 use field_elements::Gf16Plain;
+use pet_base::{NoMemory, Steps};
 use pet_receive::Receiver;
 use std::alloc::{AllocError, Global};
 use std::marker::Brand;
 use std::sync::ledger::{Blank, Ledger};
-use store_merge::{MergeFault, merge_stores};
+use store_merge::{MergeFault, merge_stores, write_store};
 use store_text::MARK;
-use store_write::write_store;
+use test_example::{SESSION, packets};
 
 /// What the groups of the example session may cost.
 pub(crate) const LIMIT: u64 = 1_000;

@@ -7,13 +7,14 @@ use Rattle.std.proofs.lemmas.Bool.{le-ltb, ltb-false, cases_lt}
 use Rattle.std.proofs.lemmas.List.{length-append, length-take, length-drop, get_or_past, take-append-drop, drop-drop}
 use Rattle.std.proofs.lemmas.List.Elements.{All-take}
 use Rattle.std.proofs.lemmas.Nat.{from_be_bytes-to_be_bytes_2, be_bytes_2}
-use Rattle.packet_frame.specs.Refusals.{number, fields_of}
+use Rattle.packet_frame.specs.Refusals.{number, fields_in}
 use Rattle.pet_base.specs.Entries.{entry_text}
 use Rattle.packet_verdicts.specs.KeptSet.{KeptSet, keep}
+use Rattle.store_text.specs.declared.format.StoreForm.{StoreForm}
 use Rattle.store_text.specs.declared.fault.BadStore.{BadStore}
 use Rattle.store_text.specs.declared.fault.BadStore.TheVariants.{At}
 use Rattle.store_text.specs.declared.fault.StoreKind.TheVariants.{Cut}
-use Rattle.store_text.specs.Refusals.{Last, entry_fault, entry_length, datagram_in, is_whole, then_next, read_entries}
+use Rattle.store_text.specs.Refusals.{Last, entry_fault_in, entry_length, datagram_in, is_whole, then_next, read_entries_in}
 
 -- ---- the entry of a datagram, and bytes behind it
 
@@ -54,19 +55,20 @@ module _ (d more : List ℕ) (short : length d < 65536) where
       ap (λ b. not b && not (ltb (length (entry_text d ++ more)) (entry_length (entry_text d ++ more)))) some ∙ ap not all
 
 -- what is read of an entry that is all there
-abbrev pub read_next : ℕ → ℕ → KeptSet → Last → List ℕ → Result KeptSet BadStore
-read_next many at set last bytes =
-    then_next at (entry_fault set last (datagram_in bytes))
-    (read_entries many (at + entry_length bytes) (keep set (fields_of (datagram_in bytes))) (Some ((fields_of (datagram_in bytes)).group, (fields_of (datagram_in bytes)).number))
+abbrev pub read_next : StoreForm → ℕ → ℕ → KeptSet → Last → List ℕ → Result KeptSet BadStore
+read_next t many at set last bytes =
+    then_next at (entry_fault_in t set last (datagram_in bytes))
+    (read_entries_in t many (at + entry_length bytes) (keep set (fields_in t.frames (datagram_in bytes)))
+    (Some ((fields_in t.frames (datagram_in bytes)).group, (fields_in t.frames (datagram_in bytes)).number))
     (drop (entry_length bytes) bytes))
 
-pub read_whole : (many at : ℕ) (set : KeptSet) (last : Last) (bytes : List ℕ) → is_whole bytes ≡ true → read_entries (suc many) at set last bytes ≡ read_next many at set last bytes
-unfolding read_entries
-read_whole many at set last bytes whole = ap (λ b. if not b then Err (At at Cut) else read_next many at set last bytes) whole
+pub read_whole : (t : StoreForm) (many at : ℕ) (set : KeptSet) (last : Last) (bytes : List ℕ) → is_whole bytes ≡ true → read_entries_in t (suc many) at set last bytes ≡ read_next t many at set last bytes
+unfolding read_entries_in
+read_whole t many at set last bytes whole = ap (λ b. if not b then Err (At at Cut) else read_next t many at set last bytes) whole
 
-pub read_cut : (many at : ℕ) (set : KeptSet) (last : Last) (bytes : List ℕ) → is_whole bytes ≡ false → read_entries (suc many) at set last bytes ≡ Err (At at Cut)
-unfolding read_entries
-read_cut many at set last bytes cut = ap (λ b. if not b then Err (At at Cut) else read_next many at set last bytes) cut
+pub read_cut : (t : StoreForm) (many at : ℕ) (set : KeptSet) (last : Last) (bytes : List ℕ) → is_whole bytes ≡ false → read_entries_in t (suc many) at set last bytes ≡ Err (At at Cut)
+unfolding read_entries_in
+read_cut t many at set last bytes cut = ap (λ b. if not b then Err (At at Cut) else read_next t many at set last bytes) cut
 
 -- ---- bytes whose first entry is all there
 

@@ -8,39 +8,47 @@ use Rattle.std.proofs.lemmas.List.{length-append}
 use Rattle.std.proofs.lemmas.List.Sums.{sum_by-cons, sum_by-append, count_by-le-length}
 use Rattle.pet_base.specs.declared.limits.TheConstants.{MAX_SESSION, MAX_STORE}
 use Rattle.stripe_plan.specs.Sizes.{datagram_length_of, cost_by}
-use Rattle.packet_frame.specs.Frame.{Fields, IsFrame, text, tag_of}
+use Rattle.packet_frame.specs.Frame.{Fields, IsFrame, text}
 use Rattle.packet_frame.specs.View.{fields_with}
 use Rattle.packet_frame.specs.declared.frame.Header.{Header}
-use Rattle.packet_frame.specs.declared.format.TheConstants.{FORMAT}
-use Rattle.packet_frame.specs.laws.Formats.{format_is}
 use Rattle.packet_frame.specs.laws.Laws.{texts_have_length}
-use Rattle.packet_frame.specs.laws.Again.{length-tag}
 use Rattle.packet_set.specs.Packets.{Packets, count_held, count_in}
-use Rattle.packet_session.specs.Datagrams.{entries_text}
 use Rattle.pet_base.specs.Entries.{entry_text}
 use Rattle.packet_verdicts.specs.KeptSet.{KeptSet, IsKeptSet, IsKeptGroup, cost_in, cost_kept}
 use Rattle.packet_verdicts.specs.Union.{frames_in_group, frames_in}
 use Rattle.packet_verdicts.specs.laws.FramesInOrder.{frames_from, group_from}
-use Rattle.store_text.specs.declared.format.TheConstants.{MARK}
-use Rattle.store_text.specs.Store.{store_text, store_of, text_before_tag}
+use Rattle.store_text.specs.declared.format.TheConstants.{STORE_FORM}
+use Rattle.store_text.specs.Form.{store_tag}
+use Rattle.store_text.specs.Store.{store_text, store_of, store_of_in, entries_in, text_before_tag}
+use Rattle.store_text.specs.laws.FormLaws.{store_form_is, length-store_tag}
 use Rattle.store_text.specs.laws.ManyFrames.{each_kept, group_frame}
 
 -- the length of the entry of a frame
 abbrev pub entry_bytes : Fields → ℕ
 entry_bytes f = 2 + length (text f)
 
-length_entries : (frames : List Fields) → length (entries_text frames) ≡ sum_by entry_bytes frames
+length_entries : (frames : List Fields) → length (entries_in STORE_FORM frames) ≡ sum_by entry_bytes frames
 length_entries [] = refl
 length_entries (f ∷ rest) =
-    omega (arith, length-append (entry_text (text f)) (entries_text rest), length-append (to_be_bytes w16 (length (text f))) (text f), length_entries rest, sum_by-cons entry_bytes f rest)
+    omega (arith, length-append (entry_text (text f)) (entries_in STORE_FORM rest), length-append (to_be_bytes w16 (length (text f))) (text f), length_entries rest, sum_by-cons entry_bytes f rest)
 
 length_store : (session : List ℕ) (frames : List Fields) → length session ≡ 8 → length (store_of session frames) ≡ 32 + sum_by entry_bytes frames
-unfolding store_of
+unfolding store_of_in
 length_store session frames eight =
+    let mark = STORE_FORM.mark in
     let count = to_be_bytes w32 (length frames) in
-    let entries = entries_text frames in
+    let entries = entries_in STORE_FORM frames in
     let before = text_before_tag session frames in
-    omega (arith, length-append before (tag_of FORMAT before), length-tag FORMAT format_is before, length-append (MARK ++ session ++ count) entries, length-append (MARK ++ session) count, length-append MARK session, eight, length_entries frames)
+    omega (
+      arith,
+      length-append before (store_tag STORE_FORM before),
+      length-store_tag STORE_FORM store_form_is before,
+      length-append (mark ++ session ++ count) entries,
+      length-append (mark ++ session) count,
+      length-append mark session,
+      eight,
+      length_entries frames,
+    )
 
 -- A store has 32 bytes, and an entry for each frame that is kept.
 pub store_length : (set : KeptSet) → length set.session ≡ 8 → length (store_text set) ≡ 32 + sum_by entry_bytes (frames_in set)

@@ -1,7 +1,7 @@
 -- Where no fault holds of the next frame: in a group that is not open, above all that are; and in the last of the open
--- groups, where its number is not kept.
-use Rattle.std.proofs.Common.{◌≡◌, ℕ, ◌+◌, ◌<◌, ◌≤◌, Bool, true, false, not, ◌&&◌, ◌||◌, ◌==◌, nat_lt, List, [], ◌∷◌, ◌++◌, set, replicate, All, Option, None, Some, nat_cmp, option_and_then, unwrap_or, is_none, refl, ap, ◌∙◌, arith, sum_by}
-use Rattle.std.specs.Prelude.{if◌then◌else◌, is_some}
+-- groups.
+use Rattle.std.proofs.Common.{◌≡◌, ℕ, ◌+◌, ◌*◌, ◌<◌, ◌≤◌, Bool, true, false, not, ◌&&◌, ◌||◌, ◌==◌, nat_lt, List, [], ◌∷◌, ◌++◌, set, replicate, All, Option, None, Some, nat_cmp, unwrap_or, is_none, refl, ap, ◌∙◌, arith, sum_by}
+use Rattle.std.specs.Prelude.{if◌then◌else◌}
 use Rattle.std.specs.List.{list_any}
 use Rattle.std.specs.Option.{option_map_or}
 use Rattle.std.specs.Str.{bytes_eq}
@@ -16,37 +16,32 @@ use Rattle.stripe_plan.specs.laws.SameLaws.{same_table-exact}
 use Rattle.packet_frame.specs.Frame.{Fields}
 use Rattle.packet_frame.specs.View.{fields_with}
 use Rattle.packet_frame.specs.declared.frame.Header.{Header}
-use Rattle.packet_set.specs.Packets.{Packets, slot_at, with_packet, no_packets}
-use Rattle.stripe_plan.specs.Sizes.{cost_of}
-use Rattle.packet_verdicts.specs.KeptSet.{KeptSet, open_group, payload_of, cost_in, cost_kept, keep, keep_by}
-use Rattle.packet_verdicts.specs.Verdicts.{tells_other_count, tells_other_table, tells_other_payload, is_too_much, newly_shown, layer_set, frame_verdict_by}
-use Rattle.packet_verdicts.specs.declared.verdict.Verdict.TheVariants as verdict
-use Rattle.packet_verdicts.specs.declared.verdict.LayerSet.{LayerSet}
+use Rattle.packet_set.specs.Packets.{Packets, with_packet, no_packets}
+use Rattle.stripe_plan.specs.Sizes.{length_by}
+use Rattle.packet_verdicts.specs.KeptSet.{KeptSet, open_group, keep, keep_by}
+use Rattle.packet_verdicts.specs.Verdicts.{tells_other_count, tells_other_table}
 use Rattle.packet_verdicts.specs.laws.FramesInOrder.{lookup_past}
 use Rattle.packet_verdicts.specs.laws.LastEntry.{insert_end, insert_at_end, lookup_end}
-use Rattle.store_text.specs.declared.fault.StoreKind.TheVariants.{Session, Order}
-use Rattle.store_text.specs.Refusals.{Last, is_above, kind_of, frame_fault}
+use Rattle.store_text.specs.declared.format.StoreForm.{StoreForm}
+use Rattle.store_text.specs.declared.fault.StoreKind.TheVariants.{Session, Order, Clash, Full}
+use Rattle.store_text.specs.Form.{IsStoreForm}
+use Rattle.store_text.specs.Refusals.{Last, is_above, cost_in_form, costs_in, cost_of_frame, is_past, frame_fault_in}
 
-record MayFollow (set : KeptSet) (last : Last) (f : Fields) : Type 0 where
+record MayFollow (t : StoreForm) (set : KeptSet) (last : Last) (f : Fields) : Type 0 where
   session : f.session ≡ set.session
   above : is_above last f ≡ true
   count : tells_other_count set f ≡ false
   table : tells_other_table set f ≡ false
-  absent : payload_of set f.group f.number ≡ None
-  room : is_too_much set f ≡ false
+  room : is_past t set f ≡ false
 
-none_by : (a b c d e g h : Bool) (layers : LayerSet) → a ≡ true → b ≡ true → c ≡ false → d ≡ false → e ≡ false → g ≡ false → h ≡ false
-    → (if not a then Some Session else if not b then Some Order
-    else kind_of (if not a then verdict.Foreign else if c || d || e then verdict.Clash else if g then verdict.Repeated else if h then verdict.Full else verdict.Kept layers)) ≡ None
-none_by a b c d e g h layers ea eb ec ed ee eg eh = rw (ea, eb, ec, ed, ee, eg, eh) refl
+none_by : (a b c d e : Bool) → a ≡ true → b ≡ true → c ≡ false → d ≡ false → e ≡ false
+    → (if not a then Some Session else if not b then Some Order else if c || d then Some Clash else if e then Some Full else None) ≡ None
+none_by a b c d e ea eb ec ed ee = rw (ea, eb, ec, ed, ee) refl
 
-no_fault : (set : KeptSet) (last : Last) (f : Fields) → MayFollow set last f → frame_fault set last f ≡ None
-unfolding frame_verdict_by
-no_fault set last f m =
-    none_by (bytes_eq f.session set.session) (is_above last f) (tells_other_count set f) (tells_other_table set f) (tells_other_payload set f) (is_some (payload_of set f.group f.number)) (is_too_much set f) (layer_set (newly_shown set f))
-    ((bytes_eq-Decides f.session set.session).1 m.session) m.above m.count m.table
-    (ap (λ (o : Option (List ℕ)). option_map_or (λ payload. not (bytes_eq payload f.payload)) o false) m.absent)
-    (ap is_some m.absent) m.room
+no_fault : (t : StoreForm) (set : KeptSet) (last : Last) (f : Fields) → MayFollow t set last f → frame_fault_in t set last f ≡ None
+no_fault t set last f m =
+    none_by (bytes_eq f.session set.session) (is_above last f) (tells_other_count set f) (tells_other_table set f) (is_past t set f)
+    ((bytes_eq-Decides f.session set.session).1 m.session) m.above m.count m.table m.room
 
 second_false : (a b : Bool) → b ≡ false → (a && b) ≡ false
 second_false true b e = e
@@ -61,14 +56,18 @@ same_itself n = grind (arith, nat_tests)
 pub above_in : (group a b : ℕ) → a < b → (nat_lt group group || ((group == group) && nat_lt a b)) ≡ true
 above_in group a b lt = grind (arith, nat_tests)
 
+-- what the group of a header costs in a form
+abbrev pub header_cost : StoreForm → Header → ℕ
+header_cost t h = h.table.packets * length_by 2 t.frames.bounds.bare h.table.layers
+
 -- the group of this header comes after these groups, and there is room for it
-pub record IsNextGroup (session : List ℕ) (most : ℕ) (gs : List (ℕ × Packets)) (h : Header) : Type 0 where
+pub record IsNextGroup (t : StoreForm) (session : List ℕ) (most : ℕ) (gs : List (ℕ × Packets)) (h : Header) : Type 0 where
   pub below : All (λ x. x < h.group) (keys_of gs)
   pub same_session : h.session ≡ session
   pub same_count : list_any (λ e. not (e.1.header.groups == h.groups)) gs ≡ false
-  pub room : sum_by (λ e. cost_in e.1) gs + cost_of h.table.packets h.table.layers ≤ most
+  pub room : sum_by (λ e. cost_in_form t e.1) gs + header_cost t h ≤ most
 
-module _ (session : List ℕ) (limit : ℕ) (gs : List (ℕ × Packets)) (h : Header) (next : IsNextGroup session limit gs h) where
+module _ (t : StoreForm) (form : IsStoreForm t) (session : List ℕ) (limit : ℕ) (gs : List (ℕ × Packets)) (h : Header) (next : IsNextGroup t session limit gs h) where
   -- the set of the groups before, and with so many slots of this one
   abbrev pub before : KeptSet
   before = record { session = session; limit = limit; groups = gs }
@@ -82,15 +81,17 @@ module _ (session : List ℕ) (limit : ℕ) (gs : List (ℕ × Packets)) (h : He
   is_open : (slots : List (Option (List ℕ))) → open_group (opened slots) h.group ≡ Some (record { header = h; word = 2; slots = slots })
   is_open slots = lookup_end gs h.group (record { header = h; word = 2; slots = slots }) next.below
 
-  pub none_opens : (last : Last) (n : ℕ) (payload : List ℕ) → is_above last (fields_with h n payload) ≡ true → frame_fault before last (fields_with h n payload) ≡ None
-  none_opens last n payload above = no_fault before last (fields_with h n payload) (record {
-    session = next.same_session;
-    above = above;
-    count = next.same_count;
-    table = ap (λ (o : Option Packets). option_map_or (λ p. not (same_table p.header.table h.table)) o false) not_open;
-    absent = ap (option_and_then (λ (p : Packets). slot_at p n)) not_open;
-    room = second_false (is_none (open_group before h.group)) (nat_lt limit (cost_kept before + cost_of h.table.packets h.table.layers)) (le-ltb limit (cost_kept before + cost_of h.table.packets h.table.layers) next.room);
-  })
+  pub none_opens : (last : Last) (n : ℕ) (payload : List ℕ) → is_above last (fields_with h n payload) ≡ true → frame_fault_in t before last (fields_with h n payload) ≡ None
+  none_opens last n payload above =
+      let fits : costs_in t before + cost_of_frame t (fields_with h n payload) ≤ limit =
+      omega (arith, next.room, ap (λ (w : ℕ). h.table.packets * length_by w t.frames.bounds.bare h.table.layers) form.word) in
+      no_fault t before last (fields_with h n payload) (record {
+        session = next.same_session;
+        above = above;
+        count = next.same_count;
+        table = ap (λ (o : Option Packets). option_map_or (λ p. not (same_table p.header.table h.table)) o false) not_open;
+        room = second_false (is_none (open_group before h.group)) (nat_lt limit (costs_in t before + cost_of_frame t (fields_with h n payload))) (le-ltb limit (costs_in t before + cost_of_frame t (fields_with h n payload)) fits);
+      })
 
   pub keep_opens : (n : ℕ) (payload : List ℕ) → keep before (fields_with h n payload) ≡ opened (set (replicate h.table.packets None) n (Some payload))
   unfolding keep_by
@@ -98,11 +99,10 @@ module _ (session : List ℕ) (limit : ℕ) (gs : List (ℕ × Packets)) (h : He
       ap (λ (o : Option Packets). record before { groups = insert_entry nat_cmp gs h.group (with_packet (unwrap_or o (no_packets h)) n payload) }) not_open
       ∙ ap (λ es. record before { groups = es }) (insert_end gs h.group (with_packet (no_packets h) n payload) next.below)
 
-  pub none_goes_on : (slots : List (Option (List ℕ))) (last : Last) (n : ℕ) (payload : List ℕ) → is_above last (fields_with h n payload) ≡ true → slot_at (record { header = h; word = 2; slots = slots }) n ≡ None
-      → frame_fault (opened slots) last (fields_with h n payload) ≡ None
-  none_goes_on slots last n payload above none =
+  pub none_goes_on : (slots : List (Option (List ℕ))) (last : Last) (n : ℕ) (payload : List ℕ) → is_above last (fields_with h n payload) ≡ true → frame_fault_in t (opened slots) last (fields_with h n payload) ≡ None
+  none_goes_on slots last n payload above =
       let p : Packets = record { header = h; word = 2; slots = slots } in
-      no_fault (opened slots) last (fields_with h n payload) (record {
+      no_fault t (opened slots) last (fields_with h n payload) (record {
         session = next.same_session;
         above = above;
         count =
@@ -111,8 +111,7 @@ module _ (session : List ℕ) (limit : ℕ) (gs : List (ℕ × Packets)) (h : He
         table =
             ap (λ (o : Option Packets). option_map_or (λ q. not (same_table q.header.table h.table)) o false) (is_open slots)
             ∙ ap not ((same_table-exact h.table h.table).1 refl);
-        absent = ap (option_and_then (λ (q : Packets). slot_at q n)) (is_open slots) ∙ none;
-        room = ap (λ (o : Option Packets). is_none o && nat_lt limit (cost_kept (opened slots) + cost_of h.table.packets h.table.layers)) (is_open slots);
+        room = ap (λ (o : Option Packets). is_none o && nat_lt limit (costs_in t (opened slots) + cost_of_frame t (fields_with h n payload))) (is_open slots);
       })
 
   pub keep_goes_on : (slots : List (Option (List ℕ))) (n : ℕ) (payload : List ℕ) → keep (opened slots) (fields_with h n payload) ≡ opened (set slots n (Some payload))

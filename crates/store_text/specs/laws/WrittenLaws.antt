@@ -1,5 +1,5 @@
 -- Laws of what is written of a kept set, for callers: it is read again as the set, and tells which set it is.
-use Rattle.std.proofs.Common.{◌≡◌, ℕ, ◌+◌, ◌-◌, ◌^◌, ◌<◌, ◌≤◌, Bool, true, false, not, ltb, List, ◌++◌, length, take, drop, None, Result, Ok, Err, append_assoc, refl, sym, ap, ◌∙◌, arith}
+use Rattle.std.proofs.Common.{◌≡◌, ℕ, ◌+◌, ◌^◌, ◌<◌, ◌≤◌, Bool, true, false, not, ltb, List, ◌++◌, length, take, drop, None, Result, Ok, Err, append_assoc, refl, sym, ap, ◌∙◌, arith}
 use Rattle.std.specs.Prelude.{if◌then◌else◌}
 use Rattle.std.specs.Int.{w32, from_be_bytes, to_be_bytes}
 use Rattle.std.specs.Str.{bytes_eq}
@@ -7,32 +7,29 @@ use Rattle.std.proofs.lemmas.Bool.{le-ltb}
 use Rattle.std.proofs.lemmas.Slice.Eq.{bytes_eq-Decides}
 use Rattle.std.proofs.lemmas.List.{length-append, take_at, drop_at}
 use Rattle.std.proofs.lemmas.Nat.{from_be_bytes-to_be_bytes_4}
-use Rattle.pet_base.specs.declared.limits.TheConstants.{TAG_LENGTH}
-use Rattle.packet_frame.specs.Frame.{Fields, tag_of}
-use Rattle.packet_frame.specs.Refusals.{number, ends_in_tag}
-use Rattle.packet_frame.specs.declared.format.TheConstants.{FORMAT}
-use Rattle.packet_frame.specs.laws.Formats.{format_is}
-use Rattle.packet_frame.specs.laws.Again.{length-tag}
-use Rattle.packet_session.specs.Datagrams.{entries_text}
+use Rattle.packet_frame.specs.Frame.{Fields}
 use Rattle.packet_verdicts.specs.KeptSet.{KeptSet, IsKeptSet, empty_set, cost_kept}
 use Rattle.packet_verdicts.specs.Union.{frames_in}
-use Rattle.store_text.specs.declared.format.TheConstants.{MARK, HEAD_LENGTH}
+use Rattle.store_text.specs.declared.format.StoreForm.{StoreForm}
+use Rattle.store_text.specs.declared.format.TheConstants.{STORE_FORM, HEAD_LENGTH}
 use Rattle.store_text.specs.declared.fault.StoreKind.TheVariants.{Cut, Magic}
 use Rattle.store_text.specs.declared.fault.BadStore.{BadStore}
 use Rattle.store_text.specs.declared.fault.BadStore.TheVariants.{At}
-use Rattle.store_text.specs.Store.{store_text, store_of, text_before_tag}
-use Rattle.store_text.specs.Refusals.{tag_at, then_tag, read_entries, read_text}
+use Rattle.store_text.specs.Form.{IsStoreForm, store_tag}
+use Rattle.store_text.specs.Store.{store_text, store_of_in, entries_in, text_before_tag_in}
+use Rattle.store_text.specs.Refusals.{tag_place, then_tag_in, ends_in_store_tag, session_of, many_of, entries_of, costs_in, read_entries_in, read_text_in, read_text}
+use Rattle.store_text.specs.laws.FormLaws.{store_form_is, length-store_tag}
 use Rattle.store_text.specs.laws.Leading.{Leads, leads_read}
-use Rattle.store_text.specs.laws.InOrder.{in_order}
+use Rattle.store_text.specs.laws.InOrder.{in_order, AreAllFrames}
 use Rattle.store_text.specs.laws.ManyFrames.{few_frames}
 
-none_refused : (a b : Bool) (x y : BadStore) (set : KeptSet) (rest : Result KeptSet BadStore) (bytes : List ℕ) → a ≡ false → b ≡ true → rest ≡ Ok set → ends_in_tag FORMAT bytes ≡ true
-    → (if a then Err x else if not b then Err y else then_tag bytes rest) ≡ Ok set
-none_refused a b x y set rest bytes ea eb er et = rw (ea, eb, er, et) refl
+none_refused : (t : StoreForm) (a b : Bool) (x y : BadStore) (set : KeptSet) (rest : Result KeptSet BadStore) (bytes : List ℕ) → a ≡ false → b ≡ true → rest ≡ Ok set → ends_in_store_tag t bytes ≡ true
+    → (if a then Err x else if not b then Err y else then_tag_in t bytes rest) ≡ Ok set
+none_refused t a b x y set rest bytes ea eb er et = rw (ea, eb, er, et) refl
 
 -- ---- five pieces on end, cut at their places
 
-module _ (mark session count entries tag : List ℕ) (four : length mark ≡ 4) (eight : length session ≡ 8) (four_more : length count ≡ 4) (sixteen : length tag ≡ 16) where
+module _ (t : StoreForm) (form : IsStoreForm t) (mark session count entries tag : List ℕ) (four : length mark ≡ 4) (eight : length session ≡ 8) (four_more : length count ≡ 4) (size : length tag ≡ t.tag) where
   abbrev front : List ℕ
   front = mark ++ session ++ count ++ entries
 
@@ -42,8 +39,8 @@ module _ (mark session count entries tag : List ℕ) (four : length mark ≡ 4) 
   long_front : length front ≡ 16 + length entries
   long_front = omega (arith, length-append (mark ++ session ++ count) entries, length-append (mark ++ session) count, length-append mark session, four, eight, four_more)
 
-  long_pieces : length pieces ≡ length front + 16
-  long_pieces = omega (arith, length-append front tag, sixteen)
+  long_pieces : length pieces ≡ length front + t.tag
+  long_pieces = omega (arith, length-append front tag, size)
 
   from_count : pieces ≡ (mark ++ session) ++ (count ++ (entries ++ tag))
   from_count = append_assoc (mark ++ session ++ count) entries tag ∙ append_assoc (mark ++ session) count (entries ++ tag)
@@ -62,49 +59,55 @@ module _ (mark session count entries tag : List ℕ) (four : length mark ≡ 4) 
       let twelve : length (mark ++ session) ≡ 12 = omega (arith, length-append mark session, four, eight) in
       ap (λ t. take 4 (drop 12 t)) from_count ∙ ap (take 4) (drop_at (mark ++ session) (count ++ (entries ++ tag)) 12 twelve) ∙ take_at count (entries ++ tag) 4 four_more
 
-  take_front : take (length pieces - 16) pieces ≡ front
-  take_front = take_at front tag (length pieces - 16) (omega (arith, long_pieces))
+  take_front : take (tag_place t pieces) pieces ≡ front
+  take_front = take_at front tag (tag_place t pieces) (omega (arith, long_pieces))
 
-  drop_front : drop (length pieces - 16) pieces ≡ tag
-  drop_front = drop_at front tag (length pieces - 16) (omega (arith, long_pieces))
+  drop_front : drop (tag_place t pieces) pieces ≡ tag
+  drop_front = drop_at front tag (tag_place t pieces) (omega (arith, long_pieces))
 
-  drop_head : drop 16 (take (length pieces - 16) pieces) ≡ entries
+  drop_head : entries_of t pieces ≡ entries
   drop_head =
       let head : length (mark ++ session ++ count) ≡ 16 = omega (arith, length-append (mark ++ session) count, length-append mark session, four, eight, four_more) in
       ap (drop 16) take_front ∙ drop_at (mark ++ session ++ count) entries 16 head
 
   -- read as a store
-  read_pieces : (limit n : ℕ) (target : KeptSet) → mark ≡ MARK → from_be_bytes w32 count ≡ n → tag ≡ tag_of FORMAT front → read_entries n HEAD_LENGTH (empty_set session limit) None entries ≡ Ok target
-      → read_text limit pieces ≡ Ok target
-  unfolding read_text
+  read_pieces : (limit n : ℕ) (target : KeptSet) → mark ≡ t.mark → from_be_bytes w32 count ≡ n → tag ≡ store_tag t front → read_entries_in t n HEAD_LENGTH (empty_set session limit) None entries ≡ Ok target
+      → read_text_in t limit pieces ≡ Ok target
+  unfolding read_text_in
   read_pieces limit n target marked numbered tagged read =
-      let short : ltb (length pieces) (HEAD_LENGTH + TAG_LENGTH) ≡ false = le-ltb (length pieces) (HEAD_LENGTH + TAG_LENGTH) (omega (arith, long_pieces, long_front)) in
-      let is_marked : bytes_eq (take 4 pieces) MARK ≡ true = (bytes_eq-Decides (take 4 pieces) MARK).1 (take_mark ∙ marked) in
-      let is_tagged : ends_in_tag FORMAT pieces ≡ true = (bytes_eq-Decides (drop (length pieces - 16) pieces) (tag_of FORMAT (take (length pieces - 16) pieces))).1 (drop_front ∙ tagged ∙ ap (tag_of FORMAT) (sym take_front)) in
-      let is_read : read_entries (number w32 12 pieces) HEAD_LENGTH (empty_set (take 8 (drop 4 pieces)) limit) None (drop HEAD_LENGTH (take (tag_at pieces) pieces)) ≡ Ok target =
-      ap (λ k. read_entries k HEAD_LENGTH (empty_set (take 8 (drop 4 pieces)) limit) None (drop HEAD_LENGTH (take (tag_at pieces) pieces))) (ap (from_be_bytes w32) take_count ∙ numbered)
-      ∙ ap (λ s. read_entries n HEAD_LENGTH (empty_set s limit) None (drop HEAD_LENGTH (take (tag_at pieces) pieces))) take_session
-      ∙ ap (read_entries n HEAD_LENGTH (empty_set session limit) None) drop_head
+      let short : ltb (length pieces) (HEAD_LENGTH + t.tag) ≡ false = le-ltb (length pieces) (HEAD_LENGTH + t.tag) (omega (arith, long_pieces, long_front)) in
+      let is_marked : bytes_eq (take 4 pieces) t.mark ≡ true = (bytes_eq-Decides (take 4 pieces) t.mark).1 (take_mark ∙ marked) in
+      let is_tagged : ends_in_store_tag t pieces ≡ true = (bytes_eq-Decides (drop (tag_place t pieces) pieces) (store_tag t (take (tag_place t pieces) pieces))).1 (drop_front ∙ tagged ∙ ap (store_tag t) (sym take_front)) in
+      let is_read : read_entries_in t (many_of pieces) HEAD_LENGTH (empty_set (session_of pieces) limit) None (entries_of t pieces) ≡ Ok target =
+      ap (λ k. read_entries_in t k HEAD_LENGTH (empty_set (session_of pieces) limit) None (entries_of t pieces)) (ap (from_be_bytes w32) take_count ∙ numbered)
+      ∙ ap (λ s. read_entries_in t n HEAD_LENGTH (empty_set s limit) None (entries_of t pieces)) take_session
+      ∙ ap (read_entries_in t n HEAD_LENGTH (empty_set session limit) None) drop_head
       ∙ read in
-      none_refused (ltb (length pieces) (HEAD_LENGTH + TAG_LENGTH)) (bytes_eq (take 4 pieces) MARK) (At (length pieces) Cut) (At 0 Magic) target
-      (read_entries (number w32 12 pieces) HEAD_LENGTH (empty_set (take 8 (drop 4 pieces)) limit) None (drop HEAD_LENGTH (take (tag_at pieces) pieces))) pieces short is_marked is_read is_tagged
+      none_refused t (ltb (length pieces) (HEAD_LENGTH + t.tag)) (bytes_eq (take 4 pieces) t.mark) (At (length pieces) Cut) (At 0 Magic) target
+      (read_entries_in t (many_of pieces) HEAD_LENGTH (empty_set (session_of pieces) limit) None (entries_of t pieces)) pieces short is_marked is_read is_tagged
 
 -- ---- a store is read
 
--- frames that lead to a set, as a store
-frames_read : (session : List ℕ) (frames : List Fields) (limit : ℕ) (target : KeptSet) → length session ≡ 8 → length frames < 2 ^ 32 → Leads (empty_set session limit) None frames target
-    → read_text limit (store_of session frames) ≡ Ok target
-unfolding store_of
-frames_read session frames limit target eight few leads =
-    let before = text_before_tag session frames in
-    read_pieces MARK session (to_be_bytes w32 (length frames)) (entries_text frames) (tag_of FORMAT before) refl eight refl (length-tag FORMAT format_is before)
-    limit (length frames) target refl (from_be_bytes-to_be_bytes_4 (length frames) few) refl
-    (leads_read frames HEAD_LENGTH (empty_set session limit) None target leads)
+module _ (t : StoreForm) (form : IsStoreForm t) where
+  -- frames that lead to a set, as a store
+  pub frames_read : (session : List ℕ) (frames : List Fields) (limit : ℕ) (target : KeptSet) → length session ≡ 8 → length frames < 2 ^ 32 → Leads t (empty_set session limit) None frames target
+      → read_text_in t limit (store_of_in t session frames) ≡ Ok target
+  unfolding store_of_in
+  frames_read session frames limit target eight few leads =
+      let before = text_before_tag_in t session frames in
+      read_pieces t form t.mark session (to_be_bytes w32 (length frames)) (entries_in t frames) (store_tag t before) form.mark eight refl (length-store_tag t form before)
+      limit (length frames) target refl (from_be_bytes-to_be_bytes_4 (length frames) few) refl
+      (leads_read t form frames HEAD_LENGTH (empty_set session limit) None target leads)
 
--- What is written of a kept set is read again as the set, within any limit that its groups keep.
+  -- What is written of a kept set in a form is read again as the set, within any limit that its groups keep.
+  pub written_is_read_in : AreAllFrames t → (set : KeptSet) (limit : ℕ) → IsKeptSet set → length set.session ≡ 8 → costs_in t set ≤ limit
+      → read_text_in t limit (store_of_in t set.session (frames_in set)) ≡ Ok (record set { limit = limit })
+  written_is_read_in are set limit sound eight fits =
+      frames_read set.session (frames_in set) limit (record set { limit = limit }) eight (few_frames set sound) (in_order t form are set sound limit fits)
+
+-- The same of the stores of today.
 pub written_is_read : (set : KeptSet) (limit : ℕ) → IsKeptSet set → length set.session ≡ 8 → cost_kept set ≤ limit → read_text limit (store_text set) ≡ Ok (record set { limit = limit })
-written_is_read set limit sound eight fits =
-    frames_read set.session (frames_in set) limit (record set { limit = limit }) eight (few_frames set sound) (in_order set sound limit fits)
+written_is_read set limit sound eight fits = written_is_read_in STORE_FORM store_form_is (λ f is. is) set limit sound eight fits
 
 read_set : Result KeptSet BadStore → KeptSet → KeptSet
 read_set (Ok set) d = set

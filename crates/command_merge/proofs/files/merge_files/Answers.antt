@@ -1,7 +1,7 @@
 use Rattle.std.proofs.Common.{Err, refl, ap, ◌∙◌, arith, rules}
 use Rattle.pet_base.specs.laws.Through.{at_ok}
 use Rattle.pet_receive.specs.Arrivals.{kept_set}
-use Rattle.store_read.specs.Files.{IsStop}
+use Rattle.store_merge.specs.Files.{IsStop}
 use Rattle.store_text.specs.Files.{HasStore}
 use Rattle.command_merge.proofs.Causes.{end_is, unread_is, first_unread, second_unread, stores_of, joins_of, not_joined, not_written, written}
 use Rattle.command_merge.specs.Merges.{CanJoin, Merges}

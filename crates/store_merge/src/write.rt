@@ -1,0 +1,178 @@
+//! Writing a store.
+ghost use Rattle.std.specs.Prelude.{◌≡◌, ◌≤◌, ℕ, Ok, ◌++◌, [], length, take, drop, option_map, OnOk, OnErr, Some};
+ghost use Rattle.std.specs.List.{cons_option};
+ghost use Rattle.std.specs.Int.{w32, to_be_bytes};
+ghost use Rattle.packet_frame.specs.Frame.{IsFrame, tag_of, text};
+ghost use Rattle.packet_frame.specs.View.{fields_with};
+ghost use Rattle.packet_set.specs.Packets.{Packets};
+ghost use Rattle.packet_session.specs.Datagrams.{entries_text};
+ghost use Rattle.pet_base.specs.Entries.{entry_text};
+ghost use Rattle.packet_verdicts.specs.KeptSet.{IsKeptSet, cost_kept, open_group};
+ghost use Rattle.pet_receive.specs.Arrivals.{kept_set};
+ghost use Rattle.packet_verdicts.specs.Union.{frames_in, frames_in_group};
+ghost use Rattle.packet_verdicts.specs.laws.FramesLaws.{frames_of, frame_at};
+ghost use Rattle.store_text.specs.Store.{store_text};
+ghost use Rattle.store_text.specs.Refusals.{read_text};
+
+use field_rows::Rows;
+use packet_frame::{FORMAT, Header, frame_length, write_frame};
+use pet_base::NoMemory;
+use pet_receive::Receiver;
+use sha2::{Digest, Sha256};
+use store_text::MARK;
+
+/// Appends the store of all packets that the receiver has kept, by group, then number. `into` is as before where no memory
+/// is found.
+pub fn write_store<F: Rows>(receiver: &Receiver<'_, F>, into: &mut Vec<u8>) -> Result<(), NoMemory>
+    ensures text { OnOk result (into.new.items
+        ≡ into.old.items ++ store_text (kept_set receiver.now)) }
+    ensures err { OnErr result (into.new.items ≡ into.old.items) }
+
+    // What is written is read again as the set, at every limit that it fits.
+    ensures read_back { (limit : ℕ) → cost_kept (kept_set receiver.now) ≤ limit
+        → read_text limit (store_text (kept_set receiver.now))
+        ≡ Ok (record (kept_set receiver.now) { limit = limit }) }
+{
+    let start = into.len();
+    let _groups = receiver.groups();
+    has_eight_bytes(&receiver.session());
+    match append_store(receiver, into) {
+        Ok(()) => Ok(()),
+        Err(fault) => {
+            into.truncate(start);
+            Err(fault)
+        }
+    }
+}
+
+/// The number of a session has eight bytes. It does nothing.
+fn has_eight_bytes(session: &[u8; 8])
+    ensures { length session.now ≡ 8 }
+{
+    let _session = session;
+}
+
+/// Appends the store. Where no memory is found, a front of it may stand there.
+fn append_store<F: Rows>(receiver: &Receiver<'_, F>, into: &mut Vec<u8>) -> Result<(), NoMemory>
+    ensures text { OnOk result (into.new.items
+        ≡ into.old.items ++ store_text (kept_set receiver.now)) }
+    ensures front { take (length into.old.items) into.new.items ≡ into.old.items }
+{
+    let start = into.len();
+    append_head(&receiver.session(), receiver.kept(), into)?;
+    append_groups(receiver, into)?;
+    append_tag(start, into)
+}
+
+/// Appends all that is before the entries.
+fn append_head(session: &[u8; 8], kept: u32, into: &mut Vec<u8>) -> Result<(), NoMemory>
+    ensures text { OnOk result (into.new.items
+        ≡ into.old.items ++ (MARK ++ session.now ++ to_be_bytes w32 kept)) }
+    ensures front { take (length into.old.items) into.new.items ≡ into.old.items }
+{
+    into.extend_from_slice(&MARK)?;
+    into.extend_from_slice(session)?;
+    into.extend_from_slice(&kept.to_be_bytes())?;
+    Ok(())
+}
+
+/// Appends the entries of all groups.
+fn append_groups<F: Rows>(receiver: &Receiver<'_, F>, into: &mut Vec<u8>) -> Result<(), NoMemory>
+    ensures text { OnOk result (into.new.items
+        ≡ into.old.items ++ entries_text (frames_in (kept_set receiver.now))) }
+    ensures front { take (length into.old.items) into.new.items ≡ into.old.items }
+{
+    let groups = receiver.groups().unwrap_or(0);
+    for group in 0..groups {
+        append_if_open(receiver, group, into)?;
+    }
+    Ok(())
+}
+
+/// Appends the entries of a group, if it is open.
+fn append_if_open<F: Rows>(
+    receiver: &Receiver<'_, F>,
+    group: u32,
+    into: &mut Vec<u8>,
+) -> Result<(), NoMemory>
+    requires sound { IsKeptSet (kept_set receiver.now) }
+    ensures text { OnOk result (into.new.items
+        ≡ into.old.items ++ entries_text (frames_of (kept_set receiver.now) group)) }
+    ensures front { take (length into.old.items) into.new.items ≡ into.old.items }
+{
+    match receiver.header(group) {
+        Some(header) => append_group(receiver, group, header, into),
+        None => Ok(()),
+    }
+}
+
+/// Appends the entries of an open group, whose header this is.
+fn append_group<F: Rows>(
+    receiver: &Receiver<'_, F>,
+    group: u32,
+    header: &Header,
+    into: &mut Vec<u8>,
+) -> Result<(), NoMemory>
+    requires sound { IsKeptSet (kept_set receiver.now) }
+    requires header { option_map (λ p. p.header) (open_group (kept_set receiver.now) group)
+        ≡ Some header.now }
+    ensures text { OnOk result (into.new.items
+        ≡ into.old.items ++ entries_text (frames_of (kept_set receiver.now) group)) }
+    ensures front { take (length into.old.items) into.new.items ≡ into.old.items }
+{
+    for number in 0..header.table.packets() {
+        append_if_kept(receiver, group, header, number, into)?;
+    }
+    Ok(())
+}
+
+/// Appends the entry of a packet of an open group, whose header this is, if the packet is kept.
+fn append_if_kept<F: Rows>(
+    receiver: &Receiver<'_, F>,
+    group: u32,
+    header: &Header,
+    number: u16,
+    into: &mut Vec<u8>,
+) -> Result<(), NoMemory>
+    requires sound { IsKeptSet (kept_set receiver.now) }
+    requires header { option_map (λ p. p.header) (open_group (kept_set receiver.now) group)
+        ≡ Some header.now }
+    ensures text { (p : Packets) → open_group (kept_set receiver.now) group ≡ Some p
+        → OnOk result (into.new.items
+        ≡ into.old.items ++ entries_text (cons_option (frame_at p number) [])) }
+    ensures front { take (length into.old.items) into.new.items ≡ into.old.items }
+{
+    match receiver.packet(group, number) {
+        Some(payload) => append_entry(header, number, payload, into),
+        None => Ok(()),
+    }
+}
+
+/// Appends the entry of a packet.
+fn append_entry(
+    header: &Header,
+    number: u16,
+    payload: &[u8],
+    into: &mut Vec<u8>,
+) -> Result<(), NoMemory>
+    requires frame { IsFrame (fields_with header.now number payload.now) }
+    ensures text { OnOk result (into.new.items
+        ≡ into.old.items ++ entry_text (text (fields_with header.now number payload.now))) }
+    ensures front { take (length into.old.items) into.new.items ≡ into.old.items }
+{
+    let length = frame_length(header, payload) as u16;
+    into.extend_from_slice(&length.to_be_bytes())?;
+    write_frame(header, number, payload, into)
+}
+
+/// Appends the tag of the bytes from `start` on.
+fn append_tag(start: usize, into: &mut Vec<u8>) -> Result<(), NoMemory>
+    requires start { start ≤ length into.old.items }
+    ensures text { OnOk result (into.new.items
+        ≡ into.old.items ++ tag_of FORMAT (drop start into.old.items)) }
+    ensures front { take (length into.old.items) into.new.items ≡ into.old.items }
+{
+    let digest = Sha256::digest(&into[start..]);
+    into.extend_from_slice(&digest[..FORMAT.tag])?;
+    Ok(())
+}

@@ -1,0 +1,9 @@
+pub mod Costs
+pub mod Kept
+pub mod Listed
+pub mod Migrating
+pub mod OldFrames
+pub mod Standing
+pub mod Text
+pub mod Walk
+pub mod Walked

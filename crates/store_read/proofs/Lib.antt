@@ -1,4 +1,0 @@
-pub mod Entry
-pub mod Walk
-pub mod Text
-pub mod StoreFiles
