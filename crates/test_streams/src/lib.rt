@@ -1,6 +1,6 @@
-//! Tests of the scanner and of the priority file: values from outside.
+//! Tests of the scanner, of system streams and of the priority file: values from outside.
 //!
-//! They run the public calls of `mpeg_scan` and `priority_file`, as a caller sees them, a module a crate. They stand apart
+//! They run the public calls of `mpeg_scan`, `mpeg_system` and `priority_file`, as a caller sees them. They stand apart
 //! because the gate proves a crate that has tests twice, once alone and once whole with its tests: here the second time is
 //! the tests' own. `fixtures` is what they share, with `test_sessions` too. No program uses this crate.
 #![tactic(auto)]
@@ -10,6 +10,12 @@ mod fixtures;
 pub use fixtures::{EXAMPLE_PIECES, TWO_GROUPS, piece, pieces_on_end, priority_of, three_layers};
 
 #[cfg(test)]
+mod loop_tests;
+#[cfg(test)]
 mod priority_tests;
 #[cfg(test)]
 mod scan_tests;
+#[cfg(test)]
+mod system_fixtures;
+#[cfg(test)]
+mod system_tests;

@@ -1,9 +1,9 @@
 //! Streams and what stands in them.
 use crate::{EXAMPLE_PIECES, pieces_on_end};
-use test_example::STREAM;
 use mpeg_scan::{Piece, Scan, Scanner};
 use pet_base::Kind;
 use std::alloc::{AllocError, Global};
+use test_example::STREAM;
 
 /// An accepted stream, and the kind, the code and the bytes of each of its pieces.
 type Accepted = (&'static [u8], &'static [(Kind, u8, u64)]);

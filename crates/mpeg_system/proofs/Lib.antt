@@ -1,0 +1,10 @@
+pub mod Examples
+pub mod Steps
+pub mod Runs
+pub mod Entering
+pub mod Growing
+pub mod Reading
+pub mod Feeding
+pub mod Standing
+pub mod Whole
+pub mod Writing

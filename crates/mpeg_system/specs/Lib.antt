@@ -1,0 +1,13 @@
+pub mod Contents
+pub mod Units
+pub mod Videos
+pub mod Wrapped
+pub mod Phases
+pub mod Stages
+pub mod Unwrapping
+pub mod Feeding
+pub mod Ends
+pub mod Unwraps
+pub mod Wraps
+pub mod Completes
+pub mod laws
