@@ -1,12 +1,12 @@
 //! Calls on blocks whose shape is tested first: what does not fit is left out, and shows as another answer.
 ghost use Rattle.std.specs.Prelude.{◌≡◌, ℕ, ◌*◌, ◌<◌, ◌≤◌, length, vec_len, All, IfOk};
 
+use field_elements::Field;
+use field_rows::{MAX_WIDTH, Rows};
 use field_vectors::Products;
 use pet_base::Steps;
-use field_elements::Field;
-use pet_poly::{eval, eval_monic};
-use field_rows::{MAX_WIDTH, Rows};
 use pet_field::Gf16Tables;
+use pet_poly::{eval, eval_monic};
 use std::alloc::{AllocError, Global};
 use std::sync::ledger::Ledger;
 

@@ -2,10 +2,10 @@
 ghost use Rattle.std.specs.Prelude.{◌≡◌, ℕ, ◌<◌, All};
 
 use crate::calls::{add, inverse_at, prepared, scale, value, values};
-use field_vectors::Products;
-use pet_base::Steps;
 use field_elements::Field;
 use field_rows::Rows;
+use field_vectors::Products;
+use pet_base::Steps;
 use pet_field::Gf16Tables;
 use std::alloc::{AllocError, Global};
 use std::sync::ledger::Ledger;

@@ -2,8 +2,8 @@
 ghost use Rattle.std.specs.Prelude.{◌≡◌, ℕ, ◌<◌, length, vec_len, IfOk};
 
 use crate::coding::{Known, Way, absorb, packet};
-use pet_base::Steps;
 use field_rows::transpose;
+use pet_base::Steps;
 use pet_field::Gf16Tables;
 use std::alloc::{AllocError, Global};
 use std::sync::ledger::{Blank, Ledger};

@@ -2,9 +2,9 @@
 ghost use Rattle.std.specs.Prelude.{◌≡◌, ◌*◌, ◌<◌, ◌≤◌, ◌^◌, ℕ, length, slice_index, vec_len, IfOk};
 
 use crate::group::Group;
+use field_rows::transpose;
 use field_transform::values;
 use pet_base::Steps;
-use field_rows::transpose;
 use pet_field::Gf16Tables;
 use std::alloc::{AllocError, Global};
 use std::sync::ledger::{Blank, Ledger};

@@ -1,5 +1,6 @@
 -- Why the command ends so, by the step that failed.
-use Rattle.std.proofs.Common.{◌≡◌, ◌≢◌, ◌⊎◌, ℕ, ◌≤◌, List, [], ◌∷◌, Option, None, Some, refl, sym, ap, subst, ◌∙◌, arith, inl, inr, Result, Ok, Err}
+use Rattle.std.proofs.Common.{◌≡◌, ◌≢◌, ◌⊎◌, ℕ, ◌≤◌, List, [], ◌∷◌, Option, None, Some, refl, sym, ap, subst, ◌∙◌}
+use Rattle.std.proofs.Common.{arith, inl, inr, Result, Ok, Err}
 use Rattle.std.specs.Prelude.{IfErr, IsErrAnd, MatchResult}
 use Rattle.pet_base.specs.Seen.{Seen, Files, Blame, HadFault}
 use Rattle.pet_base.specs.declared.faults.Stop.{Stop}
@@ -30,45 +31,66 @@ same_err : {A : Type 0} (e end : MergeEnd) (r : Result A MergeEnd) → r ≡ Err
 same_err e end r p q = cc
 
 -- what the command ends with is what a step's error stands for
-pub end_is : {T : Type 0} (P : MergeEnd → Type 0) (result : Result T MergeEnd) (end : MergeEnd) → IsErrAnd result (λ e. e ≡ end) → P end → IfErr result P
+pub end_is : {T : Type 0} (P : MergeEnd → Type 0) (result : Result T MergeEnd) (end : MergeEnd)
+    → IsErrAnd result (λ e. e ≡ end) → P end → IfErr result P
 end_is P (Ok x) end is p = tt
 end_is P (Err e) end is p = subst P (sym is) p
 
 -- what a store that was not read stands for, behind `map_err` and `?`
-pub unread_is : {A T : Type 0} (P : MergeEnd → Type 0) (Q : StoreStop → Type 0) (R : StoreStop → MergeEnd → Type 0) (which : Which) (r : Result A StoreStop) (mapped : Result A MergeEnd) (end : MergeEnd) (result : Result T MergeEnd)
-    → ((s : StoreStop) (e : MergeEnd) → R s e → e ≡ store_end which s) → MatchResult r (λ x. mapped ≡ Ok x) (λ s. IsErrAnd mapped (R s)) → mapped ≡ Err end → IsErrAnd result (λ e. e ≡ end) → ((s : StoreStop) → Q s → P (store_end which s)) → IfErr r Q → IfErr result P
+pub unread_is : {A T : Type 0} (P : MergeEnd → Type 0) (Q : StoreStop → Type 0) (R : StoreStop → MergeEnd → Type 0)
+    (which : Which) (r : Result A StoreStop) (mapped : Result A MergeEnd) (end : MergeEnd) (result : Result T MergeEnd)
+    → ((s : StoreStop) (e : MergeEnd) → R s e → e ≡ store_end which s)
+    → MatchResult r (λ x. mapped ≡ Ok x) (λ s. IsErrAnd mapped (R s)) → mapped ≡ Err end
+    → IsErrAnd result (λ e. e ≡ end) → ((s : StoreStop) → Q s → P (store_end which s)) → IfErr r Q → IfErr result P
 unread_is P Q R which (Ok x) mapped end result same cases was is causes q = absurd (ok_not_err x end mapped cases was)
 unread_is P Q R which (Err s) (Ok x) end result same cases was is causes q = absurd cases
-unread_is P Q R which (Err s) (Err e) end result same cases was is causes q = end_is P result end is (subst P (sym (same s e cases) ∙ same_err e end (Err e) refl was) (causes s q))
+unread_is P Q R which (Err s) (Err e) end result same cases was is causes q =
+    end_is P result end is (subst P (sym (same s e cases) ∙ same_err e end (Err e) refl was) (causes s q))
 
 -- a fault since a later time is one since an earlier
-later_fault : (P : Blame → Type 0) (old mid new : Seen) → old.faults ≤ mid.faults → HadFault mid new P → HadFault old new P
+later_fault : (P : Blame → Type 0) (old mid new : Seen) → old.faults ≤ mid.faults → HadFault mid new P
+    → HadFault old new P
 later_fault P old mid new later had = record { rose = omega (arith, later, had.rose); blame = had.blame }
 
 -- the first store was not read
-pub first_unread : (first second out : List ℕ) (old new : Seen) → new.files ≡ old.files → (s : StoreStop) → IsStop old new first s → Merges first second out old new (store_end which.First s)
+pub first_unread : (first second out : List ℕ) (old new : Seen) → new.files ≡ old.files → (s : StoreStop)
+    → IsStop old new first s → Merges first second out old new (store_end which.First s)
 first_unread first second out old new same unread.NoMemory is = same
 first_unread first second out old new same unread.Failed is = (inl is, inl same)
 first_unread first second out old new same (unread.At at kind) is = (is, same)
 
 -- the second was not, of the files that the first reading left as they were
-pub second_unread : (first second out : List ℕ) (old mid new : Seen) (a : KeptSet) → HasStore old.files first a → mid.files ≡ old.files → old.faults ≤ mid.faults → new.files ≡ mid.files → (s : StoreStop) → IsStop mid new second s
+pub second_unread : (first second out : List ℕ) (old mid new : Seen) (a : KeptSet) → HasStore old.files first a
+    → mid.files ≡ old.files → old.faults ≤ mid.faults → new.files ≡ mid.files → (s : StoreStop)
+    → IsStop mid new second s
     → Merges first second out old new (store_end which.Second s)
 second_unread first second out old mid new a has before later same unread.NoMemory is = same ∙ before
-second_unread first second out old mid new a has before later same unread.Failed is = (inr (inl ((a, has), later_fault _ old mid new later is)), inl (same ∙ before))
-second_unread first second out old mid new a has before later same (unread.At at kind) is = ((a, has), subst (λ (files : Option Files). HasBadStore files second (At at kind)) before is, same ∙ before)
+second_unread first second out old mid new a has before later same unread.Failed is =
+    (inr (inl ((a, has), later_fault _ old mid new later is)), inl (same ∙ before))
+second_unread first second out old mid new a has before later same (unread.At at kind) is =
+    ((a, has), subst (λ (files : Option Files). HasBadStore files second (At at kind)) before is, same ∙ before)
 
 -- both were read, the second of the files that the first reading left as they were
-abbrev pub stores_of : (first second : List ℕ) (old : Seen) (left : Option Files) (a b : KeptSet) → HasStore old.files first a → left ≡ old.files → HasStore left second b → HasStores first second old
-stores_of first second old left a b has before there = record { a = a; b = b; first_is = has; second_is = subst (λ (files : Option Files). HasStore files second b) before there }
+abbrev pub stores_of : (first second : List ℕ) (old : Seen) (left : Option Files) (a b : KeptSet)
+    → HasStore old.files first a → left ≡ old.files → HasStore left second b → HasStores first second old
+stores_of first second old left a b has before there =
+    record {
+      a = a;
+      b = b;
+      first_is = has;
+      second_is = subst (λ (files : Option Files). HasStore files second b) before there;
+    }
 
 -- and they can be joined
-abbrev pub joins_of : (first second : List ℕ) (old : Seen) (left : Option Files) (a b : KeptSet) → HasStore old.files first a → left ≡ old.files → HasStore left second b → absorb_fault a b ≡ None
+abbrev pub joins_of : (first second : List ℕ) (old : Seen) (left : Option Files) (a b : KeptSet)
+    → HasStore old.files first a → left ≡ old.files → HasStore left second b → absorb_fault a b ≡ None
     → CanJoin first second old
-joins_of first second old left a b has before there fits = record { stores = stores_of first second old left a b has before there; fits = fits }
+joins_of first second old left a b has before there fits =
+    record { stores = stores_of first second old left a b has before there; fits = fits }
 
 -- they cannot be joined
-pub not_joined : (first second out : List ℕ) (old new : Seen) (s : HasStores first second old) (fault : Absorb) → new.files ≡ old.files → (fault ≢ absorb.NoMemory → absorb_fault s.a s.b ≡ Some fault)
+pub not_joined : (first second out : List ℕ) (old new : Seen) (s : HasStores first second old) (fault : Absorb)
+    → new.files ≡ old.files → (fault ≢ absorb.NoMemory → absorb_fault s.a s.b ≡ Some fault)
     → Merges first second out old new (absorb_end fault)
 not_joined first second out old new s absorb.OtherSession same is = (s, is (λ e. cc), same)
 not_joined first second out old new s (absorb.Clash group number) same is = (s, is (λ e. cc), same)
@@ -76,22 +98,32 @@ not_joined first second out old new s (absorb.Full group) same is = (s, is (λ e
 not_joined first second out old new s absorb.NoMemory same is = same
 
 -- OUT was not written
-module _ (first second out : List ℕ) (old mid new : Seen) (c : CanJoin first second old) (set : KeptSet) (is : set ≡ union c.stores.a c.stores.b) (before : mid.files ≡ old.files) where
-  pub not_written : (s : Stop) → old.faults ≤ mid.faults → (s ≡ stop.NoMemory → new.files ≡ mid.files) → (new.files ≡ mid.files) ⊎ Wrote [] (Some (store_file out set)) mid new
+module _ (first second out : List ℕ) (old mid new : Seen) (c : CanJoin first second old) (set : KeptSet)
+    (is : set ≡ union c.stores.a c.stores.b) (before : mid.files ≡ old.files) where
+  pub not_written : (s : Stop) → old.faults ≤ mid.faults → (s ≡ stop.NoMemory → new.files ≡ mid.files)
+      → (new.files ≡ mid.files) ⊎ Wrote [] (Some (store_file out set)) mid new
       → Licensed (Failed (writing out ∷ []) mid new) s → Merges first second out old new (stop_end s)
   not_written stop.NoMemory later memory front cause = memory refl ∙ before
-  not_written stop.Failed later memory (inl same) cause = (inr (inr (c, later_fault _ old mid new later cause)), inl (same ∙ before))
+  not_written stop.Failed later memory (inl same) cause =
+      (inr (inr (c, later_fault _ old mid new later cause)), inl (same ∙ before))
   not_written stop.Failed later memory (inr front) cause = (
     inr (inr (c, later_fault _ old mid new later cause)),
-    inr (c, subst (λ (t : KeptSet). Wrote [] (Some (store_file out t)) old new) is (Wrote-then [] [] (Some (store_file out set)) old mid new (Wrote-nothing old mid before) front)),
+    inr (
+      c,
+      subst (λ (t : KeptSet). Wrote [] (Some (store_file out t)) old new) is
+          (Wrote-then [] [] (Some (store_file out set)) old mid new (Wrote-nothing old mid before) front),
+    ),
   )
 
   -- it was, and so many packets are in it
-  pub written : (n : ℕ) → n ≡ kept_in_all set → Wrote (store_file out set ∷ []) None mid new → (w : WritesUnion first second out old new) × (n ≡ kept_in_all (union_of w.joins))
+  pub written : (n : ℕ) → n ≡ kept_in_all set → Wrote (store_file out set ∷ []) None mid new
+      → (w : WritesUnion first second out old new) × (n ≡ kept_in_all (union_of w.joins))
   written n many w = (
     record {
       joins = c;
-      file = subst (λ (t : KeptSet). Wrote (store_file out t ∷ []) None old new) is (Wrote-then [] (store_file out set ∷ []) None old mid new (Wrote-nothing old mid before) w);
+      file =
+          subst (λ (t : KeptSet). Wrote (store_file out t ∷ []) None old new) is
+          (Wrote-then [] (store_file out set ∷ []) None old mid new (Wrote-nothing old mid before) w);
     },
     many ∙ ap kept_in_all is,
   )

@@ -9,7 +9,8 @@ use Rattle.store_merge.specs.declared.read_files.StoreStop.TheVariants as unread
 use Rattle.command_merge.specs.declared.files.Which.{Which}
 use Rattle.command_merge.specs.declared.files.Which.TheVariants.{First, Second}
 use Rattle.command_merge.specs.declared.command.MergeEnd.{MergeEnd}
-use Rattle.command_merge.specs.declared.command.MergeEnd.TheVariants.{Done, NoMemory, PlaceFault, BadFirst, BadSecond, OtherSession, Clash, Full}
+use Rattle.command_merge.specs.declared.command.MergeEnd.TheVariants.{Done, NoMemory, PlaceFault, BadFirst, BadSecond}
+use Rattle.command_merge.specs.declared.command.MergeEnd.TheVariants.{OtherSession, Clash, Full}
 
 -- of two stores that cannot be joined
 abbrev pub absorb_end : Absorb → MergeEnd

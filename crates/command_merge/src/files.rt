@@ -12,8 +12,7 @@ use pet_base::{NoMemory, Place, Steps, Stop};
 use pet_field::Gf16Tables;
 use std::alloc::Global;
 use std::sync::ledger::Ledger;
-use store_merge::{StoreStop, read_store_file};
-use store_merge::write_store_file;
+use store_merge::{StoreStop, read_store_file, write_store_file};
 
 impl From<Absorb> for MergeEnd {
     ghost use Rattle.command_merge.specs.Ends.{absorb_end};

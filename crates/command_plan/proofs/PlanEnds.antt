@@ -7,7 +7,8 @@ use Rattle.stream_session.specs.declared.source.SourceFault.TheVariants as sourc
 use Rattle.command_plan.specs.Ends.{plan_end, plan_failed}
 use Rattle.command_plan.specs.Plans.{PlanEnds}
 
-pub plan_refused : (stream priority : List ℕ) (old new : Seen) (fault : SourceFault) → IsSourceFault old new stream priority fault → PlanEnds stream priority old new (plan_end fault)
+pub plan_refused : (stream priority : List ℕ) (old new : Seen) (fault : SourceFault)
+    → IsSourceFault old new stream priority fault → PlanEnds stream priority old new (plan_end fault)
 plan_refused stream priority old new source.NoMemory is = tt
 plan_refused stream priority old new source.Failed is = is
 plan_refused stream priority old new (source.Priority fault) is = is

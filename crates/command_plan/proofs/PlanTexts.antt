@@ -10,7 +10,8 @@ use Rattle.stream_session.specs.declared.source.Source.{Source}
 use Rattle.text_plan.specs.PlanText.{plan_text}
 use Rattle.command_plan.specs.SessionPlan.{session_plan}
 
-pub plan_of_source : (files : Option Files) (stream priority : List ℕ) (source : Source) (is : IsSource files stream priority source)
+pub plan_of_source : (files : Option Files) (stream priority : List ℕ) (source : Source)
+    (is : IsSource files stream priority source)
     → plan_text source.number source.priority source.tables.items ≡ session_plan is.file is.bytes
 plan_of_source files stream priority source is =
     ap (λ (n : List ℕ). plan_text n source.priority source.tables.items) is.number

@@ -7,9 +7,11 @@ use Rattle.command_plan.specs.declared.checking.CheckEnd.TheVariants.{Done, NoMe
 use Rattle.command_plan.specs.SessionPlan.{session_plan}
 use Rattle.stream_session.specs.Sessions.{IsGiven, tables_in}
 
--- Memory was found, the place had no fault of this call, and the three files are told: two, of these bytes, are a session, and
+-- Memory was found, the place had no fault of this call, and the three files are told: two, of these bytes, are a
+-- session, and
 -- the third is its plan text.
-pub record CanCheck (stream priority plan priority_bytes stream_bytes : List ℕ) (old new : Seen) (end : CheckEnd) : Type 0 where
+pub record CanCheck (stream priority plan priority_bytes stream_bytes : List ℕ) (old new : Seen)
+    (end : CheckEnd) : Type 0 where
   pub memory : end ≢ NoMemory
   pub well : Failed (reading stream ∷ reading priority ∷ reading plan ∷ []) old new → ⊥
   pub given : IsGiven old stream priority priority_bytes stream_bytes

@@ -8,7 +8,9 @@ use Rattle.stream_session.specs.declared.source.SourceFault.TheVariants as sourc
 use Rattle.text_plan.specs.declared.plan_file.Repeat.{Repeat}
 use Rattle.text_plan.specs.PlanFile.{lists_of}
 use Rattle.command_plan.specs.declared.checking.CheckEnd.{CheckEnd}
-use Rattle.command_plan.specs.declared.checking.CheckEnd.TheVariants.{Done, NoMemory, PlaceFault, BadPriority, BadStream, BadPlan, PlanLong, Text, Lines, NotLeast}
+use Rattle.command_plan.specs.declared.checking.CheckEnd.TheVariants.{Done, NoMemory, PlaceFault, BadPriority}
+use Rattle.command_plan.specs.declared.checking.CheckEnd.TheVariants.{BadStream, BadPlan, PlanLong, Text, Lines}
+use Rattle.command_plan.specs.declared.checking.CheckEnd.TheVariants.{NotLeast}
 use Rattle.command_plan.specs.Certified.{HasPlanFile, Lists, IsCertified, IsFirstNotLeast, tables_of_files}
 use Rattle.stream_session.specs.Sessions.{HasSession}
 

@@ -5,6 +5,6 @@ pub mod Least
 pub mod Certified
 pub mod Checks
 pub mod Checked
-pub mod Checking
 pub mod Ends
+pub mod inside
 pub mod laws

@@ -9,7 +9,8 @@ use Rattle.stream_session.specs.Sessions.{IsGiven}
 use Rattle.std.specs.declared.alloc.Global.{Global}
 
 -- Memory was found, the place had no fault of this call, and the two files, of these bytes, are told and a session.
-pub record CanPlan (stream priority priority_bytes stream_bytes : List ℕ) (old new : Seen) (end : PlanEnd) : Type 0 where
+pub record CanPlan (stream priority priority_bytes stream_bytes : List ℕ) (old new : Seen)
+    (end : PlanEnd) : Type 0 where
   pub memory : end ≢ NoMemory
   pub well : Failed (reading stream ∷ reading priority ∷ []) old new → ⊥
   pub given : IsGiven old stream priority priority_bytes stream_bytes

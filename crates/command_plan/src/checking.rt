@@ -6,19 +6,19 @@ ghost use Rattle.pet_base.specs.Seen.{Seen, PlaceStops};
 ghost use Rattle.text_plan.specs.PlanFile.{lists_of};
 ghost use Rattle.command_plan.specs.Certified.{IsCertified, AreLeast, tables_of_files};
 ghost use Rattle.command_plan.specs.Checked.{ChecksSession};
-ghost use Rattle.command_plan.specs.Checking.{HasLists, HasNoLists, HasNoListsIn, AreNotLeast};
+ghost use Rattle.command_plan.specs.inside.Checking.{HasLists, HasNoLists, HasNoListsIn, AreNotLeast};
 ghost use Rattle.command_plan.specs.Checks.{Checks};
 ghost use Rattle.command_plan.specs.Ends.{check_failed};
 
 use crate::least::is_least;
-use outside_files::read_file;
 use mpeg_scan::Scan;
+use outside_files::read_file;
 use pet_base::{MAX_PLAN_FILE, NoMemory, Place, Stop};
-use text_plan::{PlanFault, Repeat, read_plan};
 use priority_file::PriorityFault;
 use std::alloc::Global;
 use stream_session::{SessionFault, SourceFault, read_source};
 use stripe_plan::Table;
+use text_plan::{PlanFault, Repeat, read_plan};
 
 /// How `check` ended.
 #[derive(Clone, Copy, Debug, PartialEq, Eq)]

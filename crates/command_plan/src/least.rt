@@ -6,9 +6,9 @@ ghost use Rattle.command_plan.specs.Least.{IsLeast, lengths_in, listed_words, st
 
 use pet_base::NoMemory;
 use plan_cert::check;
-use text_plan::Repeat;
 use std::alloc::Global;
 use stripe_plan::Table;
+use text_plan::Repeat;
 
 /// Whether stripes of these lengths, on end from word 0 on, have all the words of the table and
 /// start at the words of a certificate of fewest stripes. It fails only for want of memory.

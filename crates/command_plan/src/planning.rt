@@ -13,10 +13,10 @@ ghost use Rattle.command_plan.specs.Plans.{Plans};
 
 use mpeg_scan::Scan;
 use pet_base::{NoMemory, Place};
-use text_plan::plan_text;
 use priority_file::PriorityFault;
 use std::alloc::Global;
 use stream_session::{SessionFault, Source, SourceFault, read_source};
+use text_plan::plan_text;
 
 /// How `plan` ended.
 #[derive(Debug, PartialEq, Eq, Drop)]

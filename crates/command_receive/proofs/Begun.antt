@@ -1,6 +1,8 @@
 -- FROM is begun and LAYERS made, or why not, by what the place answered.
-use Rattle.std.proofs.Common.{◌≡◌, ◌∙◌, ℕ, ◌≤◌, List, [], Option, Some, Result, Ok, Err, sym, ap, subst, arith, inl, inr}
-use Rattle.std.specs.Prelude.{IfErr, IfSome, IsErrAnd, IsSome, MatchResult, OnErr, OnOk, if◌then◌else◌, is_ok, option_map}
+use Rattle.std.proofs.Common.{◌≡◌, ◌∙◌, ℕ, ◌≤◌, List, [], Option, Some, Result, Ok, Err, sym, ap, subst, arith, inl}
+use Rattle.std.proofs.Common.{inr}
+use Rattle.std.specs.Prelude.{IfErr, IfSome, IsErrAnd, IsSome, MatchResult, OnErr, OnOk, if◌then◌else◌, is_ok}
+use Rattle.std.specs.Prelude.{option_map}
 use Rattle.std.specs.Io.KnownBytes.{append_known}
 use Rattle.pet_base.specs.Causes.{Blames}
 use Rattle.pet_base.specs.declared.place.Side.TheVariants.{Read, Written}
@@ -13,22 +15,30 @@ use Rattle.outside_routes.specs.Way.{Way, OnFile, OnLink}
 use Rattle.outside_routes.specs.Coming.{KeepsFeed}
 use Rattle.outside_routes.specs.declared.fault.RouteStop.TheVariants as stop
 use Rattle.pet_text.specs.Lines.{bound_text}
-use Rattle.command_receive.specs.Opened.{Begins, Begun, IsOpeningUse, IsUntouched, Opened, PrintedPort, StopsOpening}
+use Rattle.command_receive.specs.Opened.{IsOpeningUse, IsUntouched, PrintedPort}
+use Rattle.command_receive.specs.inside.Opened.{Begins, Begun, Opened, StopsOpening}
 
 -- what a call ensured at no error, and at one, behind `map_err`
-pub mapped_ok : {A E D : Type 0} (P : Type 0) (Q : E → D → Type 0) (r : Result A E) (mapped : Result A D) → MatchResult r (λ x. mapped ≡ Ok x) (λ e. IsErrAnd mapped (Q e)) → OnOk r P → OnOk mapped P
+pub mapped_ok : {A E D : Type 0} (P : Type 0) (Q : E → D → Type 0) (r : Result A E) (mapped : Result A D)
+    → MatchResult r (λ x. mapped ≡ Ok x) (λ e. IsErrAnd mapped (Q e)) → OnOk r P → OnOk mapped P
 mapped_ok P Q (Ok x) mapped cases p = subst (λ m. OnOk m P) (sym cases) p
 mapped_ok P Q (Err e) (Ok x) cases p = absurd cases
 mapped_ok P Q (Err e) (Err d) cases p = tt
 
-pub mapped_err : {A E D : Type 0} (P : D → Type 0) (Q : E → D → Type 0) (r : Result A E) (mapped : Result A D) (d : D) → ((e : E) (x : D) → Q e x → x ≡ d) → MatchResult r (λ x. mapped ≡ Ok x) (λ e. IsErrAnd mapped (Q e)) → OnErr r (P d) → IfErr mapped P
+pub mapped_err : {A E D : Type 0} (P : D → Type 0) (Q : E → D → Type 0) (r : Result A E) (mapped : Result A D) (d : D)
+    → ((e : E) (x : D) → Q e x → x ≡ d) → MatchResult r (λ x. mapped ≡ Ok x) (λ e. IsErrAnd mapped (Q e))
+    → OnErr r (P d) → IfErr mapped P
 mapped_err P Q (Ok x) mapped d is cases p = subst (λ m. IfErr m P) (sym cases) tt
 mapped_err P Q (Err e) (Ok x) d is cases p = absurd cases
 mapped_err P Q (Err e) (Err x) d is cases p = subst P (sym (is e x cases)) p
 
 -- the file is the input
-pub entered : {A E : Type 0} (name : List ℕ) (before after : OutsideSeen) (r : Result A E) → OnOk r (IfSome before.place.files (λ f. IsSome (f name))) → OnOk r (after.place.rest ≡ bytes_at before.place.files name) → OnOk r (Names before.place.files after.place.source name)
-    → after.place.has_input ≡ is_ok r → after.link ≡ before.link → Unprinted before after → OnOk r (Begins (OnFile name) before after)
+pub entered : {A E : Type 0} (name : List ℕ) (before after : OutsideSeen) (r : Result A E)
+    → OnOk r (IfSome before.place.files (λ f. IsSome (f name)))
+    → OnOk r (after.place.rest ≡ bytes_at before.place.files name)
+    → OnOk r (Names before.place.files after.place.source name)
+    → after.place.has_input ≡ is_ok r → after.link ≡ before.link → Unprinted before after
+    → OnOk r (Begins (OnFile name) before after)
 entered name before after (Ok x) found rest source input link written = record {
   begun = record { found = found; rest = rest; source = source; has_input = input; link = link };
   printed = written;
@@ -36,16 +46,20 @@ entered name before after (Ok x) found rest source input link written = record {
 entered name before after (Err e) found rest source input link written = tt
 
 -- it is not
-pub not_entered : {A E : Type 0} (name : List ℕ) (before after : OutsideSeen) (r : Result A E) → KeepsOutput before.place after.place → HasBlame before.place after.place r (Blames Read (Some name)) → Unprinted before after
+pub not_entered : {A E : Type 0} (name : List ℕ) (before after : OutsideSeen) (r : Result A E)
+    → KeepsOutput before.place after.place → HasBlame before.place after.place r (Blames Read (Some name))
+    → Unprinted before after
     → OnErr r ((layers : List ℕ) → StopsOpening (OnFile name) layers before after stop.Place)
 not_entered name before after (Ok x) others cause written = tt
 not_entered name before after (Err e) others cause written = λ layers. (
   record { files = others.files; feed = tt },
   written,
-  HadFault-since before.place before.place after.place (Blames Read (Some name)) (IsOpeningUse (OnFile name) layers) (omega arith) (λ b is. inl (Blames-some name Read b is)) (record { rose = cause.failed; blame = cause.told }),
+  HadFault-since before.place before.place after.place (Blames Read (Some name)) (IsOpeningUse (OnFile name) layers)
+      (omega arith) (λ b is. inl (Blames-some name Read b is)) (record { rose = cause.failed; blame = cause.told }),
 )
 
-begun_still : (from : Way) (before mid after : OutsideSeen) → KeepsInput mid.place after.place → after.link ≡ mid.link → Begun from before mid → Begun from before after
+begun_still : (from : Way) (before mid after : OutsideSeen) → KeepsInput mid.place after.place → after.link ≡ mid.link
+    → Begun from before mid → Begun from before after
 begun_still (OnFile name) before mid after input link begun = record {
   found = begun.found;
   rest = input.rest ∙ begun.rest;
@@ -58,10 +72,12 @@ begun_still (OnLink address) before mid after input link begun = record {
   others = subst (λ (l : LinkSeen). OnlyBinds before.link l) (sym link) begun.others;
 }
 
-printed_still : (from : Way) (before mid after : OutsideSeen) → after.link ≡ mid.link → after.written ≡ mid.written → PrintedPort from before mid → PrintedPort from before after
+printed_still : (from : Way) (before mid after : OutsideSeen) → after.link ≡ mid.link → after.written ≡ mid.written
+    → PrintedPort from before mid → PrintedPort from before after
 printed_still (OnFile name) before mid after link written printed = written ∙ printed
 printed_still (OnLink address) before mid after link written printed =
-    subst (λ (l : LinkSeen). after.written ≡ append_known before.written (bound_text l.port)) (sym link) (written ∙ printed)
+    subst (λ (l : LinkSeen). after.written ≡ append_known before.written (bound_text l.port)) (sym link)
+    (written ∙ printed)
 
 feed_still : (from : Way) (old mid new : LinkSeen) → new ≡ mid → KeepsFeed from old mid → KeepsFeed from old new
 feed_still (OnFile name) old mid new link feed = tt
@@ -72,8 +88,11 @@ layers_blamed (OnFile name) layers b is = inr (Blames-some layers Written b is)
 layers_blamed (OnLink address) layers b is = Blames-some layers Written b is
 
 -- LAYERS is the output, behind the beginning of FROM
-pub made : {A E : Type 0} (from : Way) (layers : List ℕ) (before mid after : OutsideSeen) (r : Result A E) → Begins from before mid → IsUntouched from before mid → after.link ≡ mid.link → after.written ≡ mid.written
-    → after.place.files ≡ (if is_ok r then option_map (with_file layers []) mid.place.files else mid.place.files) → OnOk r (Names mid.place.files after.place.target layers) → after.place.has_output ≡ is_ok r → KeepsInput mid.place after.place
+pub made : {A E : Type 0} (from : Way) (layers : List ℕ) (before mid after : OutsideSeen) (r : Result A E)
+    → Begins from before mid → IsUntouched from before mid → after.link ≡ mid.link → after.written ≡ mid.written
+    → after.place.files ≡ (if is_ok r then option_map (with_file layers []) mid.place.files else mid.place.files)
+    → OnOk r (Names mid.place.files after.place.target layers) → after.place.has_output ≡ is_ok r
+    → KeepsInput mid.place after.place
     → OnOk r (Opened from layers before after)
 made from layers before mid after (Ok x) begins untouched link written files target output input = record {
   begun = begun_still from before mid after input link begins.begun;
@@ -85,12 +104,18 @@ made from layers before mid after (Ok x) begins untouched link written files tar
 made from layers before mid after (Err e) begins untouched link written files target output input = tt
 
 -- it is not
-pub not_made : {A E : Type 0} (from : Way) (layers : List ℕ) (before mid after : OutsideSeen) (r : Result A E) → Begins from before mid → IsUntouched from before mid → after.link ≡ mid.link → after.written ≡ mid.written
-    → after.place.files ≡ (if is_ok r then option_map (with_file layers []) mid.place.files else mid.place.files) → before.place.faults ≤ mid.place.faults → HasBlame mid.place after.place r (Blames Written (Some layers))
+pub not_made : {A E : Type 0} (from : Way) (layers : List ℕ) (before mid after : OutsideSeen) (r : Result A E)
+    → Begins from before mid → IsUntouched from before mid → after.link ≡ mid.link → after.written ≡ mid.written
+    → after.place.files ≡ (if is_ok r then option_map (with_file layers []) mid.place.files else mid.place.files)
+    → before.place.faults ≤ mid.place.faults → HasBlame mid.place after.place r (Blames Written (Some layers))
     → OnErr r (StopsOpening from layers before after stop.Place)
 not_made from layers before mid after (Ok x) begins untouched link written files later cause = tt
 not_made from layers before mid after (Err e) begins untouched link written files later cause = (
-  record { files = files ∙ untouched.files; feed = feed_still from before.link mid.link after.link link untouched.feed },
+  record {
+    files = files ∙ untouched.files;
+    feed = feed_still from before.link mid.link after.link link untouched.feed;
+  },
   printed_still from before mid after link written begins.printed,
-  HadFault-since before.place mid.place after.place (Blames Written (Some layers)) (IsOpeningUse from layers) later (layers_blamed from layers) (record { rose = cause.failed; blame = cause.told }),
+  HadFault-since before.place mid.place after.place (Blames Written (Some layers)) (IsOpeningUse from layers) later
+      (layers_blamed from layers) (record { rose = cause.failed; blame = cause.told }),
 )

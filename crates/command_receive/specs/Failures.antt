@@ -1,7 +1,8 @@
 -- Which ends of `receive` tell of a failure of the place, and which of one of the link. This project's own.
 use Rattle.std.specs.Prelude.{Bool, true, false}
 use Rattle.command_receive.specs.declared.command.ReceiveEnd.{ReceiveEnd}
-use Rattle.command_receive.specs.declared.command.ReceiveEnd.TheVariants.{Done, NoMemory, PlaceFault, LinkFault, OutFault, Incomplete, TurnsSpent}
+use Rattle.command_receive.specs.declared.command.ReceiveEnd.TheVariants.{Done, NoMemory, PlaceFault, LinkFault}
+use Rattle.command_receive.specs.declared.command.ReceiveEnd.TheVariants.{OutFault, Incomplete, TurnsSpent}
 
 abbrev pub end_of_place : ReceiveEnd → Bool
 end_of_place Done = false

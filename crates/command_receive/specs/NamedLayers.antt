@@ -8,7 +8,8 @@ use Rattle.packet_met.specs.LayersText.{record_text}
 use Rattle.store_text.specs.Files.{store_file}
 use Rattle.command_receive.specs.Receives.{layers_file}
 use Rattle.command_receive.specs.declared.command.ReceiveEnd.{ReceiveEnd}
-use Rattle.command_receive.specs.declared.command.ReceiveEnd.TheVariants.{Done, NoMemory, PlaceFault, LinkFault, OutFault, Incomplete, TurnsSpent}
+use Rattle.command_receive.specs.declared.command.ReceiveEnd.TheVariants.{Done, NoMemory, PlaceFault, LinkFault}
+use Rattle.command_receive.specs.declared.command.ReceiveEnd.TheVariants.{OutFault, Incomplete, TurnsSpent}
 
 -- a group, and a layer of it
 abbrev pub Name : Type 0
@@ -28,7 +29,8 @@ AreDistinct (name ∷ names) = (HasName names name.0 name.1 → ⊥) × AreDisti
 abbrev pub IsTextOf : List Name → List ℕ → Type 0
 IsTextOf [] text = text ≡ []
 IsTextOf (name ∷ names) text =
-    (arrival : ℕ) × (bytes : List ℕ) × (rest : List ℕ) × (text ≡ record_text arrival name.0 name.1 bytes ++ rest) × IsTextOf names rest
+    (arrival : ℕ) × (bytes : List ℕ) × (rest : List ℕ) × (text ≡ record_text arrival name.0 name.1 bytes ++ rest)
+    × IsTextOf names rest
 
 -- the text names exactly the layers that are shown, whose counts the packets that are kept reach: each once
 pub record NamesShown (set : KeptSet) (text : List ℕ) : Type 0 where
@@ -37,7 +39,8 @@ pub record NamesShown (set : KeptSet) (text : List ℕ) : Type 0 where
   pub once : AreDistinct names
   pub exactly : (group layer : ℕ) → HasName names group layer ↔ IsShown set group layer
 
--- LAYERS and STORE were written: STORE has a kept set of the session, and LAYERS names exactly the layers whose counts it reaches
+-- LAYERS and STORE were written: STORE has a kept set of the session, and LAYERS names exactly the layers whose counts
+-- it reaches
 pub record NamesStored (session layers store : List ℕ) (before after : OutsideSeen) : Type 0 where
   pub set : KeptSet
   pub sound : IsKeptSet set

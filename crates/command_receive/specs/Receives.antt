@@ -12,7 +12,7 @@ use Rattle.outside_files.specs.Wrote.{File, Wrote}
 use Rattle.outside_routes.specs.Way.{Way, OnFile, OnLink}
 use Rattle.outside_routes.specs.Coming.{HaveCome, KeepsFeed}
 use Rattle.outside_routes.specs.RouteFaults.{BoundFailed}
-use Rattle.outside_routes.specs.Sending.{AreFirst}
+use Rattle.outside_routes.specs.Sending.{AreFirstDatagrams}
 use Rattle.packet_verdicts.specs.KeptSet.{kept_in_all}
 use Rattle.pet_receive.specs.ShownBytes.{IsComplete, shown_in_all}
 use Rattle.store_text.specs.Files.{HasFile, store_file}
@@ -22,25 +22,33 @@ use Rattle.packet_met.specs.Steps.{steps_of_all}
 use Rattle.pet_text.specs.Lines.{bound_text, receive_text}
 use Rattle.command_receive.specs.Opened.{IsBoundTo, IsOpeningUse, IsUntouched, KeepsLink, PortFailed, PrintedPort}
 use Rattle.command_receive.specs.declared.command.ReceiveEnd.{ReceiveEnd}
-use Rattle.command_receive.specs.declared.command.ReceiveEnd.TheVariants.{Done, NoMemory, PlaceFault, LinkFault, OutFault, Incomplete, TurnsSpent}
+use Rattle.command_receive.specs.declared.command.ReceiveEnd.TheVariants.{Done, NoMemory, PlaceFault, LinkFault}
+use Rattle.command_receive.specs.declared.command.ReceiveEnd.TheVariants.{OutFault, Incomplete, TurnsSpent}
 
 -- the whole input is these datagrams, or these are the first 16,777,216 of it
 abbrev pub AreRead : List (List ℕ) → List ℕ → Type 0
-AreRead read bytes = (more : List (List ℕ)) × (datagrams bytes ≡ read ++ more) × (length read < MAX_DATAGRAMS → more ≡ [])
+AreRead read bytes =
+    (more : List (List ℕ)) × (datagrams bytes ≡ read ++ more) × (length read < MAX_DATAGRAMS → more ≡ [])
 
--- These have left the link, and at most one more: that at which the command failed. They are no more than 16,777,216 together.
+-- These have left the link, and at most one more: that at which the command failed. They are no more than 16,777,216
+-- together.
 abbrev pub HaveLeft : List (List ℕ) → Option (List (List ℕ)) → Option (List (List ℕ)) → Type 0
-HaveLeft read old new = (last : List (List ℕ)) × (length last ≤ 1) × (length read + length last ≤ MAX_DATAGRAMS) × HaveCome (read ++ last) old new
+HaveLeft read old new =
+    (last : List (List ℕ)) × (length last ≤ 1) × (length read + length last ≤ MAX_DATAGRAMS)
+    × HaveCome (read ++ last) old new
 
--- FROM is there and these are its datagrams; or these have left the link, where none is left to come. Or they are the first 16,777,216.
+-- FROM is there and these are its datagrams; or these have left the link, where none is left to come. Or they are the
+-- first 16,777,216.
 abbrev pub IsRead : Way → List (List ℕ) → OutsideSeen → OutsideSeen → Type 0
 IsRead (OnFile name) read before after = HasFile before.place.files name (AreRead read)
 IsRead (OnLink address) read before after =
-    HaveCome read before.link.feed after.link.feed × (length read < MAX_DATAGRAMS → IfSome after.link.feed (λ more. more ≡ []))
+    HaveCome read before.link.feed after.link.feed
+    × (length read < MAX_DATAGRAMS → IfSome after.link.feed (λ more. more ≡ []))
 
 -- FROM is there and these are its first datagrams; or these have left the link
 abbrev pub IsReadFirst : Way → List (List ℕ) → OutsideSeen → OutsideSeen → Type 0
-IsReadFirst (OnFile name) read before after = HasFile before.place.files name (λ bytes. AreFirst read (datagrams bytes))
+IsReadFirst (OnFile name) read before after =
+    HasFile before.place.files name (λ bytes. AreFirstDatagrams read (datagrams bytes))
 IsReadFirst (OnLink address) read before after = HaveLeft read before.link.feed after.link.feed
 
 -- the file of layers, with this text
@@ -51,7 +59,8 @@ layers_file layers text = record { name = layers; bytes = text }
 abbrev pub kept_file : List ℕ → List ℕ → List (List ℕ) → File
 kept_file store session read = store_file store (kept_of session read)
 
--- The datagrams of FROM were read, LAYERS has their layers text and STORE the store of what is kept of them, and the field
+-- The datagrams of FROM were read, LAYERS has their layers text and STORE the store of what is kept of them, and the
+-- field
 -- steps that were counted are no more than the bound over the datagrams that were kept.
 pub record Reads (from : Way) (session layers store : List ℕ) (before after : OutsideSeen) : Type 0 where
   pub read : List (List ℕ)
@@ -71,7 +80,8 @@ pub record ReadsFront (from : Way) (session layers : List ℕ) (before after : O
   pub is_text : IsLayersText (nothing_of session) [] 1 read text
   pub file : Wrote [] (Some (layers_file layers text)) before.place after.place
 
--- The datagrams of FROM were read, LAYERS has their layers text, and STORE a front of the store of what is kept of them.
+-- The datagrams of FROM were read, LAYERS has their layers text, and STORE a front of the store of what is kept of
+-- them.
 pub record StoresFront (from : Way) (session layers store : List ℕ) (before after : OutsideSeen) : Type 0 where
   pub read : List (List ℕ)
   pub text : List ℕ
@@ -90,12 +100,14 @@ pub record ReadsUntilFault (session layers : List ℕ) (before after : OutsideSe
   pub file : Wrote (layers_file layers text ∷ []) None before.place after.place
 
 -- LAYERS has such a front, or LAYERS is whole and STORE has one
-abbrev pub LeavesFront : Way → List ℕ → List ℕ → List ℕ → OutsideSeen → OutsideSeen → Type 0
-LeavesFront from session layers store before after = ReadsFront from session layers before after ⊎ StoresFront from session layers store before after
+abbrev pub LeavesLayersFront : Way → List ℕ → List ℕ → List ℕ → OutsideSeen → OutsideSeen → Type 0
+LeavesLayersFront from session layers store before after =
+    ReadsFront from session layers before after ⊎ StoresFront from session layers store before after
 
 -- the line of the numbers
 abbrev pub numbers_text : List ℕ → List (List ℕ) → List ℕ
-numbers_text session read = receive_text (length read) (kept_in_all (kept_of session read)) (shown_in_all (kept_of session read))
+numbers_text session read =
+    receive_text (length read) (kept_in_all (kept_of session read)) (shown_in_all (kept_of session read))
 
 -- the line before it: of a link the port at which it receives
 abbrev pub port_line : Way → LinkSeen → List ℕ
@@ -116,36 +128,46 @@ uses_of (OnLink address) layers store = writing layers ∷ writing store ∷ []
 -- what may be blamed in its turn: FROM, where it is a file, and LAYERS, and STORE where the datagrams of FROM were read
 abbrev pub IsUseInTurn : Way → List ℕ → List ℕ → OutsideSeen → OutsideSeen → Blame → Type 0
 IsUseInTurn from layers store before after blame =
-    IsOpeningUse from layers blame ⊎ ((blame ≡ writing store) × ((read : List (List ℕ)) × IsRead from read before after))
+    IsOpeningUse from layers blame
+    ⊎ ((blame ≡ writing store) × ((read : List (List ℕ)) × IsRead from read before after))
 
--- At an end that tells of what was read, the datagrams were read, LAYERS and STORE are whole and the line of the numbers was printed, or
--- a front of it where the output failed. Where memory or the place failed LAYERS, or then STORE, has at most a front; where the link failed
--- LAYERS has the whole text of what came; and the line of the numbers was not printed. Of a link the line of the port was printed before
+-- At an end that tells of what was read, the datagrams were read, LAYERS and STORE are whole and the line of the
+-- numbers was printed, or
+-- a front of it where the output failed. Where memory or the place failed LAYERS, or then STORE, has at most a front;
+-- where the link failed
+-- LAYERS has the whole text of what came; and the line of the numbers was not printed. Of a link the line of the port
+-- was printed before
 -- LAYERS was made.
 abbrev pub EndsReceive : Way → List ℕ → List ℕ → List ℕ → OutsideSeen → OutsideSeen → ReceiveEnd → Type 0
 EndsReceive from session layers store before after Done =
     (r : Reads from session layers store before after)
-    × (length r.read < MAX_DATAGRAMS) × IsComplete (kept_of session r.read) × Printed (port_line from after.link ++ numbers_text session r.read) before after
+    × (length r.read < MAX_DATAGRAMS) × IsComplete (kept_of session r.read)
+    × Printed (port_line from after.link ++ numbers_text session r.read) before after
 EndsReceive from session layers store before after Incomplete =
     (r : Reads from session layers store before after)
-    × (length r.read < MAX_DATAGRAMS) × (IsComplete (kept_of session r.read) → ⊥) × Printed (port_line from after.link ++ numbers_text session r.read) before after
+    × (length r.read < MAX_DATAGRAMS) × (IsComplete (kept_of session r.read) → ⊥)
+    × Printed (port_line from after.link ++ numbers_text session r.read) before after
 EndsReceive from session layers store before after TurnsSpent =
     (r : Reads from session layers store before after)
     × (length r.read ≡ MAX_DATAGRAMS) × Printed (port_line from after.link ++ numbers_text session r.read) before after
 EndsReceive from session layers store before after OutFault =
     (IsUntouched from before after × PortFailed from before after)
-    ⊎ ((r : Reads from session layers store before after) × PrintedFrontBehind (port_line from after.link) (numbers_text session r.read) before after)
+    ⊎ ((r : Reads from session layers store before after)
+    × PrintedFrontBehind (port_line from after.link) (numbers_text session r.read) before after)
 EndsReceive from session layers store before after NoMemory =
     (IsUntouched from before after × Unprinted before after)
-    ⊎ (LeavesFront from session layers store before after × PrintedPort from before after)
+    ⊎ (LeavesLayersFront from session layers store before after × PrintedPort from before after)
 EndsReceive from session layers store before after PlaceFault =
     HadFault before.place after.place (IsUseInTurn from layers store before after)
-    × (IsUntouched from before after ⊎ LeavesFront from session layers store before after) × PrintedPort from before after
+    × (IsUntouched from before after ⊎ LeavesLayersFront from session layers store before after)
+    × PrintedPort from before after
 EndsReceive from session layers store before after LinkFault =
     BoundFailed from before.link after.link
-    × ((IsUntouched from before after × Unprinted before after) ⊎ (ReadsUntilFault session layers before after × PrintedPort from before after))
+    × ((IsUntouched from before after × Unprinted before after)
+    ⊎ (ReadsUntilFault session layers before after × PrintedPort from before after))
 
--- The link receives at FROM, at each end that tells of what came or comes behind the making of LAYERS. Want of memory, and a failure of
+-- The link receives at FROM, at each end that tells of what came or comes behind the making of LAYERS. Want of memory,
+-- and a failure of
 -- the link, may come before, and then nothing has left it.
 abbrev pub IsBoundAtEnd : Way → LinkSeen → LinkSeen → ReceiveEnd → Type 0
 IsBoundAtEnd from old new Done = IsBoundTo from old new
@@ -156,8 +178,10 @@ IsBoundAtEnd from old new PlaceFault = IsBoundTo from old new
 IsBoundAtEnd from old new NoMemory = KeepsFeed from old new ⊎ IsBoundTo from old new
 IsBoundAtEnd from old new LinkFault = KeepsFeed from old new ⊎ IsBoundTo from old new
 
--- what `receive` does: it sends nothing, the link receives at FROM, and the faults of the link and of the output do not fall
-pub record Receives (from : Way) (session layers store : List ℕ) (before after : OutsideSeen) (end : ReceiveEnd) : Type 0 where
+-- what `receive` does: it sends nothing, the link receives at FROM, and the faults of the link and of the output do not
+-- fall
+pub record Receives (from : Way) (session layers store : List ℕ) (before after : OutsideSeen)
+    (end : ReceiveEnd) : Type 0 where
   pub link : KeepsLink from before.link after.link
   pub bound : IsBoundAtEnd from before.link after.link end
   pub later : before.out_faults ≤ after.out_faults

@@ -25,9 +25,11 @@ abbrev pub HasDatagrams : Way → Files → List (List ℕ) → OutsideSeen → 
 HasDatagrams (OnFile name) files ds old = (bytes : List ℕ) × (files name ≡ Some bytes) × (datagrams bytes ≡ ds)
 HasDatagrams (OnLink address) files ds old = old.link.feed ≡ Some ds
 
--- The place tells its files, and FROM has these datagrams. They are fewer than 16,777,216, and each that is a frame of the session's
+-- The place tells its files, and FROM has these datagrams. They are fewer than 16,777,216, and each that is a frame of
+-- the session's
 -- number is one of the session's packets.
-pub record HasPacketsOf (s : Session) (from : Way) (files : Files) (ds : List (List ℕ)) (old : OutsideSeen) : Type 0 where
+pub record HasPacketsOf (s : Session) (from : Way) (files : Files) (ds : List (List ℕ))
+    (old : OutsideSeen) : Type 0 where
   pub session : IsSession 2 s
   pub fits : Fits s MAX_SESSION
   pub told : old.place.files ≡ Some files
@@ -35,8 +37,10 @@ pub record HasPacketsOf (s : Session) (from : Way) (files : Files) (ds : List (L
   pub few : length ds < MAX_DATAGRAMS
   pub packets : All (λ d. first_fault d ≡ None → (fields_of d).session ≡ s.number → IsItsPacket s (fields_of d)) ds
 
--- The premises of the headline: memory was found, neither the place, the link nor the output had a fault of this call, and FROM is so.
-pub record CanReceive (s : Session) (from : Way) (layers store : List ℕ) (files : Files) (ds : List (List ℕ)) (before after : OutsideSeen) (end : ReceiveEnd) : Type 0 where
+-- The premises of the headline: memory was found, neither the place, the link nor the output had a fault of this call,
+-- and FROM is so.
+pub record CanReceive (s : Session) (from : Way) (layers store : List ℕ) (files : Files) (ds : List (List ℕ))
+    (before after : OutsideSeen) (end : ReceiveEnd) : Type 0 where
   pub memory : end ≢ NoMemory
   pub well : IsWell (uses_of from layers store) before after
   pub link : BoundFailed from before.link after.link → ⊥
@@ -46,12 +50,17 @@ pub record CanReceive (s : Session) (from : Way) (layers store : List ℕ) (file
 abbrev pub session_numbers : Session → List (List ℕ) → List ℕ
 session_numbers s ds = receive_text (length ds) (count_met s (met_in s.number ds)) (count_shown s (met_in s.number ds))
 
--- The headline: LAYERS has each shown layer's exact bytes once, numbered by the arrival at which the group's distinct packets reached
--- the layer's count; STORE is the store of the session's packets that were met; the end is Done exactly where every layer of every
--- group is shown, and else Incomplete; the link, where FROM is one, receives at its address; the lines printed are the defined ones;
+-- The headline: LAYERS has each shown layer's exact bytes once, numbered by the arrival at which the group's distinct
+-- packets reached
+-- the layer's count; STORE is the store of the session's packets that were met; the end is Done exactly where every
+-- layer of every
+-- group is shown, and else Incomplete; the link, where FROM is one, receives at its address; the lines printed are the
+-- defined ones;
 -- and the packets of each group carry the fewest stripes.
-pub record ReceivesSession (s : Session) (from : Way) (layers store : List ℕ) (files : Files) (ds : List (List ℕ)) (before after : OutsideSeen) (end : ReceiveEnd) : Type 0 where
-  pub written : after.place.files ≡ Some (with_file store (session_store s ds) (with_file layers (layers_text s ds) files))
+pub record ReceivesSession (s : Session) (from : Way) (layers store : List ℕ) (files : Files) (ds : List (List ℕ))
+    (before after : OutsideSeen) (end : ReceiveEnd) : Type 0 where
+  pub written : after.place.files
+      ≡ Some (with_file store (session_store s ds) (with_file layers (layers_text s ds) files))
   pub ended : end ≡ (if all_shown s (met_in s.number ds) then Done else Incomplete)
   pub listens : IsBoundTo from before.link after.link
   pub printed : Printed (port_line from after.link ++ session_numbers s ds) before after
@@ -60,5 +69,6 @@ pub record ReceivesSession (s : Session) (from : Way) (layers store : List ℕ) 
 -- so it is for every session and every such FROM
 abbrev pub CompletesReceive : Way → List ℕ → List ℕ → List ℕ → OutsideSeen → OutsideSeen → ReceiveEnd → Type 0
 CompletesReceive from session layers store before after end =
-    (s : Session) (files : Files) (ds : List (List ℕ)) → session ≡ s.number → CanReceive s from layers store files ds before after end
+    (s : Session) (files : Files) (ds : List (List ℕ)) → session ≡ s.number
+    → CanReceive s from layers store files ds before after end
     → ReceivesSession s from layers store files ds before after end

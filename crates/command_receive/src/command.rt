@@ -6,7 +6,7 @@ ghost use Rattle.pet_base.specs.Seen.{PlaceStops};
 ghost use Rattle.command_receive.specs.Failures.{end_of_place, end_of_link};
 ghost use Rattle.outside_routes.specs.Way.{way_of};
 ghost use Rattle.pet_text.specs.Lines.{receive_text};
-ghost use Rattle.command_receive.specs.Numbers.{IsEndOf, EndsWith, end_of};
+ghost use Rattle.command_receive.specs.inside.Numbers.{IsEndOf, PrintsTotals, end_of};
 ghost use Rattle.command_receive.specs.Receives.{Receives};
 ghost use Rattle.command_receive.specs.ReceivesSession.{CompletesReceive};
 ghost use Rattle.command_receive.specs.NamedLayers.{NamesWhatItStores};
@@ -81,7 +81,7 @@ fn stopped(stop: RouteStop) -> ReceiveEnd
 
 /// Prints the line of the numbers, and says how the command ends.
 fn print_numbers<S: Sink>(alloc: Global, totals: Totals, out: &mut S) -> ReceiveEnd
-    ensures ends { EndsWith totals (S.written out.old) (S.written out.new) (S.faults out.old)
+    ensures ends { PrintsTotals totals (S.written out.old) (S.written out.new) (S.faults out.old)
         (S.faults out.new) result }
     ensures later { S.faults out.old ≤ S.faults out.new }
 {

@@ -7,7 +7,8 @@ ghost use Rattle.pet_base.specs.Seen.{PlaceStops};
 ghost use Rattle.outside_routes.specs.RouteFaults.{stop_of_a_place, stop_of_a_link};
 ghost use Rattle.outside_routes.specs.Way.{OnFile, OnLink, way_of};
 ghost use Rattle.pet_text.specs.Lines.{bound_text};
-ghost use Rattle.command_receive.specs.Opened.{Begins, IsBoundWhereStopped, IsUntouched, OnlyOpens, Opened, StopsOpening};
+ghost use Rattle.command_receive.specs.Opened.{IsUntouched};
+ghost use Rattle.command_receive.specs.inside.Opened.{Begins, IsBoundWhereStopped, OnlyOpens, Opened, StopsOpening};
 
 use outside_routes::{Route, RouteStop};
 use pet_base::{Link, NoMemory, Outside, Place, Sink};

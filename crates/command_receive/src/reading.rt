@@ -20,20 +20,21 @@ ghost use Rattle.outside_routes.specs.RouteFaults.{IsStop, ReceivingFailed, stop
 ghost use Rattle.packet_met.specs.Gf16.{HasKeptIn, IsTextAt};
 ghost use Rattle.packet_met.specs.LayersText.{order_after};
 ghost use Rattle.packet_met.specs.Steps.{steps_of};
-ghost use Rattle.command_receive.specs.Numbers.{AreTotals, end_of};
-ghost use Rattle.command_receive.specs.Opened.{IsBoundTo, IsBoundWhereStopped, KeepsLink, OnlyOpens, Opened, PrintedPort};
+ghost use Rattle.command_receive.specs.inside.Numbers.{AreTotals, end_of};
+ghost use Rattle.command_receive.specs.Opened.{IsBoundTo, KeepsLink, PrintedPort};
+ghost use Rattle.command_receive.specs.inside.Opened.{IsBoundWhereStopped, OnlyOpens, Opened};
 ghost use Rattle.command_receive.specs.Receives.{Reads, EndsReceive};
-ghost use Rattle.command_receive.specs.SoFar.{HasReceived, StoppedSoFar, PartOfOne, LinkReceives, IsReadingUse};
+ghost use Rattle.command_receive.specs.inside.SoFar.{HasReceived, StoppedSoFar, PartOfOne, LinkReceives, IsReadingUse};
 
 use crate::opening::open;
 use outside_routes::{Route, RouteStop, next_datagram};
-use packet_verdicts::{Verdict, group_of};
 use packet_met::put_shown;
+use packet_verdicts::{Verdict, group_of};
 use pet_base::{
     Entry, Link, MAX_DATAGRAMS, MAX_ENTRY, MAX_SESSION, Outside, Place, Sink, Steps, Stop,
 };
-use pet_receive::Receiver;
 use pet_field::Gf16Tables;
+use pet_receive::Receiver;
 use std::alloc::{AllocError, Global};
 use std::sync::ledger::Ledger;
 use store_merge::write_store_file;

@@ -21,23 +21,32 @@ there_at (y ∷ ys) zero d x e = same_Some y x e
 there_at (y ∷ ys) (suc k) d x e = there_at ys k d x e
 
 -- an encoder of this header and this message
-pub encoder_is : {X : Type 0} (r : Result Encoding X) (source : Source) (number : ℕ) (g : CutGroup) (header : Header) (bytes : List ℕ) → IfOk r (λ e. e.header ≡ header) → IfOk r (λ e. e.message ≡ bytes)
-    → header ≡ record { session = source.number; groups = length source.tables.items; group = number; table = table_of source.priority g.cut }
+pub encoder_is : {X : Type 0} (r : Result Encoding X) (source : Source) (number : ℕ) (g : CutGroup) (header : Header)
+    (bytes : List ℕ) → IfOk r (λ e. e.header ≡ header) → IfOk r (λ e. e.message ≡ bytes)
+    → header ≡ record {
+      session = source.number;
+      groups = length source.tables.items;
+      group = number;
+      table = table_of source.priority g.cut;
+    }
     → bytes ≡ message g.bytes g.cut.runs (length source.priority.layers) → IfOk r (λ e. e ≡ encoding_of source number g)
-encoder_is (Ok e) source number g header bytes h m is words = ap₂ (λ (x : Header) (y : List ℕ). record { header = x; message = y }) (h ∙ is) (m ∙ words)
+encoder_is (Ok e) source number g header bytes h m is words =
+    ap₂ (λ (x : Header) (y : List ℕ). record { header = x; message = y }) (h ∙ is) (m ∙ words)
 encoder_is (Err x) source number g header bytes h m is words = tt
 
 abbrev pub head : List ℕ → ℕ → ℕ → Sizes → Header
 head session groups number table = record { session = session; groups = groups; group = number; table = table }
 
-pub header_is : (session : List ℕ) (groups many number : ℕ) (table other : Sizes) → groups ≡ many → table ≡ other → head session groups number table ≡ head session many number other
+pub header_is : (session : List ℕ) (groups many number : ℕ) (table other : Sizes) → groups ≡ many → table ≡ other
+    → head session groups number table ≡ head session many number other
 header_is session groups many number table other e t = ap₂ (λ (n : ℕ) (s : Sizes). head session n number s) e t
 
 pub ok_same : {A E : Type 0} (x y : A) (r : Result A E) → r ≡ Ok x → r ≡ Ok y → x ≡ y
 ok_same x y r p q = cc
 
 -- one more of the first elements of a list
-pub front_more : {A : Type 0} (xs later : List A) (x : A) → slice_get (xs ++ later) (length xs) ≡ Some x → (rest : List A) × (xs ++ later ≡ (xs ++ x ∷ []) ++ rest)
+pub front_more : {A : Type 0} (xs later : List A) (x : A) → slice_get (xs ++ later) (length xs) ≡ Some x
+    → (rest : List A) × (xs ++ later ≡ (xs ++ x ∷ []) ++ rest)
 front_more [] [] x e = absurd (no_some x e)
 front_more [] (y ∷ ys) x e = (ys, ap (λ z. z ∷ ys) (same_Some y x e))
 front_more (z ∷ xs) later x e = let more = front_more xs later x e in (more.0, ap (λ l. z ∷ l) more.1)

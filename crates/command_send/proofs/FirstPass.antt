@@ -13,13 +13,21 @@ use Rattle.stream_session.specs.Sources.{IsSource}
 use Rattle.command_send.specs.Sending.{IsFirstPass}
 
 -- as many marks as tables
-pub as_many : (files : Option Files) (stream priority : List ℕ) (source : Source) (marks : List GroupMark) (s : IsSource files stream priority source) → marks ≡ marks_of (priorities_of s.file) s.bytes → length marks ≡ length source.tables.items
-as_many files stream priority source marks s are = ap length are ∙ length-marks (priorities_of s.file) s.bytes ∙ sym (ap length s.tables)
+pub as_many : (files : Option Files) (stream priority : List ℕ) (source : Source) (marks : List GroupMark)
+    (s : IsSource files stream priority source) → marks ≡ marks_of (priorities_of s.file) s.bytes
+    → length marks ≡ length source.tables.items
+as_many files stream priority source marks s are =
+    ap length are ∙ length-marks (priorities_of s.file) s.bytes ∙ sym (ap length s.tables)
 
 -- and no more than a session may have
-pub few_tables : (files : Option Files) (stream priority : List ℕ) (source : Source) → IsSource files stream priority source → length source.tables.items ≤ MAX_GROUPS
+pub few_tables : (files : Option Files) (stream priority : List ℕ) (source : Source)
+    → IsSource files stream priority source → length source.tables.items ≤ MAX_GROUPS
 few_tables files stream priority source s =
-    subst (λ (n : ℕ). n ≤ MAX_GROUPS) (sym (ap length s.tables)) (tables_few (priorities_of s.file) (pieces_of s.bytes) s.accepted.fits)
+    subst (λ (n : ℕ). n ≤ MAX_GROUPS) (sym (ap length s.tables))
+    (tables_few (priorities_of s.file) (pieces_of s.bytes) s.accepted.fits)
 
-pub first_pass : (files : Option Files) (stream priority : List ℕ) (source : Source) (marks : List GroupMark) (s : IsSource files stream priority source) → marks ≡ marks_of (priorities_of s.file) s.bytes → IsFirstPass s.file s.bytes source marks
-first_pass files stream priority source marks s are = record { accepted = s.accepted; rules = s.rules; number = s.number; tables = s.tables; marks_are = are }
+pub first_pass : (files : Option Files) (stream priority : List ℕ) (source : Source) (marks : List GroupMark)
+    (s : IsSource files stream priority source) → marks ≡ marks_of (priorities_of s.file) s.bytes
+    → IsFirstPass s.file s.bytes source marks
+first_pass files stream priority source marks s are =
+    record { accepted = s.accepted; rules = s.rules; number = s.number; tables = s.tables; marks_are = are }

@@ -1,5 +1,6 @@
 -- The group at which the second pass finds a change, and the end of the pass.
-use Rattle.std.proofs.Common.{◌≡◌, ℕ, suc, ◌<◌, ◌≤◌, List, [], ◌∷◌, ◌++◌, length, take, drop, get_or, ◌+◌, Option, Some, None, refl, sym, ◌∙◌, ap, subst, arith, inl, inr}
+use Rattle.std.proofs.Common.{◌≡◌, ℕ, suc, ◌<◌, ◌≤◌, List, [], ◌∷◌, ◌++◌, length, take, drop, get_or, ◌+◌, Option, Some}
+use Rattle.std.proofs.Common.{None, refl, sym, ◌∙◌, ap, subst, arith, inl, inr}
 use Rattle.std.specs.Prelude.{slice_get, IfSome, IfNone, MatchOption, is_some, true, false}
 use Rattle.std.proofs.lemmas.Bool.{cases_lt}
 use Rattle.std.proofs.lemmas.Option.{slice_get_within}
@@ -15,8 +16,10 @@ use Rattle.stream_session.specs.Tables.{table_of}
 use Rattle.stream_session.specs.Marks.{no_mark, mark_at}
 use Rattle.command_send.specs.declared.sent_group.Change.{Change}
 use Rattle.command_send.specs.declared.second.SentGroups.{SentGroups}
-use Rattle.command_send.specs.Sending.{AgreeBelow, AreFound, AreAllFound, IsNext, HasSentSome, IsChange, IsAllSent}
-use Rattle.command_send.specs.Second.{HasGone, HasMetChange, HasReached, Ends, SendsGroup, Differs, IsFirstLost, NoneLost}
+use Rattle.command_send.specs.Sending.{AgreeBelow, AreFound, AreAllFound, IsNext}
+use Rattle.command_send.specs.inside.Sending.{HasSentSome, IsChange, IsAllSent}
+use Rattle.command_send.specs.inside.Second.{HasGone, HasMetChange, HasReached, Ends, SendsGroup, Differs, IsFirstLost}
+use Rattle.command_send.specs.inside.Second.{NoneLost}
 use Rattle.command_send.proofs.FoundGroups.{found_before, found_of_all}
 use Rattle.command_send.proofs.GroupsSoFar.{mark_past, left_split, left_length}
 
@@ -35,30 +38,42 @@ when_change None some p = absurd cc
 when_change (Some c) some p = p
 
 -- what `send_group` answered where it found none
-pub sends_none : (A : Type 0) (B : Change → Type 0) (change : Option Change) → is_some change ≡ false → MatchOption change A B → A
+pub sends_none : (A : Type 0) (B : Change → Type 0) (change : Option Change) → is_some change ≡ false
+    → MatchOption change A B → A
 sends_none A B None none a = a
 sends_none A B (Some c) none b = absurd cc
 
 -- its group then has a table
-pub sent_within : (way : Way) (source : Source) (marks : List GroupMark) (number : ℕ) (g : CutGroup) (before after : Routes) (change : Option Change) → is_some change ≡ false
-    → MatchOption change (SendsGroup way source marks number g before after) (Differs source marks number g before after) → number < length source.tables.items
-sent_within way source marks number g before after None none sends = slice_get_within source.tables.items number (table_of source.priority g.cut) sends.0.table
+pub sent_within : (way : Way) (source : Source) (marks : List GroupMark) (number : ℕ) (g : CutGroup)
+    (before after : Routes) (change : Option Change) → is_some change ≡ false
+    → MatchOption change (SendsGroup way source marks number g before after)
+    (Differs source marks number g before after) → number < length source.tables.items
+sent_within way source marks number g before after None none sends =
+    slice_get_within source.tables.items number (table_of source.priority g.cut) sends.0.table
 sent_within way source marks number g before after (Some c) none sends = absurd cc
 
 -- the next group is another
-next_at : (way : Way) (source : Source) (marks : List GroupMark) (stream : List ℕ) (groups : List CutGroup) (g : CutGroup) (before after : Routes) (change : Change) → AreFound source.priority stream (groups ++ g ∷ [])
-    → Differs source marks (length groups) g before after change → IsNext source.priority source.tables.items marks stream groups change.group change.second
+next_at : (way : Way) (source : Source) (marks : List GroupMark) (stream : List ℕ) (groups : List CutGroup)
+    (g : CutGroup) (before after : Routes) (change : Change) → AreFound source.priority stream (groups ++ g ∷ [])
+    → Differs source marks (length groups) g before after change
+    → IsNext source.priority source.tables.items marks stream groups change.group change.second
 next_at way source marks stream groups g before after change found d = record {
   next = g;
   at = d.group;
   found = found;
   marked = elim d.marked [
     | inl is ↦ inl is
-    | inr other ↦ inr (other.0, ap (mark_at marks) d.group ∙ other.1, λ e. other.2 (subst (λ n. slice_get source.tables.items n ≡ Some (table_of source.priority g.cut)) d.group e))
+    | inr other ↦ inr (
+      other.0,
+      ap (mark_at marks) d.group ∙ other.1,
+      λ e. other.2 (subst (λ n. slice_get source.tables.items n ≡ Some (table_of source.priority g.cut)) d.group e),
+    )
   ];
 }
 
-change_is : (way : Way) (source : Source) (marks : List GroupMark) (stream : List ℕ) (groups : List CutGroup) (g : CutGroup) (first before after : Routes) (change : Change) → HasSentSome way source marks groups first before → AreFound source.priority stream (groups ++ g ∷ [])
+change_is : (way : Way) (source : Source) (marks : List GroupMark) (stream : List ℕ) (groups : List CutGroup)
+    (g : CutGroup) (first before after : Routes) (change : Change) → HasSentSome way source marks groups first before
+    → AreFound source.priority stream (groups ++ g ∷ [])
     → Differs source marks (length groups) g before after change → IsChange way source marks stream change first after
 change_is way source marks stream groups g first before after change h found d = record {
   least = record {
@@ -72,18 +87,27 @@ change_is way source marks stream groups g first before after change h found d =
   sent = subst (HasSentSome way source marks groups first) (sym d.still) h;
 }
 
-change_at : (way : Way) (source : Source) (marks : List GroupMark) (stream : List ℕ) (groups : List CutGroup) (g : CutGroup) (first before after : Routes) (change : Change) → HasSentSome way source marks groups first before → HaveEnded source.priority stream (groups ++ g ∷ [])
-    → Differs source marks (length groups) g before after change → HasMetChange way source marks stream first after change
+change_at : (way : Way) (source : Source) (marks : List GroupMark) (stream : List ℕ) (groups : List CutGroup)
+    (g : CutGroup) (first before after : Routes) (change : Change) → HasSentSome way source marks groups first before
+    → HaveEnded source.priority stream (groups ++ g ∷ [])
+    → Differs source marks (length groups) g before after change
+    → HasMetChange way source marks stream first after change
 unfolding change_is next_at
-change_at way source marks stream groups g first before after change h ended d =
-    (change_is way source marks stream groups g first before after change h (inl ended) d, next_at way source marks stream groups g before after change (inl ended) d, ended)
+change_at way source marks stream groups g first before after change h ended d = (
+  change_is way source marks stream groups g first before after change h (inl ended) d,
+  next_at way source marks stream groups g before after change (inl ended) d,
+  ended,
+)
 
 -- a change stays one, however the stream goes on
-change_longer : (way : Way) (source : Source) (marks : List GroupMark) (stream portion : List ℕ) (change : Change) (first now : Routes) → HasMetChange way source marks stream first now change → HasMetChange way source marks (stream ++ portion) first now change
+change_longer : (way : Way) (source : Source) (marks : List GroupMark) (stream portion : List ℕ) (change : Change)
+    (first now : Routes) → HasMetChange way source marks stream first now change
+    → HasMetChange way source marks (stream ++ portion) first now change
 change_longer way source marks stream portion change first now h =
     let priority = source.priority in
     let ended = ended_longer priority stream portion (h.0.least.before ++ h.1.next ∷ []) h.2 in
-    let next : IsNext priority source.tables.items marks (stream ++ portion) h.0.least.before change.group change.second =
+    let next : IsNext priority source.tables.items marks
+    (stream ++ portion) h.0.least.before change.group change.second =
     record { next = h.1.next; at = h.1.at; found = inl ended; marked = h.1.marked } in (
       record {
         least = record {
@@ -100,34 +124,50 @@ change_longer way source marks stream portion change first now h =
       ended,
     )
 
-pub stands_longer : (way : Way) (source : Source) (marks : List GroupMark) (stream portion : List ℕ) (c : Change) (change : Option Change) (pass : SentGroups) (first now : Routes) → change ≡ Some c → HasReached way source marks stream change pass first now → HasReached way source marks (stream ++ portion) change pass first now
+pub stands_longer : (way : Way) (source : Source) (marks : List GroupMark) (stream portion : List ℕ) (c : Change)
+    (change : Option Change) (pass : SentGroups) (first now : Routes) → change ≡ Some c
+    → HasReached way source marks stream change pass first now
+    → HasReached way source marks (stream ++ portion) change pass first now
 stands_longer way source marks stream portion c None pass first now some h = absurd cc
-stands_longer way source marks stream portion c (Some change) pass first now some h = change_longer way source marks stream portion change first now h
+stands_longer way source marks stream portion c (Some change) pass first now some h =
+    change_longer way source marks stream portion change first now h
 
-gone_change : (way : Way) (source : Source) (marks : List GroupMark) (stream : List ℕ) (old : SentGroups) (cutter : GroupCutter) (g : CutGroup) (first before after : Routes) (change : Change) → HasGone way source marks stream old first before
-    → ((given : List CutGroup) → HasCut old.cutter source.priority stream given → HasCut cutter source.priority stream (given ++ g ∷ []))
+gone_change : (way : Way) (source : Source) (marks : List GroupMark) (stream : List ℕ) (old : SentGroups)
+    (cutter : GroupCutter) (g : CutGroup) (first before after : Routes) (change : Change)
+    → HasGone way source marks stream old first before
+    → ((given : List CutGroup) → HasCut old.cutter source.priority stream given
+    → HasCut cutter source.priority stream (given ++ g ∷ []))
     → Differs source marks old.sent g before after change → HasMetChange way source marks stream first after change
 gone_change way source marks stream old cutter g first before after change h cut d =
-    change_at way source marks stream h.groups g first before after change h.sent (given_ended cutter source.priority stream (h.groups ++ g ∷ []) (cut h.groups h.cut))
+    change_at way source marks stream h.groups g first before after change h.sent
+    (given_ended cutter source.priority stream (h.groups ++ g ∷ []) (cut h.groups h.cut))
     (subst (λ n. Differs source marks n g before after change) h.number d)
 
 -- and where it found one
-pub stands_change : (way : Way) (source : Source) (marks : List GroupMark) (stream : List ℕ) (old new : SentGroups) (cutter : GroupCutter) (g : CutGroup) (first before after : Routes) (change : Option Change) → is_some change ≡ true
-    → MatchOption change (SendsGroup way source marks old.sent g before after) (Differs source marks old.sent g before after) → HasGone way source marks stream old first before
-    → ((given : List CutGroup) → HasCut old.cutter source.priority stream given → HasCut cutter source.priority stream (given ++ g ∷ []))
+pub stands_change : (way : Way) (source : Source) (marks : List GroupMark) (stream : List ℕ) (old new : SentGroups)
+    (cutter : GroupCutter) (g : CutGroup) (first before after : Routes) (change : Option Change) → is_some change ≡ true
+    → MatchOption change (SendsGroup way source marks old.sent g before after)
+    (Differs source marks old.sent g before after) → HasGone way source marks stream old first before
+    → ((given : List CutGroup) → HasCut old.cutter source.priority stream given
+    → HasCut cutter source.priority stream (given ++ g ∷ []))
     → HasReached way source marks stream change new first after
 stands_change way source marks stream old new cutter g first before after None some sends h cut = absurd cc
-stands_change way source marks stream old new cutter g first before after (Some c) some sends h cut = gone_change way source marks stream old cutter g first before after c h cut sends
+stands_change way source marks stream old new cutter g first before after (Some c) some sends h cut =
+    gone_change way source marks stream old cutter g first before after c h cut sends
 
 -- beyond the groups the marks agree where the first pass has none
-agree_past : (marks : List GroupMark) (groups : List CutGroup) (limit : ℕ) → AgreeBelow marks groups (length groups) → ((k : ℕ) → length groups ≤ k → k < limit → mark_at marks k ≡ no_mark) → AgreeBelow marks groups limit
+agree_past : (marks : List GroupMark) (groups : List CutGroup) (limit : ℕ) → AgreeBelow marks groups (length groups)
+    → ((k : ℕ) → length groups ≤ k → k < limit → mark_at marks k ≡ no_mark) → AgreeBelow marks groups limit
 agree_past marks groups limit agree none k lt = elim (cases_lt k (length groups)) [
   | inl below ↦ agree k below
   | inr from ↦ none k from lt ∙ sym (mark_past groups k from)
 ]
 
-lost_change : (way : Way) (source : Source) (marks : List GroupMark) (stream : List ℕ) (groups : List CutGroup) (from : ℕ) (first now : Routes) (change : Change) → from ≡ length groups → HasSentSome way source marks groups first now
-    → AreAllFound source.priority stream groups → IsFirstLost marks from change → IsChange way source marks stream change first now
+lost_change : (way : Way) (source : Source) (marks : List GroupMark) (stream : List ℕ) (groups : List CutGroup)
+    (from : ℕ) (first now : Routes) (change : Change) → from ≡ length groups
+    → HasSentSome way source marks groups first now
+    → AreAllFound source.priority stream groups → IsFirstLost marks from change
+    → IsChange way source marks stream change first now
 lost_change way source marks stream groups from first now change at h all lost = record {
   least = record {
     before = groups;
@@ -140,7 +180,8 @@ lost_change way source marks stream groups from first now change at h all lost =
   sent = h;
 }
 
-all_sent : (way : Way) (source : Source) (marks : List GroupMark) (stream : List ℕ) (groups : List CutGroup) (from : ℕ) (first now : Routes) → from ≡ length groups → HasSentSome way source marks groups first now
+all_sent : (way : Way) (source : Source) (marks : List GroupMark) (stream : List ℕ) (groups : List CutGroup) (from : ℕ)
+    (first now : Routes) → from ≡ length groups → HasSentSome way source marks groups first now
     → AreAllFound source.priority stream groups → NoneLost marks from → IsAllSent way source marks stream first now
 all_sent way source marks stream groups from first now at h all none = record {
   groups = groups;
@@ -150,17 +191,30 @@ all_sent way source marks stream groups from first now at h all none = record {
 }
 
 -- the end of the pass, where these are all groups that it found
-pub ends_lost : (way : Way) (source : Source) (marks : List GroupMark) (stream : List ℕ) (groups : List CutGroup) (from : ℕ) (first now : Routes) (change : Option Change) → from ≡ length groups → HasSentSome way source marks groups first now
-    → AreAllFound source.priority stream groups → IfSome change (IsFirstLost marks from) → IfNone change (NoneLost marks from) → Ends way source marks stream change first now
-ends_lost way source marks stream groups from first now None at h all lost none = all_sent way source marks stream groups from first now at h all none
-ends_lost way source marks stream groups from first now (Some change) at h all lost none = lost_change way source marks stream groups from first now change at h all lost
+pub ends_lost : (way : Way) (source : Source) (marks : List GroupMark) (stream : List ℕ) (groups : List CutGroup)
+    (from : ℕ) (first now : Routes) (change : Option Change) → from ≡ length groups
+    → HasSentSome way source marks groups first now
+    → AreAllFound source.priority stream groups → IfSome change (IsFirstLost marks from)
+    → IfNone change (NoneLost marks from) → Ends way source marks stream change first now
+ends_lost way source marks stream groups from first now None at h all lost none =
+    all_sent way source marks stream groups from first now at h all none
+ends_lost way source marks stream groups from first now (Some change) at h all lost none =
+    lost_change way source marks stream groups from first now change at h all lost
 
 -- one of the groups that are left is another
-pub left_change : (way : Way) (source : Source) (marks : List GroupMark) (stream : List ℕ) (before groups : List CutGroup) (i from number : ℕ) (g : CutGroup) (first old new : Routes) (change : Option Change)
-    → is_some change ≡ true → i < length groups → get_or groups i g ≡ g → from ≡ length before → number ≡ from + i → AreAll source.priority stream (before ++ groups) → HasSentSome way source marks (before ++ take i groups) first old
-    → MatchOption change (SendsGroup way source marks number g old new) (Differs source marks number g old new) → Ends way source marks stream change first new
-left_change way source marks stream before groups i from number g first old new None some lt is at count all h sends = absurd cc
-left_change way source marks stream before groups i from number g first old new (Some c) some lt is at count all h sends =
+pub left_change : (way : Way) (source : Source) (marks : List GroupMark) (stream : List ℕ)
+    (before groups : List CutGroup) (i from number : ℕ) (g : CutGroup) (first old new : Routes) (change : Option Change)
+    → is_some change ≡ true → i < length groups → get_or groups i g ≡ g → from ≡ length before → number ≡ from + i
+    → AreAll source.priority stream (before ++ groups)
+    → HasSentSome way source marks (before ++ take i groups) first old
+    → MatchOption change (SendsGroup way source marks number g old new) (Differs source marks number g old new)
+    → Ends way source marks stream change first new
+left_change way source marks stream before groups i from number g first old new None some lt is at count all h sends =
+    absurd cc
+left_change way source marks stream before groups i from number g first old new (Some c) some lt is at count all h
+    sends =
     let sent = before ++ take i groups in
-    let found = found_of_all source.priority stream (sent ++ g ∷ []) (drop (i + 1) groups) (subst (AreAll source.priority stream) (left_split before groups i g lt is).1 all) in
-    change_is way source marks stream sent g first old new c h found (subst (λ n. Differs source marks n g old new c) (left_length before groups i from number lt at count) sends)
+    let found = found_of_all source.priority stream (sent ++ g ∷ []) (drop (i + 1) groups)
+    (subst (AreAll source.priority stream) (left_split before groups i g lt is).1 all) in
+    change_is way source marks stream sent g first old new c h found
+    (subst (λ n. Differs source marks n g old new c) (left_length before groups i from number lt at count) sends)

@@ -1,5 +1,6 @@
 -- What the second pass has read of the input.
-use Rattle.std.proofs.Common.{◌≡◌, ℕ, ◌+◌, ◌≤◌, List, [], ◌++◌, length, take, Option, Some, None, refl, sym, ◌∙◌, ap, subst, arith, inl, inr}
+use Rattle.std.proofs.Common.{◌≡◌, ℕ, ◌+◌, ◌≤◌, List, [], ◌++◌, length, take, Option, Some, None, refl, sym, ◌∙◌, ap}
+use Rattle.std.proofs.Common.{subst, arith, inl, inr}
 use Rattle.std.specs.Prelude.{IfSome, MatchOption}
 use Rattle.std.specs.Io.KnownBytes.{prepend_known, IsAtEnd}
 use Rattle.std.proofs.lemmas.List.{append-nil}
@@ -16,8 +17,9 @@ use Rattle.stream_groups.specs.laws.EndedLaws.{none_ended, ended_first}
 use Rattle.command_send.specs.declared.sent_group.Change.{Change}
 use Rattle.command_send.specs.declared.second.SentGroups.{SentGroups}
 use Rattle.outside_files.specs.Outputs.{IsPrefix}
-use Rattle.command_send.specs.Sending.{sent_datagrams, HasSentSome, IsPart, IsTaken, SentPart, IsFront, AreFound, HasSentAll, HasSentToChange}
-use Rattle.command_send.specs.Second.{HasGone, HasReached, Ends}
+use Rattle.command_send.specs.Sending.{sent_datagrams, IsFront, AreFound}
+use Rattle.command_send.specs.inside.Sending.{HasSentSome, IsPart, IsTaken, SentPart, HasSentAll, HasSentToChange}
+use Rattle.command_send.specs.inside.Second.{HasGone, HasReached, Ends}
 use Rattle.outside_routes.specs.Sending.{Routes, Sends}
 use Rattle.outside_routes.specs.Way.{Way}
 use Rattle.outside_routes.specs.laws.SendingLaws.{part_nothing, sends_nothing, sends_read}
@@ -27,25 +29,42 @@ prefix_at : (stream : List ℕ) (now : Option (List ℕ)) → IfSome (prepend_kn
 prefix_at stream None = tt
 prefix_at stream (Some more) = (more, refl)
 
-told_at : (priority : Priorities) (stream : List ℕ) (groups : List CutGroup) (now : Option (List ℕ)) → HaveEnded priority stream groups → IfSome (prepend_known stream now) (λ bytes. IsFront priority bytes groups)
+told_at : (priority : Priorities) (stream : List ℕ) (groups : List CutGroup) (now : Option (List ℕ))
+    → HaveEnded priority stream groups → IfSome (prepend_known stream now) (λ bytes. IsFront priority bytes groups)
 told_at priority stream groups None ended = tt
 told_at priority stream groups (Some more) ended = ended_first priority stream groups ended more
 
 -- what was read stands at the front of the input
-pub part_read : (way : Way) (source : Source) (marks : List GroupMark) (stream : List ℕ) (known : Option (List ℕ)) (first now : Routes) → first.place.rest ≡ prepend_known stream known → IsPart way source marks (HaveEnded source.priority stream) first now → SentPart way source marks first now
+pub part_read : (way : Way) (source : Source) (marks : List GroupMark) (stream : List ℕ) (known : Option (List ℕ))
+    (first now : Routes) → first.place.rest ≡ prepend_known stream known
+    → IsPart way source marks (HaveEnded source.priority stream) first now → SentPart way source marks first now
 part_read way source marks stream known first now rest part = record {
   stream = stream;
   read = subst (λ (o : Option (List ℕ)). IfSome o (IsPrefix stream)) (sym rest) (prefix_at stream known);
-  part = record { groups = part.groups; first_groups = inl part.first_groups; agree = part.agree; tables = part.tables; sends = part.sends };
-  told = subst (λ (o : Option (List ℕ)). IfSome o (λ bytes. IsFront source.priority bytes part.groups)) (sym rest) (told_at source.priority stream part.groups known part.first_groups);
+  part =
+      record {
+        groups = part.groups;
+        first_groups = inl part.first_groups;
+        agree = part.agree;
+        tables = part.tables;
+        sends = part.sends;
+      };
+  told =
+      subst (λ (o : Option (List ℕ)). IfSome o (λ bytes. IsFront source.priority bytes part.groups)) (sym rest)
+      (told_at source.priority stream part.groups known part.first_groups);
 }
 
-ended_at : (priority : Priorities) (stream : List ℕ) (groups : List CutGroup) (now : Option (List ℕ)) → IsAtEnd now → IsFront priority stream groups → IfSome (prepend_known stream now) (λ bytes. IsFront priority bytes groups)
+ended_at : (priority : Priorities) (stream : List ℕ) (groups : List CutGroup) (now : Option (List ℕ)) → IsAtEnd now
+    → IsFront priority stream groups → IfSome (prepend_known stream now) (λ bytes. IsFront priority bytes groups)
 ended_at priority stream groups None end front = tt
-ended_at priority stream groups (Some more) end front = subst (λ (s : List ℕ). IsFront priority s groups) (sym (append-nil stream) ∙ ap (λ (m : List ℕ). stream ++ m) (sym end)) front
+ended_at priority stream groups (Some more) end front =
+    subst (λ (s : List ℕ). IsFront priority s groups)
+    (sym (append-nil stream) ∙ ap (λ (m : List ℕ). stream ++ m) (sym end)) front
 
 -- the same of all that was read
-pub part_end : (way : Way) (source : Source) (marks : List GroupMark) (stream : List ℕ) (first mid now : Routes) → IsTaken stream first.place mid.place → IsPart way source marks (AreFound source.priority stream) first now → SentPart way source marks first now
+pub part_end : (way : Way) (source : Source) (marks : List GroupMark) (stream : List ℕ) (first mid now : Routes)
+    → IsTaken stream first.place mid.place → IsPart way source marks (AreFound source.priority stream) first now
+    → SentPart way source marks first now
 part_end way source marks stream first mid now taken part = record {
   stream = stream;
   read = subst (λ (o : Option (List ℕ)). IfSome o (IsPrefix stream)) (sym taken.rest) (prefix_at stream mid.place.rest);
@@ -53,14 +72,19 @@ part_end way source marks stream first mid now taken part = record {
   told = subst (λ (o : Option (List ℕ)). IfSome o (λ bytes. IsFront source.priority bytes part.groups)) (sym taken.rest)
       (elim part.first_groups [
         | inl ended ↦ told_at source.priority stream part.groups mid.place.rest ended
-        | inr all ↦ ended_at source.priority stream part.groups mid.place.rest (taken.whole (short_stream stream all.0.0)) all.1
+        | inr all ↦ ended_at source.priority stream part.groups mid.place.rest
+            (taken.whole (short_stream stream all.0.0)) all.1
       ]);
 }
 
-pub rest_more : (stream portion : List ℕ) (first before after : Option (List ℕ)) → first ≡ prepend_known stream before → before ≡ prepend_known portion after → first ≡ prepend_known (stream ++ portion) after
-rest_more stream portion first before after rest step = rest ∙ ap (prepend_known stream) step ∙ prepend-prepend stream portion after
+pub rest_more : (stream portion : List ℕ) (first before after : Option (List ℕ)) → first ≡ prepend_known stream before
+    → before ≡ prepend_known portion after → first ≡ prepend_known (stream ++ portion) after
+rest_more stream portion first before after rest step =
+    rest ∙ ap (prepend_known stream) step ∙ prepend-prepend stream portion after
 
-some_read : (way : Way) (source : Source) (marks : List GroupMark) (groups : List CutGroup) (first before after : Routes) → OnlyReads before.place after.place → after.link ≡ before.link → HasSentSome way source marks groups first before → HasSentSome way source marks groups first after
+some_read : (way : Way) (source : Source) (marks : List GroupMark) (groups : List CutGroup)
+    (first before after : Routes) → OnlyReads before.place after.place → after.link ≡ before.link
+    → HasSentSome way source marks groups first before → HasSentSome way source marks groups first after
 some_read way source marks groups first before after reads link h = record {
   agree = h.agree;
   tables = h.tables;
@@ -69,32 +93,63 @@ some_read way source marks groups first before after reads link h = record {
 }
 
 -- reading changes nothing that was sent
-pub stands_read : (way : Way) (source : Source) (marks : List GroupMark) (stream : List ℕ) (change : Option Change) (pass : SentGroups) (first before after : Routes) → OnlyReads before.place after.place → after.link ≡ before.link → HasReached way source marks stream change pass first before → HasReached way source marks stream change pass first after
-stands_read way source marks stream None pass first before after reads link h =
-    (record { groups = h.0.groups; cut = h.0.cut; number = h.0.number; sent = some_read way source marks h.0.groups first before after reads link h.0.sent }, h.1)
-stands_read way source marks stream (Some c) pass first before after reads link h =
-    (record { least = h.0.least; sent = some_read way source marks h.0.least.before first before after reads link h.0.sent }, h.1, h.2)
+pub stands_read : (way : Way) (source : Source) (marks : List GroupMark) (stream : List ℕ) (change : Option Change)
+    (pass : SentGroups) (first before after : Routes) → OnlyReads before.place after.place → after.link ≡ before.link
+    → HasReached way source marks stream change pass first before
+    → HasReached way source marks stream change pass first after
+stands_read way source marks stream None pass first before after reads link h = (
+  record {
+    groups = h.0.groups;
+    cut = h.0.cut;
+    number = h.0.number;
+    sent = some_read way source marks h.0.groups first before after reads link h.0.sent;
+  },
+  h.1,
+)
+stands_read way source marks stream (Some c) pass first before after reads link h = (
+  record {
+    least = h.0.least;
+    sent = some_read way source marks h.0.least.before first before after reads link h.0.sent;
+  },
+  h.1,
+  h.2,
+)
 
 -- a portion that could not be taken, and one that was taken and then not all sent
-pub part_taken : (way : Way) (source : Source) (marks : List GroupMark) (stream : List ℕ) (change : Option Change) (pass : SentGroups) (first before after : Routes) → first.place.rest ≡ prepend_known stream before.place.rest
-    → OnlyReads before.place after.place → after.link ≡ before.link → HasReached way source marks stream change pass first before → SentPart way source marks first after
+pub part_taken : (way : Way) (source : Source) (marks : List GroupMark) (stream : List ℕ) (change : Option Change)
+    (pass : SentGroups) (first before after : Routes) → first.place.rest ≡ prepend_known stream before.place.rest
+    → OnlyReads before.place after.place → after.link ≡ before.link
+    → HasReached way source marks stream change pass first before → SentPart way source marks first after
 part_taken way source marks stream change pass first before after rest reads link h =
-    part_read way source marks stream before.place.rest first after rest (part_stands way source marks stream change pass first after (stands_read way source marks stream change pass first before after reads link h))
+    part_read way source marks stream before.place.rest first after rest
+    (part_stands way source marks stream change pass first after
+    (stands_read way source marks stream change pass first before after reads link h))
 
-pub part_fed : (way : Way) (source : Source) (marks : List GroupMark) (stream portion : List ℕ) (change : Option Change) (pass : SentGroups) (first before after now : Routes) → first.place.rest ≡ prepend_known stream before.place.rest
-    → before.place.rest ≡ prepend_known portion after.place.rest → OnlyReads before.place after.place → after.link ≡ before.link → HasReached way source marks stream change pass first before
-    → (HasReached way source marks stream change pass first after → IsPart way source marks (HaveEnded source.priority (stream ++ portion)) first now) → SentPart way source marks first now
+pub part_fed : (way : Way) (source : Source) (marks : List GroupMark) (stream portion : List ℕ)
+    (change : Option Change) (pass : SentGroups) (first before after now : Routes)
+    → first.place.rest ≡ prepend_known stream before.place.rest
+    → before.place.rest ≡ prepend_known portion after.place.rest → OnlyReads before.place after.place
+    → after.link ≡ before.link → HasReached way source marks stream change pass first before
+    → (HasReached way source marks stream change pass first after
+    → IsPart way source marks (HaveEnded source.priority (stream ++ portion)) first now)
+    → SentPart way source marks first now
 part_fed way source marks stream portion change pass first before after now rest taken reads link h part =
-    part_read way source marks (stream ++ portion) after.place.rest first now (rest_more stream portion first.place.rest before.place.rest after.place.rest rest taken) (part (stands_read way source marks stream change pass first before after reads link h))
+    part_read way source marks (stream ++ portion) after.place.rest first now
+    (rest_more stream portion first.place.rest before.place.rest after.place.rest rest taken)
+    (part (stands_read way source marks stream change pass first before after reads link h))
 
 prepend_none : (known : Option (List ℕ)) → prepend_known [] known ≡ known
 prepend_none None = refl
 prepend_none (Some bytes) = refl
 
 -- nothing more could be taken
-pub taken_end : (stream portion : List ℕ) (n : ℕ) (first before after : Seen) → first.rest ≡ prepend_known stream before.rest → length stream ≤ MAX_STREAM + 1 → before.rest ≡ prepend_known (take n portion) after.rest → n ≡ 0 → (n ≡ 0 → IsAtEnd before.rest) → IsTaken stream first after
+pub taken_end : (stream portion : List ℕ) (n : ℕ) (first before after : Seen)
+    → first.rest ≡ prepend_known stream before.rest → length stream ≤ MAX_STREAM + 1
+    → before.rest ≡ prepend_known (take n portion) after.rest → n ≡ 0 → (n ≡ 0 → IsAtEnd before.rest)
+    → IsTaken stream first after
 taken_end stream portion n first before after rest few step none end =
-    let same : before.rest ≡ after.rest = step ∙ ap (λ k. prepend_known (take k portion) after.rest) none ∙ prepend_none after.rest in
+    let same : before.rest ≡ after.rest = step ∙ ap (λ k. prepend_known (take k portion) after.rest) none
+    ∙ prepend_none after.rest in
     record {
       rest = rest ∙ ap (prepend_known stream) same;
       few = few;
@@ -102,7 +157,8 @@ taken_end stream portion n first before after rest few step none end =
     }
 
 -- what is written changes nothing of that
-pub taken_write : (stream : List ℕ) (first before after : Seen) → after.rest ≡ before.rest → IsTaken stream first before → IsTaken stream first after
+pub taken_write : (stream : List ℕ) (first before after : Seen) → after.rest ≡ before.rest
+    → IsTaken stream first before → IsTaken stream first after
 taken_write stream first before after same h = record {
   rest = h.rest ∙ ap (prepend_known stream) (sym same);
   few = h.few;
@@ -132,7 +188,8 @@ part_start way source marks s = record {
   told = front_none source.priority s.place.rest;
 }
 
-pub gone_start : (way : Way) (source : Source) (marks : List GroupMark) (pass : SentGroups) (s : Routes) → HasCut pass.cutter source.priority [] [] → pass.sent ≡ 0 → HasGone way source marks [] pass s s
+pub gone_start : (way : Way) (source : Source) (marks : List GroupMark) (pass : SentGroups) (s : Routes)
+    → HasCut pass.cutter source.priority [] [] → pass.sent ≡ 0 → HasGone way source marks [] pass s s
 gone_start way source marks pass s cut none = record {
   groups = [];
   cut = cut;
@@ -145,6 +202,8 @@ gone_start way source marks pass s cut none = record {
   };
 }
 
-pub sent_end : (way : Way) (source : Source) (marks : List GroupMark) (stream : List ℕ) (after : Option Change) (first now : Routes) → IsTaken stream first.place now.place → Ends way source marks stream after first now → MatchOption after (HasSentAll way source marks first now) (λ c. HasSentToChange way source marks c first now)
+pub sent_end : (way : Way) (source : Source) (marks : List GroupMark) (stream : List ℕ) (after : Option Change)
+    (first now : Routes) → IsTaken stream first.place now.place → Ends way source marks stream after first now
+    → MatchOption after (HasSentAll way source marks first now) (λ c. HasSentToChange way source marks c first now)
 sent_end way source marks stream None first now taken h = record { stream = stream; taken = taken; all = h }
 sent_end way source marks stream (Some c) first now taken h = record { stream = stream; taken = taken; change_is = h }

@@ -1,5 +1,6 @@
 -- The session that was read with its marks, and what of it was sent.
-use Rattle.std.proofs.Common.{◌≡◌, ℕ, ◌+◌, ◌*◌, ◌≤◌, List, [], ◌∷◌, length, Option, Some, None, refl, sym, ap, subst, ◌∙◌, inl, inr, arith}
+use Rattle.std.proofs.Common.{◌≡◌, ℕ, ◌+◌, ◌*◌, ◌≤◌, List, [], ◌∷◌, length, Option, Some, None, refl, sym, ap, subst}
+use Rattle.std.proofs.Common.{◌∙◌, inl, inr, arith}
 use Rattle.std.specs.Prelude.{◌⊎◌, option_map}
 use Rattle.std.specs.List.{sum_by}
 use Rattle.outside_routes.specs.declared.fault.RouteStop.TheVariants as stop
@@ -24,20 +25,26 @@ use Rattle.command_send.specs.declared.fault.SendFault.TheVariants as fault
 use Rattle.command_send.specs.declared.sent_group.Change.{Change}
 use Rattle.command_send.specs.declared.session.Sent.{Sent as SentNumbers}
 use Rattle.command_send.specs.Sending.{words_cost, AgreeBelow, AreFound, IsLeastChange, IsFirstPass, IsNext, IsLost}
-use Rattle.command_send.specs.SendParts.{IsOfReopened, IsReadFrom, SessionSent, SessionLeft, SessionStops, IsSendFault}
-use Rattle.command_send.specs.Sends.{packets_file, HasPackets, HasSentBefore, IsSentOf, KeepsLink, LeavesFront, LinkSentAll, LinkSentFirst, MayBlame, Costs}
+use Rattle.command_send.specs.inside.SendParts.{IsOfReopened, IsReadFrom, SessionSent, SessionLeft, SessionStops}
+use Rattle.command_send.specs.inside.SendParts.{IsSendFault}
+use Rattle.command_send.specs.Sends.{packets_file, HasPackets, HasSentBefore, IsSentOf, KeepsLink, LeavesSentFront}
+use Rattle.command_send.specs.Sends.{LinkSentAll, LinkSentFirst, MayBlame, Costs}
 use Rattle.stream_session.specs.Sessions.{HasSession, tables_in}
 
 -- the numbers of a session that was read
-pub numbers_of_pass : (p b : List ℕ) (source : Source) (marks : List GroupMark) (sent : SentNumbers) → IsFirstPass p b source marks → sent.session ≡ source.number → sent.groups ≡ length source.tables.items
+pub numbers_of_pass : (p b : List ℕ) (source : Source) (marks : List GroupMark) (sent : SentNumbers)
+    → IsFirstPass p b source marks → sent.session ≡ source.number → sent.groups ≡ length source.tables.items
     → sent.datagrams ≡ length source.tables.items * source.priority.packets → IsSentOf p b sent
 numbers_of_pass p b source marks sent first session groups datagrams = record {
   session = session ∙ first.number;
   groups = groups ∙ ap (λ (ts : List Sizes). length ts) first.tables;
-  datagrams = datagrams ∙ ap (λ (ts : List Sizes). length ts * source.priority.packets) first.tables ∙ ap (λ (r : Priorities). length (tables_in p b) * r.packets) first.rules;
+  datagrams =
+      datagrams ∙ ap (λ (ts : List Sizes). length ts * source.priority.packets) first.tables
+      ∙ ap (λ (r : Priorities). length (tables_in p b) * r.packets) first.rules;
 }
 
-pub session_read : (old : Seen) (stream priority : List ℕ) (source : Source) (marks : List GroupMark) → (is : IsSource old.files stream priority source) × (marks ≡ marks_of (priorities_of is.file) is.bytes)
+pub session_read : (old : Seen) (stream priority : List ℕ) (source : Source) (marks : List GroupMark)
+    → (is : IsSource old.files stream priority source) × (marks ≡ marks_of (priorities_of is.file) is.bytes)
     → IsReadFrom old stream priority source marks
 session_read old stream priority source marks read =
     let is = read.0 in
@@ -49,10 +56,19 @@ session_read old stream priority source marks read =
         stream_file = is.stream_is;
         session = is.accepted;
       };
-      first = record { accepted = is.accepted; rules = is.rules; number = is.number; tables = is.tables; marks_are = read.1 };
+      first =
+          record {
+            accepted = is.accepted;
+            rules = is.rules;
+            number = is.number;
+            tables = is.tables;
+            marks_are = read.1;
+          };
     }
 
-module _ (old mid new : Routes) (stream priority : List ℕ) (source : Source) (marks : List GroupMark) (s : HasSession old.place stream priority) (first : IsFirstPass s.priority_bytes s.stream_bytes source marks) (same : mid.place.files ≡ old.place.files) (link : mid.link ≡ old.link) where
+module _ (old mid new : Routes) (stream priority : List ℕ) (source : Source) (marks : List GroupMark)
+    (s : HasSession old.place stream priority) (first : IsFirstPass s.priority_bytes s.stream_bytes source marks)
+    (same : mid.place.files ≡ old.place.files) (link : mid.link ≡ old.link) where
   there : IsFile mid.place.files stream s.stream_bytes
   there = subst (λ (o : Option Files). IsFile o stream s.stream_bytes) (sym same) s.stream_file
 
@@ -60,35 +76,51 @@ module _ (old mid new : Routes) (stream priority : List ℕ) (source : Source) (
   packets to = packets_file to s.priority_bytes s.stream_bytes
 
   -- what is left of the session that was read
-  left_of : (way : Way) → SessionLeft source marks stream way mid new → LeavesFront stream priority way old new
+  left_of : (way : Way) → SessionLeft source marks stream way mid new → LeavesSentFront stream priority way old new
   left_of (OnFile to) left = by (left s.priority_bytes s.stream_bytes first there)
     where
-      by : Wrote [] None mid.place new.place ⊎ Wrote [] (Some (packets to)) mid.place new.place → LeavesFront stream priority (OnFile to) old new
+      by : Wrote [] None mid.place new.place ⊎ Wrote [] (Some (packets to)) mid.place new.place
+          → LeavesSentFront stream priority (OnFile to) old new
       by (inl none) = inl (none ∙ ap (option_map (with_files [])) same)
-      by (inr front) = inr (s, (front.0, front.1, front.2 ∙ ap (option_map (with_files (record { name = to; bytes = front.0 } ∷ []))) same))
+      by (inr front) =
+          inr (
+            s,
+            (
+              front.0,
+              front.1,
+              front.2 ∙ ap (option_map (with_files (record { name = to; bytes = front.0 } ∷ []))) same,
+            ),
+          )
   left_of (OnLink address) left = (by (left.0 s.priority_bytes s.stream_bytes first there), left.1 ∙ same)
     where
-      by : (new.link.sent ≡ mid.link.sent) ⊎ LinkSentFirst address s.priority_bytes s.stream_bytes mid.place.files mid.link new.link
-          → (new.link.sent ≡ old.link.sent) ⊎ ((t : HasSession old.place stream priority) × LinkSentFirst address t.priority_bytes t.stream_bytes old.place.files old.link new.link)
+      by : (new.link.sent ≡ mid.link.sent)
+          ⊎ LinkSentFirst address s.priority_bytes s.stream_bytes mid.place.files mid.link new.link
+          → (new.link.sent ≡ old.link.sent)
+          ⊎ ((t : HasSession old.place stream priority)
+          × LinkSentFirst address t.priority_bytes t.stream_bytes old.place.files old.link new.link)
       by (inl none) = inl (none ∙ ap (λ l. l.sent) link)
       by (inr sent) = inr (
         s,
         subst (λ (l : LinkSeen). LinkSentFirst address s.priority_bytes s.stream_bytes old.place.files l new.link) link
-            (subst (λ (o : Option Files). LinkSentFirst address s.priority_bytes s.stream_bytes o mid.link new.link) same sent),
+            (subst (λ (o : Option Files). LinkSentFirst address s.priority_bytes s.stream_bytes o mid.link new.link)
+            same sent),
       )
 
   -- all of it was sent
   sent_of : (way : Way) → SessionSent source marks stream way mid new → HasPackets old s way new
-  sent_of (OnFile to) sent = sent s.priority_bytes s.stream_bytes first there ∙ ap (option_map (with_files (packets to ∷ []))) same
+  sent_of (OnFile to) sent =
+      sent s.priority_bytes s.stream_bytes first there ∙ ap (option_map (with_files (packets to ∷ []))) same
   sent_of (OnLink address) sent = (
     subst (λ (l : LinkSeen). LinkSentAll address s.priority_bytes s.stream_bytes old.place.files l new.link) link
-        (subst (λ (o : Option Files). LinkSentAll address s.priority_bytes s.stream_bytes o mid.link new.link) same (sent.0 s.priority_bytes s.stream_bytes first there)),
+        (subst (λ (o : Option Files). LinkSentAll address s.priority_bytes s.stream_bytes o mid.link new.link) same
+        (sent.0 s.priority_bytes s.stream_bytes first there)),
     sent.1 ∙ same,
   )
 
   -- the change is one of the session's marks
   least_of : (again : List ℕ) (change : Change) → IsLeastChange source.priority source.tables.items marks again change
-      → IsLeastChange (priorities_of s.priority_bytes) (tables_in s.priority_bytes s.stream_bytes) (marks_of (priorities_of s.priority_bytes) s.stream_bytes) again change
+      → IsLeastChange (priorities_of s.priority_bytes) (tables_in s.priority_bytes s.stream_bytes)
+      (marks_of (priorities_of s.priority_bytes) s.stream_bytes) again change
   least_of again change least = record {
     before = least.before;
     found = subst (λ (r : Priorities). AreFound r again least.before) first.rules least.found;
@@ -97,9 +129,15 @@ module _ (old mid new : Routes) (stream priority : List ℕ) (source : Source) (
     second_is =
         let p = s.priority_bytes in
         let b = s.stream_bytes in
-        subst (λ (r : Priorities). IsNext r (tables_in p b) (marks_of (priorities_of p) b) again least.before change.group change.second ⊎ IsLost r again least.before change.group change.second) first.rules
-        (subst (λ (ts : List Sizes). IsNext source.priority ts (marks_of (priorities_of p) b) again least.before change.group change.second ⊎ IsLost source.priority again least.before change.group change.second) first.tables
-        (subst (λ (ms : List GroupMark). IsNext source.priority source.tables.items ms again least.before change.group change.second ⊎ IsLost source.priority again least.before change.group change.second) first.marks_are least.second_is));
+        subst (λ (r : Priorities). IsNext r (tables_in p b)
+        (marks_of (priorities_of p) b) again least.before change.group change.second
+        ⊎ IsLost r again least.before change.group change.second) first.rules
+        (subst (λ (ts : List Sizes). IsNext source.priority ts
+        (marks_of (priorities_of p) b) again least.before change.group change.second
+        ⊎ IsLost source.priority again least.before change.group change.second) first.tables
+        (subst (λ (ms : List GroupMark). IsNext source.priority source.tables.items ms again least.before change.group
+        change.second ⊎ IsLost source.priority again least.before change.group change.second) first.marks_are
+        least.second_is));
     differ = least.differ;
   }
 
@@ -109,11 +147,14 @@ module _ (old mid new : Routes) (stream priority : List ℕ) (source : Source) (
   may_blame (OnLink address) blame read = inr (read, s.priority_bytes, s.priority_file, s.session.priority_read)
 
   -- why the sending stopped
-  stops_of : (way : Way) → old.place.faults ≤ mid.place.faults → (f : SendFault) → SessionStops source marks stream way mid new f → IsSendFault old new stream priority way f
+  stops_of : (way : Way) → old.place.faults ≤ mid.place.faults → (f : SendFault)
+      → SessionStops source marks stream way mid new f → IsSendFault old new stream priority way f
   unfolding least_of
   stops_of way later (fault.Stopped stop.NoMemory) stops = tt
-  stops_of way later (fault.Stopped stop.Place) stops = HadFault-since old.place mid.place new.place _ _ later (may_blame way) stops
-  stops_of way later (fault.Stopped stop.Link) stops = (subst (λ (l : LinkSeen). AimedFailed way l new.link) link stops, s)
+  stops_of way later (fault.Stopped stop.Place) stops =
+      HadFault-since old.place mid.place new.place _ _ later (may_blame way) stops
+  stops_of way later (fault.Stopped stop.Link) stops =
+      (subst (λ (l : LinkSeen). AimedFailed way l new.link) link stops, s)
   stops_of way later (fault.Stopped stop.Out) stops = absurd stops
   stops_of way later (fault.Source refused) stops = absurd stops
   stops_of way later (fault.Changed change) stops =
@@ -123,23 +164,37 @@ module _ (old mid new : Routes) (stream priority : List ℕ) (source : Source) (
         again = stops.0;
         least = least_of stops.0 change stops.1;
         untold = sym same ∙ told.0;
-        sent = subst (λ (l : LinkSeen). HasSentBefore s.priority_bytes s.stream_bytes stops.1.before way l new.link) link told.1;
+        sent =
+            subst (λ (l : LinkSeen). HasSentBefore s.priority_bytes s.stream_bytes stops.1.before way l new.link) link
+            told.1;
       }
 
 -- the same of the way that `send` was asked for, which the first reading hands on
-module _ (old mid new : Routes) {stream priority : List ℕ} {source : Source} {marks : List GroupMark} (read : IsReadFrom old.place stream priority source marks) (same : mid.place.files ≡ old.place.files) (link : mid.link ≡ old.link) {way asked : Way} (is : way ≡ asked) where
-  pub left_to : SessionLeft source marks stream way mid new → LeavesFront stream priority asked old new
-  left_to left = subst (λ (w : Way). LeavesFront stream priority w old new) is (left_of old mid new stream priority source marks read.session read.first same link way left)
+module _ (old mid new : Routes) {stream priority : List ℕ} {source : Source} {marks : List GroupMark}
+    (read : IsReadFrom old.place stream priority source marks) (same : mid.place.files ≡ old.place.files)
+    (link : mid.link ≡ old.link) {way asked : Way} (is : way ≡ asked) where
+  pub left_to : SessionLeft source marks stream way mid new → LeavesSentFront stream priority asked old new
+  left_to left =
+      subst (λ (w : Way). LeavesSentFront stream priority w old new) is
+      (left_of old mid new stream priority source marks read.session read.first same link way left)
 
   pub sent_to : SessionSent source marks stream way mid new → HasPackets old read.session asked new
-  sent_to sent = subst (λ (w : Way). HasPackets old read.session w new) is (sent_of old mid new stream priority source marks read.session read.first same link way sent)
+  sent_to sent =
+      subst (λ (w : Way). HasPackets old read.session w new) is
+      (sent_of old mid new stream priority source marks read.session read.first same link way sent)
 
-  pub stops_to : old.place.faults ≤ mid.place.faults → (f : SendFault) → SessionStops source marks stream way mid new f → IsSendFault old new stream priority asked f
-  stops_to later f stops = subst (λ (w : Way). IsSendFault old new stream priority w f) is (stops_of old mid new stream priority source marks read.session read.first same link way later f stops)
+  pub stops_to : old.place.faults ≤ mid.place.faults → (f : SendFault) → SessionStops source marks stream way mid new f
+      → IsSendFault old new stream priority asked f
+  stops_to later f stops =
+      subst (λ (w : Way). IsSendFault old new stream priority w f) is
+      (stops_of old mid new stream priority source marks read.session read.first same link way later f stops)
 
 -- how many steps it may have counted
-pub costs_to : {old : Seen} {stream priority : List ℕ} {source : Source} {marks : List GroupMark} → IsReadFrom old stream priority source marks → (before after : ℕ) → after ≤ before + sum_by words_cost source.tables.items → Costs stream priority old before after
-costs_to read before after few = inr (read.session, subst (λ (ts : List Sizes). after ≤ before + sum_by words_cost ts) read.first.tables few)
+pub costs_to : {old : Seen} {stream priority : List ℕ} {source : Source} {marks : List GroupMark}
+    → IsReadFrom old stream priority source marks → (before after : ℕ)
+    → after ≤ before + sum_by words_cost source.tables.items → Costs stream priority old before after
+costs_to read before after few =
+    inr (read.session, subst (λ (ts : List Sizes). after ≤ before + sum_by words_cost ts) read.first.tables few)
 
 -- where the link is as before, before it is used
 pub keeps_since : (way : Way) (old mid new : LinkSeen) → mid ≡ old → KeepsLink way mid new → KeepsLink way old new
@@ -149,6 +204,7 @@ pub keeps_same : (way : Way) (old : LinkSeen) → KeepsLink way old old
 keeps_same (OnFile to) old = refl
 keeps_same (OnLink address) old = record { feed = refl; port = refl; bound = refl; later = omega arith }
 
-pub leaves_nothing : (stream priority : List ℕ) (way : Way) (old new : Routes) → new.place.files ≡ old.place.files → new.link ≡ old.link → LeavesFront stream priority way old new
+pub leaves_nothing : (stream priority : List ℕ) (way : Way) (old new : Routes) → new.place.files ≡ old.place.files
+    → new.link ≡ old.link → LeavesSentFront stream priority way old new
 leaves_nothing stream priority (OnFile to) old new files link = inl (Wrote-nothing old.place new.place files)
 leaves_nothing stream priority (OnLink address) old new files link = (inl (ap (λ l. l.sent) link), files)

@@ -1,7 +1,6 @@
 pub mod Failures
 pub mod Sending
-pub mod Second
 pub mod Sends
-pub mod SendParts
 pub mod SendsSession
+pub mod inside
 pub mod laws

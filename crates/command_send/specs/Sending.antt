@@ -1,11 +1,7 @@
--- What the second pass of `send` over a stream has sent, and at which group it found a change. This project's own.
-use Rattle.std.specs.Prelude.{◌≡◌, ◌≢◌, ◌⊎◌, ℕ, ◌+◌, ◌*◌, ◌<◌, ◌≤◌, List, [], ◌∷◌, ◌++◌, length, map, Some, slice_get, IfSome}
+-- The groups that the second pass of `send` over a stream finds, their packets, and the least group at which it finds a
+-- change. This project's own.
+use Rattle.std.specs.Prelude.{◌≡◌, ◌≢◌, ◌⊎◌, ℕ, ◌+◌, ◌*◌, ◌<◌, ◌≤◌, List, [], ◌∷◌, ◌++◌, length, map, Some, slice_get}
 use Rattle.std.specs.List.{flat_map}
-use Rattle.std.specs.Io.KnownBytes.{prepend_known, IsAtEnd}
-use Rattle.pet_base.specs.declared.limits.TheConstants.{MAX_STREAM}
-use Rattle.pet_base.specs.Causes.{Blames}
-use Rattle.pet_base.specs.declared.place.Side.TheVariants.{Read, Written}
-use Rattle.pet_base.specs.Seen.{Seen, Blame, HadFault}
 use Rattle.stripe_plan.specs.Sizes.{Sizes}
 use Rattle.stripe_plan.specs.Layers.{needs_of}
 use Rattle.layer_split.specs.Layers.{message}
@@ -21,18 +17,18 @@ use Rattle.stream_session.specs.Accepted.{IsAcceptedSession}
 use Rattle.priority_file.specs.Priority.{Priorities}
 use Rattle.priority_file.specs.Refusals.{priorities_of}
 use Rattle.command_send.specs.declared.sent_group.Change.{Change}
-use Rattle.command_send.specs.declared.fault.SendFault.{SendFault}
-use Rattle.command_send.specs.declared.fault.SendFault.TheVariants.{Stopped, Source as Refused, Changed}
 use Rattle.packet_session.specs.Datagrams.{group_datagrams}
-use Rattle.outside_files.specs.Outputs.{IsPrefix}
-use Rattle.outside_routes.specs.RouteFaults.{IsStop}
-use Rattle.outside_routes.specs.Sending.{Routes, Sends, SendsPart, SendingFailed}
-use Rattle.outside_routes.specs.Way.{Way, OnFile, OnLink}
 
 -- a group of the second pass as its packets are made: under this number, of the first pass's session
 abbrev pub encoding_of : Source → ℕ → CutGroup → Encoding
 encoding_of source group g = record {
-  header = record { session = source.number; groups = length source.tables.items; group = group; table = table_of source.priority g.cut };
+  header =
+      record {
+        session = source.number;
+        groups = length source.tables.items;
+        group = group;
+        table = table_of source.priority g.cut;
+      };
   message = message g.bytes g.cut.runs (length source.priority.layers);
 }
 
@@ -57,9 +53,11 @@ AgreeBelow marks groups limit = (k : ℕ) → k < limit → mark_at marks k ≡ 
 abbrev pub IsFront : Priorities → List ℕ → List CutGroup → Type 0
 IsFront priority stream groups = (later : List CutGroup) × (cut_groups priority stream ≡ groups ++ later)
 
--- A pass finds these groups first: they ended before the stream or its groups were refused, or nothing of it is refused.
+-- A pass finds these groups first: they ended before the stream or its groups were refused, or nothing of it is
+-- refused.
 abbrev pub AreFound : Priorities → List ℕ → List CutGroup → Type 0
-AreFound priority stream groups = HaveEnded priority stream groups ⊎ (IsCuttable priority stream × IsFront priority stream groups)
+AreFound priority stream groups =
+    HaveEnded priority stream groups ⊎ (IsCuttable priority stream × IsFront priority stream groups)
 
 -- and it finds no further one
 pub record AreAllFound (priority : Priorities) (stream : List ℕ) (groups : List CutGroup) : Type 0 where
@@ -69,98 +67,40 @@ pub record AreAllFound (priority : Priorities) (stream : List ℕ) (groups : Lis
 
 -- The group after these in the stream, as the second pass marks it: it has no mark where its mark is the first
 -- pass's and its table is not.
-pub record IsNext (priority : Priorities) (tables : List Sizes) (marks : List GroupMark) (stream : List ℕ) (before : List CutGroup) (group : ℕ) (second : GroupMark) : Type 0 where
+pub record IsNext (priority : Priorities) (tables : List Sizes) (marks : List GroupMark) (stream : List ℕ)
+    (before : List CutGroup) (group : ℕ) (second : GroupMark) : Type 0 where
   pub next : CutGroup
   pub at : group ≡ length before
   pub found : AreFound priority stream (before ++ next ∷ [])
   pub marked : (second ≡ mark_of next.bytes)
-      ⊎ ((second ≡ no_mark) × (mark_at marks group ≡ mark_of next.bytes) × (slice_get tables group ≢ Some (table_of priority next.cut)))
+      ⊎ ((second ≡ no_mark) × (mark_at marks group ≡ mark_of next.bytes)
+      × (slice_get tables group ≢ Some (table_of priority next.cut)))
 
 -- The group was not found: these are all that were.
-pub record IsLost (priority : Priorities) (stream : List ℕ) (before : List CutGroup) (group : ℕ) (second : GroupMark) : Type 0 where
+pub record IsLost (priority : Priorities) (stream : List ℕ) (before : List CutGroup) (group : ℕ)
+    (second : GroupMark) : Type 0 where
   pub beyond : length before ≤ group
   pub all : AreAllFound priority stream before
   pub none : second ≡ no_mark
 
--- The least group of the stream whose mark is not that of the first pass, which found these tables and marks: the groups
+-- The least group of the stream whose mark is not that of the first pass, which found these tables and marks: the
+-- groups
 -- before it have its marks.
-pub record IsLeastChange (priority : Priorities) (tables : List Sizes) (marks : List GroupMark) (stream : List ℕ) (change : Change) : Type 0 where
+pub record IsLeastChange (priority : Priorities) (tables : List Sizes) (marks : List GroupMark) (stream : List ℕ)
+    (change : Change) : Type 0 where
   pub before : List CutGroup
   pub found : AreFound priority stream before
   pub agree : AgreeBelow marks before change.group
   pub first_is : change.first ≡ mark_at marks change.group
-  pub second_is : IsNext priority tables marks stream before change.group change.second ⊎ IsLost priority stream before change.group change.second
+  pub second_is : IsNext priority tables marks stream before change.group change.second
+      ⊎ IsLost priority stream before change.group change.second
   pub differ : change.first ≢ change.second
 
 -- the tables of these groups are the first of the first pass
 abbrev pub HaveTables : Source → List CutGroup → Type 0
-HaveTables source groups = (later : List Sizes) × (source.tables.items ≡ map (λ (g : CutGroup). table_of source.priority g.cut) groups ++ later)
-
--- the groups so far: each has the mark and the table of the first pass, and their packets were sent
-pub record HasSentSome (way : Way) (source : Source) (marks : List GroupMark) (groups : List CutGroup) (old new : Routes) : Type 0 where
-  pub agree : AgreeBelow marks groups (length groups)
-  pub tables : HaveTables source groups
-  pub target : new.place.target ≡ old.place.target
-  pub sends : Sends way (sent_datagrams source groups) old new
-
--- The least group whose marks differ: the packets of the groups before it were sent.
-pub record IsChange (way : Way) (source : Source) (marks : List GroupMark) (stream : List ℕ) (change : Change) (old new : Routes) : Type 0 where
-  pub least : IsLeastChange source.priority source.tables.items marks stream change
-  pub sent : HasSentSome way source marks least.before old new
-
--- All marks agree: the packets of all groups that both passes found were sent.
-pub record IsAllSent (way : Way) (source : Source) (marks : List GroupMark) (stream : List ℕ) (old new : Routes) : Type 0 where
-  pub groups : List CutGroup
-  pub all : AreAllFound source.priority stream groups
-  pub sent : HasSentSome way source marks groups old new
-  pub agree : (k : ℕ) → mark_at marks k ≡ mark_at (group_marks groups) k
-
--- a front of the packets of groups whose marks and tables agree was sent
-pub record IsPart (way : Way) (source : Source) (marks : List GroupMark) (AreFirstGroups : List CutGroup → Type 0) (old new : Routes) : Type 0 where
-  pub groups : List CutGroup
-  pub first_groups : AreFirstGroups groups
-  pub agree : AgreeBelow marks groups (length groups)
-  pub tables : HaveTables source groups
-  pub sends : SendsPart way (sent_datagrams source groups) old new
-
--- These bytes were taken from the front of the input, to its end or past the most that a stream may have.
-pub record IsTaken (stream : List ℕ) (old new : Seen) : Type 0 where
-  pub rest : old.rest ≡ prepend_known stream new.rest
-  pub few : length stream ≤ MAX_STREAM + 1
-  pub whole : length stream ≤ MAX_STREAM → IsAtEnd new.rest
-
--- what the pass has done of what it has read, to the end
-pub record HasSentAll (way : Way) (source : Source) (marks : List GroupMark) (old new : Routes) : Type 0 where
-  pub stream : List ℕ
-  pub taken : IsTaken stream old.place new.place
-  pub all : IsAllSent way source marks stream old new
-
-pub record HasSentToChange (way : Way) (source : Source) (marks : List GroupMark) (change : Change) (old new : Routes) : Type 0 where
-  pub stream : List ℕ
-  pub taken : IsTaken stream old.place new.place
-  pub change_is : IsChange way source marks stream change old new
-
--- or to a failure
-pub record SentPart (way : Way) (source : Source) (marks : List GroupMark) (old new : Routes) : Type 0 where
-  pub stream : List ℕ
-  pub read : IfSome old.place.rest (IsPrefix stream)
-  pub part : IsPart way source marks (AreFound source.priority stream) old new
-  pub told : IfSome old.place.rest (λ bytes. IsFront source.priority bytes part.groups)
-
--- where a file is written, the output
-abbrev pub IsOfOutput : Way → Seen → Blame → Type 0
-IsOfOutput (OnFile name) place blame = Blames Written place.target blame
-IsOfOutput (OnLink address) place blame = ⊥
-
--- the place had a fault at its input, or at such an output, where it is told at which
-abbrev pub PassFailed : Way → Seen → Seen → Type 0
-PassFailed way old new = HadFault old new (λ blame. Blames Read old.source blame ⊎ IsOfOutput way old blame)
-
--- when the pass stops with each cause, and what then holds
-abbrev pub IsSendStop : Way → Source → List GroupMark → Routes → Routes → SendFault → Type 0
-IsSendStop way source marks old new (Stopped stop) = IsStop (PassFailed way old.place new.place) (SendingFailed way old.link new.link) ⊥ stop × SentPart way source marks old new
-IsSendStop way source marks old new (Changed change) = HasSentToChange way source marks change old new
-IsSendStop way source marks old new (Refused refusal) = ⊥
+HaveTables source groups =
+    (later : List Sizes)
+    × (source.tables.items ≡ map (λ (g : CutGroup). table_of source.priority g.cut) groups ++ later)
 
 -- The source and the marks are those of an accepted session.
 pub record IsFirstPass (p b : List ℕ) (source : Source) (marks : List GroupMark) : Type 0 where
@@ -169,9 +109,3 @@ pub record IsFirstPass (p b : List ℕ) (source : Source) (marks : List GroupMar
   pub number : source.number ≡ session_number p b
   pub tables : source.tables.items ≡ tables_of (priorities_of p) (cuts_of_stream (priorities_of p) b)
   pub marks_are : marks ≡ marks_of (priorities_of p) b
-
--- what the pass may answer where the place tells the stream of the first pass: never a change
-abbrev pub IsToldStop : Way → List (List ℕ) → Routes → Routes → SendFault → Type 0
-IsToldStop way datagrams old new (Stopped stop) = SendsPart way datagrams old new
-IsToldStop way datagrams old new (Changed change) = ⊥
-IsToldStop way datagrams old new (Refused refusal) = ⊥

@@ -19,7 +19,8 @@ uses stream priority (OnFile to) = reading stream ∷ reading priority ∷ writi
 uses stream priority (OnLink address) = reading stream ∷ reading priority ∷ []
 
 -- Memory was found, neither the place nor the link had a fault of this call, and the two files are told and a session.
-pub record CanSend (stream priority : List ℕ) (way : Way) (p b : List ℕ) (before after : OutsideSeen) (end : SendEnd) : Type 0 where
+pub record CanSend (stream priority : List ℕ) (way : Way) (p b : List ℕ) (before after : OutsideSeen)
+    (end : SendEnd) : Type 0 where
   pub memory : end ≢ NoMemory
   pub well : Failed (uses stream priority way) before.place after.place → ⊥
   pub link : AimedFailed way before.link after.link → ⊥
@@ -28,7 +29,9 @@ pub record CanSend (stream priority : List ℕ) (way : Way) (p b : List ℕ) (be
 -- the file TO has the session's packets, or the link has sent them to the address TO and no file has changed
 abbrev pub SendsAll : Way → List ℕ → List ℕ → OutsideSeen → OutsideSeen → Type 0
 SendsAll (OnFile to) p b before after = Wrote (packets_file to p b ∷ []) None before.place after.place
-SendsAll (OnLink address) p b before after = Sent (packets_in p b) before.link after.link × IsAimedAt address before.link after.link × (after.place.files ≡ before.place.files)
+SendsAll (OnLink address) p b before after =
+    Sent (packets_in p b) before.link after.link × IsAimedAt address before.link after.link
+    × (after.place.files ≡ before.place.files)
 
 -- and it is done, with their numbers
 pub record HasSent (way : Way) (p b : List ℕ) (before after : OutsideSeen) (end : SendEnd) : Type 0 where

@@ -9,8 +9,8 @@ ghost use Rattle.command_send.specs.SendsSession.{SendsSession};
 
 use crate::sent_group::Change;
 use crate::session::{Sent, send_all};
-use outside_routes::Route;
 use mpeg_scan::Scan;
+use outside_routes::Route;
 use pet_base::{Link, Outside, Place, Sink};
 use priority_file::PriorityFault;
 use std::alloc::Global;

@@ -1,6 +1,6 @@
 //! Why `send` stops.
 ghost use Rattle.std.specs.Prelude.{◌≡◌, ◌≢◌};
-ghost use Rattle.command_send.specs.SendParts.{IsEndOf, IsEndOfStop, end_of_refusal};
+ghost use Rattle.command_send.specs.inside.SendParts.{IsEndOf, IsEndOfStop, end_of_refusal};
 
 use crate::command::SendEnd;
 use crate::sent_group::Change;

@@ -15,18 +15,19 @@ ghost use Rattle.outside_routes.specs.RouteFaults.{IsStop, stop_of_a_place, stop
 ghost use Rattle.outside_routes.specs.Sending.{Routes, routes, Sends, IsOpen, OnlyGrows, OutputFailed, SendingFailed};
 ghost use Rattle.outside_routes.specs.Way.{way_of};
 ghost use Rattle.packet_session.specs.Datagrams.{session_datagrams};
-ghost use Rattle.command_send.specs.Second.{Knows, HasGone, HasReached, Ends, IsFirstLost, NoneLost, OnlyPasses, cost_left};
-ghost use Rattle.command_send.specs.Sending.{words_cost, AreFound, HasSentSome, IsPart, IsTaken, HasSentAll, SentPart, HasSentToChange, IsFirstPass, IsSendStop, IsToldStop, PassFailed};
+ghost use Rattle.command_send.specs.inside.Second.{Knows, HasGone, HasReached, Ends, IsFirstLost, NoneLost, OnlyPasses, cost_left};
+ghost use Rattle.command_send.specs.Sending.{words_cost, AreFound, IsFirstPass};
+ghost use Rattle.command_send.specs.inside.Sending.{HasSentSome, IsPart, IsTaken, HasSentAll, SentPart, HasSentToChange, IsSendStop, IsToldStop, PassFailed};
 
 use crate::fault::SendFault;
 use crate::first::FirstPass;
 use crate::sent_group::{Change, first_mark, send_group};
 use outside_files::{portion_room, take_portion};
 use outside_routes::RouteStop;
-use stream_groups::{CutFault, Group, GroupCutter};
 use pet_base::{Link, MAX_STREAM, Place, Steps};
 use std::alloc::Global;
 use std::sync::ledger::Ledger;
+use stream_groups::{CutFault, Group, GroupCutter};
 use stream_session::GroupMark;
 
 /// How far the groups of a stream are cut and sent.

@@ -12,20 +12,20 @@ ghost use Rattle.outside_routes.specs.RouteFaults.{IsStop, stop_of_a_place, stop
 ghost use Rattle.outside_routes.specs.Sending.{routes, Sends, SendsPart, IsOpen, OnlyGrows, OutputFailed, SendingFailed};
 ghost use Rattle.outside_routes.specs.Way.{way_of};
 ghost use Rattle.packet_session.specs.Datagrams.{group_datagrams};
-ghost use Rattle.command_send.specs.Second.{SendsGroup, SendsGroupPart, Differs, cost_at};
+ghost use Rattle.command_send.specs.inside.Second.{SendsGroup, SendsGroupPart, Differs, cost_at};
 ghost use Rattle.command_send.specs.Sending.{encoding_of};
 
 use crate::first::FirstPass;
-use outside_routes::RouteStop;
-use stream_groups::Group;
-use pet_encode::Encoder;
 use layer_split::{GroupCut, message};
+use outside_routes::RouteStop;
 use packet_frame::Header;
-use pet_base::{Link, NoMemory, Place, Steps};
-use pet_field::Gf16Tables;
 use packet_sending::put_group;
+use pet_base::{Link, NoMemory, Place, Steps};
+use pet_encode::Encoder;
+use pet_field::Gf16Tables;
 use std::alloc::Global;
 use std::sync::ledger::Ledger;
+use stream_groups::Group;
 use stream_session::{GroupMark, Source, is_table_of};
 
 /// The group at which two passes differ, and its marks in both.

@@ -10,8 +10,8 @@ ghost use Rattle.command_send.specs.Failures.{fault_of_place, fault_of_link};
 ghost use Rattle.stream_session.specs.Sources.{has_failed as source_failed};
 ghost use Rattle.outside_routes.specs.Sending.{routes};
 ghost use Rattle.outside_routes.specs.Way.{way_of};
-ghost use Rattle.command_send.specs.Sends.{Costs, HasPackets, IsOther, IsSentOf, KeepsLink, LeavesFront};
-ghost use Rattle.command_send.specs.SendParts.{IsReadFrom, IsReopened, IsLeftEmpty, IsOfReopened, IsSendFault, SessionSent, SessionLeft, SessionStops};
+ghost use Rattle.command_send.specs.Sends.{Costs, HasPackets, IsOther, IsSentOf, KeepsLink, LeavesSentFront};
+ghost use Rattle.command_send.specs.inside.SendParts.{IsReadFrom, IsReopened, IsLeftEmpty, IsOfReopened, IsSendFault, SessionSent, SessionLeft, SessionStops};
 ghost use Rattle.command_send.specs.Sending.{words_cost};
 ghost use Rattle.stream_session.specs.Sessions.{HasSession};
 
@@ -51,7 +51,7 @@ pub(crate) fn send_all<P: Place, K: Link, L: Ledger>(
         × IsSentOf s.priority_bytes s.stream_bytes sent) }
     ensures cause { IfErr result (IsSendFault (routes P.Place K.Link place.old link.old)
         (routes P.Place K.Link place.new link.new) stream.now priority.now (way_of to.entry)) }
-    ensures left { OnErr result (LeavesFront stream.now priority.now (way_of to.entry)
+    ensures left { OnErr result (LeavesSentFront stream.now priority.now (way_of to.entry)
         (routes P.Place K.Link place.old link.old) (routes P.Place K.Link place.new link.new)) }
     ensures link { KeepsLink (way_of to.entry) (K.seen link.old) (K.seen link.new) }
     ensures costs { Costs stream.now priority.now (P.seen place.old) steps.old steps.new }

@@ -13,7 +13,8 @@ use Rattle.reassemble.specs.Leading.{AreLeading, IsAssembled, IsUnfit}
 abbrev pub numbers_in : KeptSet → ℕ → List ℕ
 numbers_in set group = numbers_of (pairs_in set) group
 
--- The group has this video: the runs of its leading layers that are all shown, as its packets give their bytes, in the order of
+-- The group has this video: the runs of its leading layers that are all shown, as its packets give their bytes, in the
+-- order of
 -- the stream.
 pub record ShowsVideo (set : KeptSet) (group : ℕ) (video : List ℕ) : Type 0 where
   pub packets : Packets

@@ -1,4 +1,5 @@
--- The video of a stream, by the packets of its session that were met. Nothing here speaks of packets' payloads, run tables or
+-- The video of a stream, by the packets of its session that were met. Nothing here speaks of packets' payloads, run
+-- tables or
 -- buffers. This project's own.
 use Rattle.std.specs.Prelude.{ℕ, nat_lt, List, length, take, drop}
 use Rattle.std.specs.List.{filter, flat_map, range_with_len, enumerate_from, prefix_len}
@@ -30,12 +31,14 @@ shown_video priority stream pairs e = cut_video stream (leading_shown pairs e.0 
 -- those of all groups, in the order of the stream
 abbrev pub stream_video : List ℕ → List ℕ → List Pair → List ℕ
 stream_video priority stream pairs =
-    flat_map (shown_video (priorities_of priority) stream pairs) (enumerate_from 0 (cuts_of_stream (priorities_of priority) stream))
+    flat_map (shown_video (priorities_of priority) stream pairs)
+    (enumerate_from 0 (cuts_of_stream (priorities_of priority) stream))
 
 -- the bytes of a group's pieces in its first layers, in the order of the stream
 abbrev pub pieces_video : (Kind → ℕ → ℕ) → List ℕ → ℕ → List Piece → List ℕ
 pieces_video layer_of stream many group =
-    flat_map (λ next. take next.piece.len (drop next.piece.at stream)) (filter (λ next. nat_lt (layer_of next.piece.kind next.place) many) (placed group))
+    flat_map (λ next. take next.piece.len (drop next.piece.at stream))
+    (filter (λ next. nat_lt (layer_of next.piece.kind next.place) many) (placed group))
 
 -- of a numbered group those in its leading layers that are shown
 abbrev pub shown_pieces : Priorities → List ℕ → List Pair → ℕ × List Piece → List ℕ
@@ -45,4 +48,5 @@ shown_pieces priority stream pairs e =
 
 -- those of all groups, in the order of the stream
 abbrev pub stream_pieces : List ℕ → List ℕ → List Pair → List ℕ
-stream_pieces priority stream pairs = flat_map (shown_pieces (priorities_of priority) stream pairs) (enumerate_from 0 (groups_of (pieces_of stream)))
+stream_pieces priority stream pairs =
+    flat_map (shown_pieces (priorities_of priority) stream pairs) (enumerate_from 0 (groups_of (pieces_of stream)))

@@ -30,12 +30,13 @@ pub record HasFront (store out : List ℕ) (old new : Seen) : Type 0 where
   pub file : Wrote [] (Some (video_file out video)) old new
 
 -- no file has changed, or OUT has such a front
-abbrev pub LeavesFront : List ℕ → List ℕ → Seen → Seen → Type 0
-LeavesFront store out old new = (new.files ≡ old.files) ⊎ HasFront store out old new
+abbrev pub LeavesVideoFront : List ℕ → List ℕ → Seen → Seen → Type 0
+LeavesVideoFront store out old new = (new.files ≡ old.files) ⊎ HasFront store out old new
 
 -- a file failed in its turn: OUT only where the first is a store
 abbrev pub FailedInTurn : List ℕ → List ℕ → Seen → Seen → Type 0
-FailedInTurn store out old new = Failed (reading store ∷ []) old new ⊎ (IsStore store old × Failed (writing out ∷ []) old new)
+FailedInTurn store out old new =
+    Failed (reading store ∷ []) old new ⊎ (IsStore store old × Failed (writing out ∷ []) old new)
 
 -- Each group of the store has a video, and none a bad table; OUT has the videos, in order.
 pub record WritesVideo (store out : List ℕ) (old new : Seen) : Type 0 where
@@ -46,7 +47,8 @@ pub record WritesVideo (store out : List ℕ) (old new : Seen) : Type 0 where
   pub none : (group : ℕ) → group < groups_told set → HasBadTable set group → ⊥
   pub file : Wrote (video_file out video ∷ []) None old new
 
--- This group of the store has a bad table, and so no video; each group before it has a video, and OUT has these, in order.
+-- This group of the store has a bad table, and so no video; each group before it has a video, and OUT has these, in
+-- order.
 pub record StopsAtTable (store out : List ℕ) (group : ℕ) (old new : Seen) : Type 0 where
   pub set : KeptSet
   pub store_is : HasStore old.files store set
@@ -60,7 +62,7 @@ pub record StopsAtTable (store out : List ℕ) (group : ℕ) (old new : Seen) : 
 -- What `video` does, by its end.
 abbrev pub Videos : List ℕ → List ℕ → Seen → Seen → VideoEnd → Type 0
 Videos store out old new (Done bytes) = (w : WritesVideo store out old new) × (bytes ≡ length w.video)
-Videos store out old new NoMemory = LeavesFront store out old new
-Videos store out old new PlaceFault = FailedInTurn store out old new × LeavesFront store out old new
+Videos store out old new NoMemory = LeavesVideoFront store out old new
+Videos store out old new PlaceFault = FailedInTurn store out old new × LeavesVideoFront store out old new
 Videos store out old new (BadStore at kind) = HasBadStore old.files store (At at kind) × (new.files ≡ old.files)
 Videos store out old new (BadTable group) = StopsAtTable store out group old new

@@ -17,14 +17,17 @@ pub record HasStoreOf (priority stream store : List ℕ) (files : Files) (pairs 
   pub store_is : files store ≡ Some (pairs_store (session_of priority stream) pairs)
 
 -- memory was found, and the place had no fault of this call
-pub record CanVideo (priority stream store out : List ℕ) (files : Files) (pairs : List Pair) (old new : Seen) (end : VideoEnd) : Type 0 where
+pub record CanVideo (priority stream store out : List ℕ) (files : Files) (pairs : List Pair) (old new : Seen)
+    (end : VideoEnd) : Type 0 where
   pub memory : end ≢ NoMemory
   pub well : Failed (reading store ∷ writing out ∷ []) old new → ⊥
   pub given : HasStoreOf priority stream store files pairs old
 
--- OUT has the bytes of the stream that are shown, and no other file has changed. These are the bytes of the pieces in the leading
+-- OUT has the bytes of the stream that are shown, and no other file has changed. These are the bytes of the pieces in
+-- the leading
 -- layers that are shown, and the stream where every layer of every group is shown.
-pub record VideosSession (priority stream out : List ℕ) (files : Files) (pairs : List Pair) (new : Seen) (end : VideoEnd) : Type 0 where
+pub record VideosSession (priority stream out : List ℕ) (files : Files) (pairs : List Pair) (new : Seen)
+    (end : VideoEnd) : Type 0 where
   pub file : new.files ≡ Some (with_file out (stream_video priority stream pairs) files)
   pub pieces : stream_video priority stream pairs ≡ stream_pieces priority stream pairs
   pub whole : all_shown (session_of priority stream) pairs ≡ true → stream_video priority stream pairs ≡ stream
@@ -33,5 +36,6 @@ pub record VideosSession (priority stream out : List ℕ) (files : Files) (pairs
 -- so it is for every such store of every stream
 abbrev pub CompletesVideo : List ℕ → List ℕ → Seen → Seen → VideoEnd → Type 0
 CompletesVideo store out old new end =
-    (priority stream : List ℕ) (files : Files) (pairs : List Pair) → CanVideo priority stream store out files pairs old new end
+    (priority stream : List ℕ) (files : Files) (pairs : List Pair)
+    → CanVideo priority stream store out files pairs old new end
     → VideosSession priority stream out files pairs new end

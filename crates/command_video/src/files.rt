@@ -10,14 +10,15 @@ ghost use Rattle.pet_receive.specs.ShownBytes.{groups_told};
 ghost use Rattle.store_text.specs.Files.{HasStore};
 ghost use Rattle.store_merge.specs.Reading.{pairs_in};
 ghost use Rattle.outside_files.specs.Outputs.{Puts};
-ghost use Rattle.command_video.specs.Ends.{IsReadEnd, IsTableEnd, IsGroupEnd, IsPutEnd, has_failed};
+ghost use Rattle.command_video.specs.Ends.{has_failed};
+ghost use Rattle.command_video.specs.inside.Ends.{IsReadEnd, IsTableEnd, IsGroupEnd, IsPutEnd};
 ghost use Rattle.command_video.specs.StoreVideo.{AreVideos, IsGroupVideo};
 ghost use Rattle.command_video.specs.Videos.{Videos, WritesVideo};
 
 use crate::command::VideoEnd;
 use pet_base::{Failed, NoMemory, Place, Steps};
-use pet_receive::Receiver;
 use pet_field::Gf16Tables;
+use pet_receive::Receiver;
 use reassemble::{Assemble, assemble};
 use std::alloc::Global;
 use std::sync::ledger::Ledger;

@@ -1,5 +1,6 @@
 -- What the loops of the arithmetic modulo a polynomial keep.
-use Rattle.std.proofs.Common.{◌≡◌, ℕ, inl, inr, suc, ◌+◌, ◌-◌, ◌*◌, ◌/◌, ◌%◌, ◌^◌, ◌<◌, ◌≤◌, sym, ap, ap₂, ◌∙◌, subst, arith}
+use Rattle.std.proofs.Common.{◌≡◌, ℕ, inl, inr, suc, ◌+◌, ◌-◌, ◌*◌, ◌/◌, ◌%◌, ◌^◌, ◌<◌, ◌≤◌, sym, ap, ap₂, ◌∙◌, subst}
+use Rattle.std.proofs.Common.{arith}
 use Rattle.std.proofs.lemmas.Nat.{leading_top, shl_whole, one_shl, shr-shr, and_mask}
 use lib.Bits.{bit_and, bit_xor, xor_assoc, xor_comm, xor_zero_r}
 use lib.Count.{count_leading_zeros}
@@ -51,21 +52,27 @@ halved a i h =
 
 -- ---- multiplying
 
-module _ (m a i b p t : ℕ) (some : 0 < i) (so_far : IsMultiple m (bit_xor (carryless (a / 2 ^ i) b) p)) (twice : IsMultiple m (bit_xor (2 * p) t)) where
+module _ (m a i b p t : ℕ) (some : 0 < i) (so_far : IsMultiple m (bit_xor (carryless (a / 2 ^ i) b) p))
+    (twice : IsMultiple m (bit_xor (2 * p) t)) where
   by_bit : IsMultiple m (bit_xor (carryless (a / 2 ^ (i - 1)) b) (bit_xor (a / 2 ^ (i - 1) % 2 * b) t))
   by_bit = horner m (a / 2 ^ (i - 1)) b p t (rw (halved a i some) so_far) twice
 
-  pub multiply_one : bit_and (a / 2 ^ (i - 1)) 1 ≡ 1 → IsMultiple m (bit_xor (carryless (a / 2 ^ (i - 1)) b) (bit_xor t b))
+  pub multiply_one : bit_and (a / 2 ^ (i - 1)) 1 ≡ 1
+      → IsMultiple m (bit_xor (carryless (a / 2 ^ (i - 1)) b) (bit_xor t b))
   multiply_one e = rw (bit_one (a / 2 ^ (i - 1)) e, one-mul b, xor_comm b t) at by_bit
 
   pub multiply_zero : (bit_and (a / 2 ^ (i - 1)) 1 ≡ 1 → ⊥) → IsMultiple m (bit_xor (carryless (a / 2 ^ (i - 1)) b) t)
   multiply_zero ne = rw (bit_zero (a / 2 ^ (i - 1)) ne, zero-mul b) at by_bit
 
 pub multiply_start : (d m a b : ℕ) → a < 2 ^ d → IsMultiple m (bit_xor (carryless (a / 2 ^ d) b) 0)
-multiply_start d m a b h =
-    (0, xor_zero_r (carryless (a / 2 ^ d) b) ∙ ap (λ x. carryless x b) (div-eq_of_lt h) ∙ carryless-zero_l b ∙ sym (carryless-zero_l m))
+multiply_start d m a b h = (
+  0,
+  xor_zero_r (carryless (a / 2 ^ d) b) ∙ ap (λ x. carryless x b) (div-eq_of_lt h) ∙ carryless-zero_l b
+      ∙ sym (carryless-zero_l m),
+)
 
-pub multiply_end : (d m a b p : ℕ) → p < 2 ^ d → IsMultiple m (bit_xor (carryless (a / 2 ^ 0) b) p) → IsProduct d m a b p
+pub multiply_end : (d m a b p : ℕ) → p < 2 ^ d → IsMultiple m (bit_xor (carryless (a / 2 ^ 0) b) p)
+    → IsProduct d m a b p
 multiply_end d m a b p h x =
     let e : a / 2 ^ 0 ≡ a = omega arith in
     record { below = h; congruent = rw e at x }
@@ -81,7 +88,8 @@ degree_is a h g =
 pub degree_below : (d a e : ℕ) → a < 2 ^ d → HasDegree a e → e < d
 degree_below d a e h top = pow_order e d (omega (arith, top))
 
-module _ (m a d k r q : ℕ) (degree : HasDegree a d) (some : 0 < k) (few : d + k ≤ 32) (below : r < 2 ^ (d + k)) (so_far : bit_xor m r ≡ carryless q a) where
+module _ (m a d k r q : ℕ) (degree : HasDegree a d) (some : 0 < k) (few : d + k ≤ 32) (below : r < 2 ^ (d + k))
+    (so_far : bit_xor m r ≡ carryless q a) where
   rest_below : bit_xor r (r / 2 ^ (d + (k - 1)) % 2 * (2 ^ (k - 1) * a)) < 2 ^ (d + (k - 1))
   rest_below =
       let e : suc (d + (k - 1)) ≡ d + k = omega arith in
@@ -90,13 +98,16 @@ module _ (m a d k r q : ℕ) (degree : HasDegree a d) (some : 0 < k) (few : d + 
   shift_is : a * 2 ^ (k - 1) % 4294967296 ≡ 2 ^ (k - 1) * a
   shift_is = shl_whole a (suc d) (k - 1) 32 degree.1 (omega arith) ∙ mul_comm a (2 ^ (k - 1))
 
-  pub divide_below : bit_and (r / 2 ^ (d + (k - 1))) 1 ≡ 1 → bit_xor r (a * 2 ^ (k - 1) % 4294967296) < 2 ^ (d + (k - 1))
+  pub divide_below : bit_and (r / 2 ^ (d + (k - 1))) 1 ≡ 1
+      → bit_xor r (a * 2 ^ (k - 1) % 4294967296) < 2 ^ (d + (k - 1))
   divide_below e = rw shift_is (rw (bit_one (r / 2 ^ (d + (k - 1))) e, one-mul (2 ^ (k - 1) * a)) at rest_below)
 
-  pub divide_same : bit_xor m (bit_xor r (a * 2 ^ (k - 1) % 4294967296)) ≡ carryless (bit_xor q (1 * 2 ^ (k - 1) % 4294967296)) a
+  pub divide_same : bit_xor m (bit_xor r (a * 2 ^ (k - 1) % 4294967296))
+      ≡ carryless (bit_xor q (1 * 2 ^ (k - 1) % 4294967296)) a
   divide_same =
       rw (shift_is, one_shl (k - 1) 32 (omega arith))
-      (sym (xor_assoc m r (2 ^ (k - 1) * a)) ∙ ap₂ bit_xor so_far (sym (carryless_power (k - 1) a)) ∙ sym (carryless_xor_l q (2 ^ (k - 1)) a))
+      (sym (xor_assoc m r (2 ^ (k - 1) * a)) ∙ ap₂ bit_xor so_far (sym (carryless_power (k - 1) a))
+      ∙ sym (carryless_xor_l q (2 ^ (k - 1)) a))
 
   pub divide_skip : (bit_and (r / 2 ^ (d + (k - 1))) 1 ≡ 1 → ⊥) → r < 2 ^ (d + (k - 1))
   divide_skip ne = rw (bit_zero (r / 2 ^ (d + (k - 1))) ne, zero-mul (2 ^ (k - 1) * a), xor_zero_r r) at rest_below
@@ -108,11 +119,14 @@ divide_top d a e lo hi few is =
 
 -- ---- inverting
 
-pub inverse_step : (d m a f rest q r f' : ℕ) → IsModulus d m → a < 2 ^ d → f < 2 ^ d → rest < 2 ^ d → q < 2 ^ d → r < 2 ^ d
+pub inverse_step : (d m a f rest q r f' : ℕ) → IsModulus d m → a < 2 ^ d → f < 2 ^ d → rest < 2 ^ d → q < 2 ^ d
+    → r < 2 ^ d
     → times d m a f ≡ rest → bit_xor m r ≡ carryless q rest → IsProduct d m f q f' → times d m a f' ≡ r
 inverse_step d m a f rest q r f' modulus ha hf hrest hq hr so_far divided product =
-    let e : f' ≡ times d m f q = product_unique d m modulus.some modulus.degree f q f' (times d m f q) product (times_is d m modulus.some modulus.degree f q hf hq) in
-    ap (times d m a) e ∙ sym (times_assoc d m modulus.some modulus.degree a f q ha hf hq) ∙ ap (λ x. times d m x q) so_far
+    let e : f' ≡ times d m f q = product_unique d m modulus.some modulus.degree f q f' (times d m f q) product
+    (times_is d m modulus.some modulus.degree f q hf hq) in
+    ap (times d m a) e ∙ sym (times_assoc d m modulus.some modulus.degree a f q ha hf hq)
+    ∙ ap (λ x. times d m x q) so_far
     ∙ times_quotient d m modulus.some modulus.degree rest q r hrest hq hr divided
 
 pub inverse_end : (d m a f : ℕ) → IsModulus d m → a < 2 ^ d → f < 2 ^ d → times d m a f ≡ 1 → IsProduct d m a f 1

@@ -1,4 +1,5 @@
--- The field of 2 ^ d elements: polynomials over GF(2) of degree below d, modulo one of degree d. Textbook algebra; that the
+-- The field of 2 ^ d elements: polynomials over GF(2) of degree below d, modulo one of degree d. Textbook algebra; that
+-- the
 -- point of the number i is i itself is this project's own.
 use Rattle.std.specs.Prelude.{ℕ, ◌-◌, ◌^◌, ◌<◌, ◌≤◌, ◌≡◌, ◌↔◌, bit_xor}
 use Rattle.field_elements.specs.Field.{Operations}

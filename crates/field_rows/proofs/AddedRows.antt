@@ -1,6 +1,7 @@
 -- One row more to which a multiple of a row was added.
 use borrow.Rule.Slice.PartMut.{put_mid}
-use Rattle.std.proofs.Common.{◌≡◌, ℕ, inl, inr, ◌+◌, ◌-◌, ◌*◌, ◌<◌, ◌≤◌, List, length, get_or, take, drop, ap, ap₂, sym, ◌∙◌, arith}
+use Rattle.std.proofs.Common.{◌≡◌, ℕ, inl, inr, ◌+◌, ◌-◌, ◌*◌, ◌<◌, ◌≤◌, List, length, get_or, take, drop, ap, ap₂, sym}
+use Rattle.std.proofs.Common.{◌∙◌, arith}
 use Rattle.std.proofs.lemmas.Bool.{cases_lt}
 use Rattle.std.proofs.lemmas.List.{get_or-take, get_or-drop, length-take-le, length-drop}
 use Rattle.field_elements.specs.Field.{Operations}
@@ -10,26 +11,31 @@ use Rattle.field_rows.proofs.Parts.{part_before, part_inside, part_behind, scale
 
 -- ---- the part of a block from a place on
 
-pub part_room : {E : Type 0} (at : ℕ) (row rows : List E) → at + length row ≤ length rows → at + (at + length row - at) ≤ length rows
+pub part_room : {E : Type 0} (at : ℕ) (row rows : List E) → at + length row ≤ length rows
+    → at + (at + length row - at) ≤ length rows
 part_room at row rows room = omega arith
 
 pub part_long : {E : Type 0} (at : ℕ) (row rows : List E) → at + length row ≤ length rows
     → length (take (at + length row - at) (drop at rows)) ≡ at + length row - at
 part_long at row rows room = length-take-le (at + length row - at) (drop at rows) (omega (arith, length-drop at rows))
 
-module _ {E : Type 0} (o : Operations E) (at : ℕ) (row rows new : List E) (by : E) (room : at + length row ≤ length rows)
-    (long : length new ≡ at + length row - at) (is : new ≡ scaled_sum o by (take (at + length row - at) (drop at rows)) row) where
+module _ {E : Type 0} (o : Operations E) (at : ℕ) (row rows new : List E) (by : E)
+    (room : at + length row ≤ length rows)
+    (long : length new ≡ at + length row - at)
+    (is : new ≡ scaled_sum o by (take (at + length row - at) (drop at rows)) row) where
   abbrev z : E
   z = o.nought
 
   abbrev k : ℕ
   k = at + length row - at
 
-  pub added_inside : (c : ℕ) → c < length row → get_or (put_mid at k rows new) (at + c) z ≡ o.plus (get_or rows (at + c) z) (o.times by (get_or row c z))
+  pub added_inside : (c : ℕ) → c < length row
+      → get_or (put_mid at k rows new) (at + c) z ≡ o.plus (get_or rows (at + c) z) (o.times by (get_or row c z))
   added_inside c l =
       part_inside z at k rows new (part_room at row rows room) long c (omega arith) ∙ ap (λ t. get_or t c z) is
       ∙ scaled_entry o by z (take k (drop at rows)) row c l (omega (arith, part_long at row rows room))
-      ∙ ap (λ y. o.plus y (o.times by (get_or row c z))) (get_or-take k (drop at rows) c z (omega arith) ∙ get_or-drop at rows c z)
+      ∙ ap (λ y. o.plus y (o.times by (get_or row c z)))
+      (get_or-take k (drop at rows) c z (omega arith) ∙ get_or-drop at rows c z)
 
   pub added_before : (i : ℕ) → i < at → get_or (put_mid at k rows new) i z ≡ get_or rows i z
   added_before i l = part_before z at k rows new (part_room at row rows room) long i l
@@ -39,8 +45,10 @@ module _ {E : Type 0} (o : Operations E) (at : ℕ) (row rows new : List E) (by 
 
 -- ---- row j, from `at` on, of rows that were `old` at first; `factor` is that of each row
 
-module _ {E : Type 0} (o : Operations E) (j at : ℕ) (row rows old new : List E) (by : E) (factor : ℕ → E) (place : at ≡ j * length row)
-    (inside : (c : ℕ) → c < length row → get_or new (at + c) o.nought ≡ o.plus (get_or rows (at + c) o.nought) (o.times by (get_or row c o.nought)))
+module _ {E : Type 0} (o : Operations E) (j at : ℕ) (row rows old new : List E) (by : E) (factor : ℕ → E)
+    (place : at ≡ j * length row)
+    (inside : (c : ℕ) → c < length row
+    → get_or new (at + c) o.nought ≡ o.plus (get_or rows (at + c) o.nought) (o.times by (get_or row c o.nought)))
     (before : (i : ℕ) → i < at → get_or new i o.nought ≡ get_or rows i o.nought)
     (behind : (i : ℕ) → at + length row ≤ i → get_or new i o.nought ≡ get_or rows i o.nought) (by_is : by ≡ factor j)
     (rest : (i : ℕ) → j * length row ≤ i → get_or rows i o.nought ≡ get_or old i o.nought) where
@@ -50,8 +58,10 @@ module _ {E : Type 0} (o : Operations E) (j at : ℕ) (row rows old new : List E
   abbrev w : ℕ
   w = length row
 
-  pub sums_more : ((i c : ℕ) → i < j → c < w → get_or rows (i * w + c) y ≡ o.plus (get_or old (i * w + c) y) (o.times (factor i) (get_or row c y)))
-      → (i c : ℕ) → i < j + 1 → c < w → get_or new (i * w + c) y ≡ o.plus (get_or old (i * w + c) y) (o.times (factor i) (get_or row c y))
+  pub sums_more : ((i c : ℕ) → i < j → c < w
+      → get_or rows (i * w + c) y ≡ o.plus (get_or old (i * w + c) y) (o.times (factor i) (get_or row c y)))
+      → (i c : ℕ) → i < j + 1 → c < w
+      → get_or new (i * w + c) y ≡ o.plus (get_or old (i * w + c) y) (o.times (factor i) (get_or row c y))
   sums_more sums i n l m =
       elim (cases_lt i j) [
         | inl p ↦ before (i * w + n) (rw place (place_below i j w n p m)) ∙ sums i n p m
@@ -59,7 +69,8 @@ module _ {E : Type 0} (o : Operations E) (j at : ℕ) (row rows old new : List E
             let s : i ≡ j = omega arith in
             let e : i * w + n ≡ at + n = ap (λ t. t * w + n) s ∙ ap (λ t. t + n) (sym place) in
             ap (λ t. get_or new t y) e ∙ inside n m
-            ∙ ap₂ (λ u f. o.plus u (o.times f (get_or row n y))) (rest (at + n) (omega (arith, place)) ∙ ap (λ t. get_or old t y) (sym e)) (by_is ∙ ap factor (sym s))
+            ∙ ap₂ (λ u f. o.plus u (o.times f (get_or row n y)))
+            (rest (at + n) (omega (arith, place)) ∙ ap (λ t. get_or old t y) (sym e)) (by_is ∙ ap factor (sym s))
       ]
 
   pub rest_more : (i : ℕ) → (j + 1) * w ≤ i → get_or new i y ≡ get_or old i y

@@ -3,8 +3,8 @@ ghost use Rattle.std.specs.Prelude.{◌≡◌, ℕ, ◌+◌, ◌*◌, ◌<◌, �
 ghost use Rattle.pet_poly.specs.Value.{value};
 ghost use Rattle.field_rows.specs.Columns.{column};
 
-use pet_base::Steps;
 use field_elements::Field;
+use pet_base::Steps;
 use pet_poly::add_scaled;
 use std::sync::ledger::Ledger;
 

@@ -5,8 +5,8 @@ ghost use Rattle.field_rows.specs.Columns.{column};
 
 use crate::any_field::{add_scaled_at, each_column, multiply_each};
 use crate::blocks::MAX_WIDTH;
-use pet_base::Steps;
 use field_elements::Field;
+use pet_base::Steps;
 use std::sync::ledger::Ledger;
 
 /// A field that works on blocks: rows of elements, one after another, each as long, and at most 32 elements long. A

@@ -1,5 +1,6 @@
 -- How many products are made.
-use Rattle.std.proofs.Common.{◌≡◌, ◌≤◌, ◌<◌, ◌+◌, ◌-◌, ◌*◌, ◌^◌, ℕ, zero, suc, Bool, true, false, inl, inr, refl, sym, ap, ap₂, ◌∙◌, arith, subst, bit_xor}
+use Rattle.std.proofs.Common.{◌≡◌, ◌≤◌, ◌<◌, ◌+◌, ◌-◌, ◌*◌, ◌^◌, ℕ, zero, suc, Bool, true, false, inl, inr, refl, sym}
+use Rattle.std.proofs.Common.{ap, ap₂, ◌∙◌, arith, subst, bit_xor}
 use Rattle.std.specs.Prelude.{cond, nat_lt, nat_le}
 use Rattle.std.proofs.lemmas.Bool.{cases_lt, cases_Bool, cond-true, cond-false, lt-ltb, le-ltb, le-leb, lt-leb}
 use Rattle.std.proofs.lemmas.Nat.{mul-le, pow-add}
@@ -14,18 +15,22 @@ values_none : (w c k : ℕ) → products_of_values w 0 c k ≡ 0
 unfolding products_of_values
 values_none w c k = refl
 
-values_low : (w n c k : ℕ) → k ≤ 2 ^ n → products_of_values w (suc n) c k ≡ 2 * n + cond (nat_lt c (2 ^ n)) 0 (2 ^ n * w) + products_of_values w n c k
+values_low : (w n c k : ℕ) → k ≤ 2 ^ n
+    → products_of_values w (suc n) c k ≡ 2 * n + cond (nat_lt c (2 ^ n)) 0 (2 ^ n * w) + products_of_values w n c k
 unfolding products_of_values
 values_low w n c k l =
     ap (λ z. 2 * n + cond (nat_lt c (2 ^ n)) 0 (2 ^ n * w) + z)
-    (cond-true (nat_le k (2 ^ n)) (products_of_values w n c k) (products_of_values w n c (2 ^ n) + products_of_values w n (bit_xor c (2 ^ n)) (k - 2 ^ n)) (le-leb k (2 ^ n) l))
+    (cond-true (nat_le k (2 ^ n)) (products_of_values w n c k)
+    (products_of_values w n c (2 ^ n) + products_of_values w n (bit_xor c (2 ^ n)) (k - 2 ^ n)) (le-leb k (2 ^ n) l))
 
 values_both : (w n c k : ℕ) → 2 ^ n < k → products_of_values w (suc n) c k
-    ≡ 2 * n + cond (nat_lt c (2 ^ n)) 0 (2 ^ n * w) + (products_of_values w n c (2 ^ n) + products_of_values w n (bit_xor c (2 ^ n)) (k - 2 ^ n))
+    ≡ 2 * n + cond (nat_lt c (2 ^ n)) 0 (2 ^ n * w)
+    + (products_of_values w n c (2 ^ n) + products_of_values w n (bit_xor c (2 ^ n)) (k - 2 ^ n))
 unfolding products_of_values
 values_both w n c k l =
     ap (λ z. 2 * n + cond (nat_lt c (2 ^ n)) 0 (2 ^ n * w) + z)
-    (cond-false (nat_le k (2 ^ n)) (products_of_values w n c k) (products_of_values w n c (2 ^ n) + products_of_values w n (bit_xor c (2 ^ n)) (k - 2 ^ n)) (lt-leb k (2 ^ n) l))
+    (cond-false (nat_le k (2 ^ n)) (products_of_values w n c k)
+    (products_of_values w n c (2 ^ n) + products_of_values w n (bit_xor c (2 ^ n)) (k - 2 ^ n)) (lt-leb k (2 ^ n) l))
 
 -- products that are made unless c is in the subspace
 skipped : (c p h s1 s2 : ℕ) → (c < p → s2 ≡ s1) → (p ≤ c → s2 ≡ s1 + h) → s2 ≡ s1 + cond (nat_lt c p) 0 h
@@ -35,23 +40,31 @@ skipped c p h s1 s2 f g =
       | inr l ↦ omega (arith, g l, cond-false (nat_lt c p) 0 h (le-ltb c p l))
     ]
 
-pub fly_cost : (level n w c half bit count s0 s1 s2 s3 s4 high : ℕ) → level ≡ suc n → high ≡ 2 ^ n * w → half ≡ 2 ^ n → bit ≡ 2 ^ n → half < count → s1 ≡ s0 + 2 * n
-    → (c < 2 ^ n → s2 ≡ s1) → (2 ^ n ≤ c → s2 ≡ s1 + high) → s3 ≡ s2 + products_of_values w n c half → s4 ≡ s3 + products_of_values w n (bit_xor c bit) (count - half)
+pub fly_cost : (level n w c half bit count s0 s1 s2 s3 s4 high : ℕ) → level ≡ suc n → high ≡ 2 ^ n * w → half ≡ 2 ^ n
+    → bit ≡ 2 ^ n → half < count → s1 ≡ s0 + 2 * n
+    → (c < 2 ^ n → s2 ≡ s1) → (2 ^ n ≤ c → s2 ≡ s1 + high) → s3 ≡ s2 + products_of_values w n c half
+    → s4 ≡ s3 + products_of_values w n (bit_xor c bit) (count - half)
     → s4 ≡ s0 + products_of_values w level c count
 fly_cost level n w c half bit count s0 s1 s2 s3 s4 high e eh em eb some a f g x y =
     let p = 2 ^ n in
-    let all : products_of_values w level c count ≡ 2 * n + cond (nat_lt c p) 0 (p * w) + (products_of_values w n c p + products_of_values w n (bit_xor c p) (count - p)) =
+    let all : products_of_values w level c count
+    ≡ 2 * n + cond (nat_lt c p) 0 (p * w)
+    + (products_of_values w n c p + products_of_values w n (bit_xor c p) (count - p)) =
     ap (λ k. products_of_values w k c count) e ∙ values_both w n c count (omega arith) in
     let low : products_of_values w n c half ≡ products_of_values w n c p = ap (products_of_values w n c) em in
-    let high_is : products_of_values w n (bit_xor c bit) (count - half) ≡ products_of_values w n (bit_xor c p) (count - p) =
+    let high_is : products_of_values w n (bit_xor c bit) (count - half)
+    ≡ products_of_values w n (bit_xor c p) (count - p) =
     ap₂ (λ q r. products_of_values w n (bit_xor c q) (count - r)) eb em in
     omega (arith, all, low, high_is, skipped c p (p * w) s1 s2 f (λ l. g l ∙ ap (λ z. s1 + z) eh))
 
-pub fly_low_cost : (level n w c half count s0 s1 s2 s3 high : ℕ) → level ≡ suc n → high ≡ 2 ^ n * w → half ≡ 2 ^ n → count ≤ half → s1 ≡ s0 + 2 * n
-    → (c < 2 ^ n → s2 ≡ s1) → (2 ^ n ≤ c → s2 ≡ s1 + high) → s3 ≡ s2 + products_of_values w n c count → s3 ≡ s0 + products_of_values w level c count
+pub fly_low_cost : (level n w c half count s0 s1 s2 s3 high : ℕ) → level ≡ suc n → high ≡ 2 ^ n * w → half ≡ 2 ^ n
+    → count ≤ half → s1 ≡ s0 + 2 * n
+    → (c < 2 ^ n → s2 ≡ s1) → (2 ^ n ≤ c → s2 ≡ s1 + high) → s3 ≡ s2 + products_of_values w n c count
+    → s3 ≡ s0 + products_of_values w level c count
 fly_low_cost level n w c half count s0 s1 s2 s3 high e eh em few a f g x =
     let p = 2 ^ n in
-    let all : products_of_values w level c count ≡ 2 * n + cond (nat_lt c p) 0 (p * w) + products_of_values w n c count =
+    let all : products_of_values w level c count
+    ≡ 2 * n + cond (nat_lt c p) 0 (p * w) + products_of_values w n c count =
     ap (λ k. products_of_values w k c count) e ∙ values_low w n c count (omega arith) in
     omega (arith, all, skipped c p (p * w) s1 s2 f (λ l. g l ∙ ap (λ z. s1 + z) eh))
 
@@ -67,13 +80,16 @@ powers_none b k = refl
 powers_low : (b n k : ℕ) → k ≤ 2 ^ n * b → products_of_powers b (suc n) k ≡ products_of_powers b n k
 unfolding products_of_powers
 powers_low b n k l =
-    cond-true (nat_le k (2 ^ n * b)) (products_of_powers b n k) (n + 1 + products_of_powers b n (2 ^ n * b) + products_of_powers b n (k - 2 ^ n * b)) (le-leb k (2 ^ n * b) l)
+    cond-true (nat_le k (2 ^ n * b)) (products_of_powers b n k)
+    (n + 1 + products_of_powers b n (2 ^ n * b) + products_of_powers b n (k - 2 ^ n * b)) (le-leb k (2 ^ n * b) l)
 
 powers_both : (b n k : ℕ) → 2 ^ n * b < k
-    → products_of_powers b (suc n) k ≡ n + 1 + products_of_powers b n (2 ^ n * b) + products_of_powers b n (k - 2 ^ n * b)
+    → products_of_powers b (suc n) k
+    ≡ n + 1 + products_of_powers b n (2 ^ n * b) + products_of_powers b n (k - 2 ^ n * b)
 unfolding products_of_powers
 powers_both b n k l =
-    cond-false (nat_le k (2 ^ n * b)) (products_of_powers b n k) (n + 1 + products_of_powers b n (2 ^ n * b) + products_of_powers b n (k - 2 ^ n * b)) (lt-leb k (2 ^ n * b) l)
+    cond-false (nat_le k (2 ^ n * b)) (products_of_powers b n k)
+    (n + 1 + products_of_powers b n (2 ^ n * b) + products_of_powers b n (k - 2 ^ n * b)) (lt-leb k (2 ^ n * b) l)
 
 -- blocks of rows
 block_rows : (j n w : ℕ) → 2 ^ (j + n) * w ≡ 2 ^ n * (2 ^ j * w)
@@ -89,7 +105,8 @@ front_le first b =
       | inr t ↦ omega (arith, cond-false first b 0 t)
     ]
 
-pub scale_low_cost : (level n j w half known s0 s1 : ℕ) (first : Bool) → level ≡ suc n → half ≡ 2 ^ (j + n) * w → known ≤ half
+pub scale_low_cost : (level n j w half known s0 s1 : ℕ) (first : Bool) → level ≡ suc n → half ≡ 2 ^ (j + n) * w
+    → known ≤ half
     → s1 ≡ s0 + (known - cond first (2 ^ j * w) 0) + products_of_powers (2 ^ j * w) n known
     → s1 ≡ s0 + (known - cond first (2 ^ j * w) 0) + products_of_powers (2 ^ j * w) level known
 scale_low_cost level n j w half known s0 s1 first e eh few a =
@@ -98,22 +115,26 @@ scale_low_cost level n j w half known s0 s1 first e eh few a =
     ap (λ k. products_of_powers b k known) e ∙ powers_low b n known (omega (arith, block_rows j n w)) in
     omega (arith, all)
 
-pub scale_both_cost : (level n j w half known s0 s1 s2 s3 s4 : ℕ) (first : Bool) → level ≡ suc n → half ≡ 2 ^ (j + n) * w → half < known
+pub scale_both_cost : (level n j w half known s0 s1 s2 s3 s4 : ℕ) (first : Bool) → level ≡ suc n
+    → half ≡ 2 ^ (j + n) * w → half < known
     → s1 ≡ s0 + n → s2 ≡ s1 + 1 → s3 ≡ s2 + (half - cond first (2 ^ j * w) 0) + products_of_powers (2 ^ j * w) n half
     → s4 ≡ s3 + (known - half - 0) + products_of_powers (2 ^ j * w) n (known - half)
     → s4 ≡ s0 + (known - cond first (2 ^ j * w) 0) + products_of_powers (2 ^ j * w) level known
 scale_both_cost level n j w half known s0 s1 s2 s3 s4 first e eh some a1 a2 a3 a4 =
     let b = 2 ^ j * w in
     let h : half ≡ 2 ^ n * b = eh ∙ block_rows j n w in
-    let all : products_of_powers b level known ≡ n + 1 + products_of_powers b n (2 ^ n * b) + products_of_powers b n (known - 2 ^ n * b) =
+    let all : products_of_powers b level known
+    ≡ n + 1 + products_of_powers b n (2 ^ n * b) + products_of_powers b n (known - 2 ^ n * b) =
     ap (λ k. products_of_powers b k known) e ∙ powers_both b n known (omega arith) in
     let low : products_of_powers b n half ≡ products_of_powers b n (2 ^ n * b) = ap (products_of_powers b n) h in
-    let high : products_of_powers b n (known - half) ≡ products_of_powers b n (known - 2 ^ n * b) = ap (λ q. products_of_powers b n (known - q)) h in
+    let high : products_of_powers b n (known - half) ≡ products_of_powers b n (known - 2 ^ n * b) =
+    ap (λ q. products_of_powers b n (known - q)) h in
     let whole : 1 * b ≤ 2 ^ n * b = mul-le 1 b (2 ^ n) b (pow_pos n) (omega arith) in
     omega (arith, all, low, high, whole, front_le first b)
 
 -- one block
-pub scale_none_cost : (level j w known s0 s1 front : ℕ) (first : Bool) → level ≡ 0 → known ≤ 2 ^ (j + level) * w → front ≡ known → (first ≡ true → s1 ≡ s0) → (first ≡ false → s1 ≡ s0 + front)
+pub scale_none_cost : (level j w known s0 s1 front : ℕ) (first : Bool) → level ≡ 0 → known ≤ 2 ^ (j + level) * w
+    → front ≡ known → (first ≡ true → s1 ≡ s0) → (first ≡ false → s1 ≡ s0 + front)
     → s1 ≡ s0 + (known - cond first (2 ^ j * w) 0) + products_of_powers (2 ^ j * w) level known
 scale_none_cost level j w known s0 s1 front first e few ef f g =
     let b = 2 ^ j * w in
@@ -129,25 +150,31 @@ conversion_none : (b k : ℕ) → products_of_conversion b 0 k ≡ 0
 unfolding products_of_conversion
 conversion_none b k = refl
 
-conversion_next : (b n k : ℕ) → products_of_conversion b (suc n) k ≡ k - 2 * b + products_of_powers (2 * b) n k + products_of_conversion (2 * b) n k
+conversion_next : (b n k : ℕ)
+    → products_of_conversion b (suc n) k
+    ≡ k - 2 * b + products_of_powers (2 * b) n k + products_of_conversion (2 * b) n k
 unfolding products_of_conversion
 conversion_next b n k = refl
 
 pub convert_none_cost : (level b k s : ℕ) → level ≡ 0 → s ≡ s + products_of_conversion b level k
 convert_none_cost level b k s e = omega (arith, ap (λ n. products_of_conversion b n k) e ∙ conversion_none b k)
 
-pub convert_cost : (level n j w k s0 s1 s2 : ℕ) → level ≡ suc n → s1 ≡ s0 + (k - 2 ^ (j + 1) * w) + products_of_powers (2 ^ (j + 1) * w) n k
+pub convert_cost : (level n j w k s0 s1 s2 : ℕ) → level ≡ suc n
+    → s1 ≡ s0 + (k - 2 ^ (j + 1) * w) + products_of_powers (2 ^ (j + 1) * w) n k
     → s2 ≡ s1 + products_of_conversion (2 ^ (j + 1) * w) n k → s2 ≡ s0 + products_of_conversion (2 ^ j * w) level k
 convert_cost level n j w k s0 s1 s2 e a b =
     let d : 2 ^ (j + 1) * w ≡ 2 * (2 ^ j * w) = block_rows j 1 w in
     let all : products_of_conversion (2 ^ j * w) level k
     ≡ k - 2 * (2 ^ j * w) + products_of_powers (2 * (2 ^ j * w)) n k + products_of_conversion (2 * (2 ^ j * w)) n k =
     ap (λ i. products_of_conversion (2 ^ j * w) i k) e ∙ conversion_next (2 ^ j * w) n k in
-    let powers : products_of_powers (2 ^ (j + 1) * w) n k ≡ products_of_powers (2 * (2 ^ j * w)) n k = ap (λ q. products_of_powers q n k) d in
-    let rest : products_of_conversion (2 ^ (j + 1) * w) n k ≡ products_of_conversion (2 * (2 ^ j * w)) n k = ap (λ q. products_of_conversion q n k) d in
+    let powers : products_of_powers (2 ^ (j + 1) * w) n k ≡ products_of_powers (2 * (2 ^ j * w)) n k =
+    ap (λ q. products_of_powers q n k) d in
+    let rest : products_of_conversion (2 ^ (j + 1) * w) n k ≡ products_of_conversion (2 * (2 ^ j * w)) n k =
+    ap (λ q. products_of_conversion q n k) d in
     omega (arith, d, all, powers, rest)
 
-pub from_width : (w n k s0 s1 : ℕ) → s1 ≡ s0 + products_of_conversion (2 ^ 0 * w) n k → s1 ≡ s0 + products_of_conversion w n k
+pub from_width : (w n k s0 s1 : ℕ) → s1 ≡ s0 + products_of_conversion (2 ^ 0 * w) n k
+    → s1 ≡ s0 + products_of_conversion w n k
 from_width w n k s0 s1 e =
     let one : 2 ^ 0 * w ≡ w = omega arith in
     e ∙ ap (λ b. s0 + products_of_conversion b n k) one
@@ -171,7 +198,8 @@ two_halves p n b e = grind arith
 -- half as many as there are rows and levels
 pub butterflies_are : (n : ℕ) → 2 * butterflies n ≡ n * 2 ^ n
 butterflies_are zero = refl
-butterflies_are (suc n) = two_halves (2 ^ n) n (butterflies n) (butterflies_are n) ∙ ap (λ p. suc n * p) (sym (pow-suc 2 n))
+butterflies_are (suc n) =
+    two_halves (2 ^ n) n (butterflies n) (butterflies_are n) ∙ ap (λ p. suc n * p) (sym (pow-suc 2 n))
 
 few_levels : (k : ℕ) → 3 * (k + 4) + 8 ≤ 2 * 2 ^ (k + 4)
 few_levels zero = omega arith
@@ -197,12 +225,14 @@ whole_cost n k w s0 s1 s2 a b =
     regroup n p w = grind arith
 
 -- from 16 points on, no more products than Horner's rule makes
-pub fewer : (n known w s0 s1 length : ℕ) → 4 ≤ n → 0 < w → known ≤ 2 ^ n → length ≡ 2 ^ n * w → s1 ≤ s0 + (n * known + butterflies n) * w + 2 ^ (n + 2)
+pub fewer : (n known w s0 s1 length : ℕ) → 4 ≤ n → 0 < w → known ≤ 2 ^ n → length ≡ 2 ^ n * w
+    → s1 ≤ s0 + (n * known + butterflies n) * w + 2 ^ (n + 2)
     → s1 ≤ s0 + 2 ^ n * length
 fewer n known w s0 s1 length l some few e b =
     let p = 2 ^ n in
     let rows : n * known ≤ n * p = mul-le n known n p (omega arith) few in
-    let all : (n * known + butterflies n) * w ≤ (n * p + butterflies n) * w = mul-le (n * known + butterflies n) w (n * p + butterflies n) w (omega (arith, rows)) (omega arith) in
+    let all : (n * known + butterflies n) * w ≤ (n * p + butterflies n) * w =
+    mul-le (n * known + butterflies n) w (n * p + butterflies n) w (omega (arith, rows)) (omega arith) in
     let k : n - 4 + 4 ≡ n = omega arith in
     let f : 3 * n + 8 ≤ 2 * p = subst (λ j. 3 * j + 8 ≤ 2 * 2 ^ j) k (few_levels (n - 4)) in
     let g : n + 2 ≡ suc (suc n) = omega arith in

@@ -3,7 +3,7 @@ use Rattle.std.proofs.Common.{◌≡◌, ◌<◌, ◌≤◌, ◌++◌, ℕ, zero
 use Rattle.std.specs.List.{AllByRecursion as Each}
 use Rattle.field_elements.specs.Field.{Operations, IsField}
 use Rattle.field_elements.specs.laws.FieldLaws as A
-use Rattle.field_transform.specs.Trees.{Tree, flat, add, each, flown}
+use Rattle.field_transform.specs.inside.Trees.{Tree, flat, add, each, flown}
 use Rattle.field_transform.proofs.Leaves.{Holds, weighed, points}
 use Rattle.field_transform.proofs.Readings.{IsReading, trees_read}
 
@@ -39,17 +39,27 @@ each_both : {A : Type 0} (P Q : A → Type 0) (xs : List A) → Each P xs → Ea
 each_both P Q [] h g = tt
 each_both P Q (x ∷ xs) h g = ((h.0, g.0), each_both P Q xs h.1 g.1)
 
-module _ {E : Type 0} (P : E → Type 0) (o : Operations E) (f : IsField P o) (two : (a : E) → P a → o.plus a a ≡ o.nought)
+module _ {E : Type 0} (P : E → Type 0) (o : Operations E) (f : IsField P o)
+    (two : (a : E) → P a → o.plus a a ≡ o.nought)
     (b : ℕ → E) (m : ℕ) (hat : ℕ → E → E) (H : AreHats P o b m hat) where
   -- the value at x of what stands in the basis of products of hats
   abbrev pub value_at : (n : ℕ) → Tree E n → E → E
   value_at n t x = weighed o (λ a. a) (λ i. hat i x) n t
 
   pub elements_read : IsReading P o P o.plus o.times (λ a. a)
-  elements_read = record { plus_ok = f.plus_is; by_ok = f.times_is; is = λ b h. h; sum = λ a b h g. refl; multiple = λ s b h g. refl }
+  elements_read =
+      record {
+        plus_ok = f.plus_is;
+        by_ok = f.times_is;
+        is = λ b h. h;
+        sum = λ a b h g. refl;
+        multiple = λ s b h g. refl;
+      }
 
-  pub reads : (n : ℕ) (x : E) → n ≤ m → P x → IsReading P o (Holds P n) (add o.plus n) (λ a. each (o.times a) n) (λ t. value_at n t x)
-  reads n x l hx = trees_read P o f two P o.plus o.times (λ a. a) elements_read (λ i. hat i x) n (λ i k. H.is i x (omega arith) hx)
+  pub reads : (n : ℕ) (x : E) → n ≤ m → P x
+      → IsReading P o (Holds P n) (add o.plus n) (λ a. each (o.times a) n) (λ t. value_at n t x)
+  reads n x l hx =
+      trees_read P o f two P o.plus o.times (λ a. a) elements_read (λ i. hat i x) n (λ i k. H.is i x (omega arith) hx)
 
   pub points_are : (n : ℕ) (c : E) → n ≤ m → P c → Each P (points o b n c)
   points_are zero c l h = (h, tt)
@@ -63,13 +73,17 @@ module _ {E : Type 0} (P : E → Type 0) (o : Operations E) (f : IsField P o) (t
   constant n (suc k) c l g h =
       let hb : P (b k) = H.base k (omega arith) in
       let e : hat n (o.plus c (b k)) ≡ hat n c =
-      H.sum n c (b k) l h hb ∙ ap (o.plus (hat n c)) (H.below n k l (omega arith)) ∙ f.plus-zero (hat n c) (H.is n c l h) in
-      each_append (λ x. hat n x ≡ hat n c) (points o b k c) (points o b k (o.plus c (b k))) (constant n k c l (omega arith) h)
-      (each_map (λ x. hat n x ≡ hat n (o.plus c (b k))) (λ x. hat n x ≡ hat n c) (λ x q. q ∙ e) (points o b k (o.plus c (b k)))
+      H.sum n c (b k) l h hb ∙ ap (o.plus (hat n c)) (H.below n k l (omega arith))
+      ∙ f.plus-zero (hat n c) (H.is n c l h) in
+      each_append (λ x. hat n x ≡ hat n c) (points o b k c) (points o b k (o.plus c (b k)))
+      (constant n k c l (omega arith) h)
+      (each_map (λ x. hat n x ≡ hat n (o.plus c (b k))) (λ x. hat n x ≡ hat n c) (λ x q. q ∙ e)
+      (points o b k (o.plus c (b k)))
       (constant n k (o.plus c (b k)) l (omega arith) (f.plus_is c (b k) h hb)))
 
   -- the butterflies give all values on the coset
-  pub flown_values : (n : ℕ) (c : E) (t : Tree E n) → n ≤ m → P c → Holds P n t → flat n (flown o hat b n c t) ≡ map (value_at n t) (points o b n c)
+  pub flown_values : (n : ℕ) (c : E) (t : Tree E n) → n ≤ m → P c → Holds P n t
+      → flat n (flown o hat b n c t) ≡ map (value_at n t) (points o b n c)
   flown_values zero c t l hc h = refl
   flown_values (suc n) c t l hc h =
       let k : n < m = omega arith in
@@ -85,7 +99,8 @@ module _ {E : Type 0} (P : E → Type 0) (o : Operations E) (f : IsField P o) (t
       let hu : Holds P n u = (R c hc).plus_ok t.low (each (o.times s) n t.high) h.0 hm in
       let hw : Holds P n w = (R c hc).plus_ok u t.high hu h.1 in
       let at_u : (x : E) → P x → value_at n u x ≡ o.plus (value_at n t.low x) (o.times s (value_at n t.high x)) =
-      λ x hx. (R x hx).sum t.low (each (o.times s) n t.high) h.0 hm ∙ ap (o.plus (value_at n t.low x)) ((R x hx).multiple s t.high hs h.1) in
+      λ x hx. (R x hx).sum t.low (each (o.times s) n t.high) h.0 hm
+      ∙ ap (o.plus (value_at n t.low x)) ((R x hx).multiple s t.high hs h.1) in
       let first : (x : E) → (P x × (hat n x ≡ hat n c)) → value_at n u x ≡ value_at (suc n) t x =
       λ x q. at_u x q.0 ∙ ap (λ z. o.plus (value_at n t.low x) (o.times z (value_at n t.high x))) (sym q.1) in
       let one_more : hat n d ≡ o.plus s o.unit = H.sum n c (b n) k hc hb ∙ ap (o.plus s) (H.here n k) in
@@ -97,14 +112,17 @@ module _ {E : Type 0} (P : E → Type 0) (o : Operations E) (f : IsField P o) (t
       let hhi : P hi = (R x q.0).is t.high h.1 in
       (R x q.0).sum u t.high hu h.1 ∙ ap (λ z. o.plus z hi) (at_u x q.0)
       ∙ f.plus_assoc lo (o.times s hi) hi hlo (f.times_is s hi hs hhi) hhi
-      ∙ ap (o.plus lo) (ap (o.plus (o.times s hi)) (sym (f.times_comm o.unit hi f.one_is hhi ∙ f.times-one hi hhi)) ∙ sym (A.plus-times P o f s o.unit hi hs f.one_is hhi))
+      ∙ ap (o.plus lo) (ap (o.plus (o.times s hi)) (sym (f.times_comm o.unit hi f.one_is hhi ∙ f.times-one hi hhi))
+      ∙ sym (A.plus-times P o f s o.unit hi hs f.one_is hhi))
       ∙ ap (λ z. o.plus lo (o.times z hi)) (sym (q.1 ∙ one_more)) in
       ap₂ ◌++◌ (flown_values n c u (omega arith) hc hu) (flown_values n d w (omega arith) hd hw)
       ∙ ap₂ ◌++◌
       (map_same (value_at n u) (value_at (suc n) t) (points o b n c)
       (each_map (λ x. P x × (hat n x ≡ hat n c)) (λ x. value_at n u x ≡ value_at (suc n) t x) first (points o b n c)
-      (each_both P (λ x. hat n x ≡ hat n c) (points o b n c) (points_are n c (omega arith) hc) (constant n n c k (omega arith) hc))))
+      (each_both P (λ x. hat n x ≡ hat n c) (points o b n c) (points_are n c (omega arith) hc)
+      (constant n n c k (omega arith) hc))))
       (map_same (value_at n w) (value_at (suc n) t) (points o b n d)
       (each_map (λ x. P x × (hat n x ≡ hat n d)) (λ x. value_at n w x ≡ value_at (suc n) t x) second (points o b n d)
-      (each_both P (λ x. hat n x ≡ hat n d) (points o b n d) (points_are n d (omega arith) hd) (constant n n d k (omega arith) hd))))
+      (each_both P (λ x. hat n x ≡ hat n d) (points o b n d) (points_are n d (omega arith) hd)
+      (constant n n d k (omega arith) hd))))
       ∙ sym (map_append (value_at (suc n) t) (points o b n c) (points o b n d))

@@ -1,7 +1,7 @@
 -- The leaves of trees, weighed, and the points of a coset.
 use Rattle.std.specs.Prelude.{ℕ, zero, suc, List, [], ◌∷◌, ◌++◌}
 use Rattle.field_elements.specs.Field.{Operations}
-use Rattle.field_transform.specs.Trees.{Tree}
+use Rattle.field_transform.specs.inside.Trees.{Tree}
 
 abbrev pub Holds : {B : Type 0} → (B → Type 0) → (n : ℕ) → Tree B n → Type 0
 Holds P zero t = P t

@@ -15,10 +15,13 @@ module _ {E : Type 0} (P : E → Type 0) (o : Operations E) (f : IsField P o) wh
       → ((i : ℕ) → i < length old → get_or new i o.nought ≡ o.times by (get_or old i o.nought)) → All P new
   products_are by old new hb h n is =
       all_from P o.nought new
-      (λ k l. let m : k < length old = omega arith in rw (is k m) (f.times_is by (get_or old k o.nought) hb (h k o.nought m)))
+      (λ k l. let m : k < length old = omega arith in
+      rw (is k m) (f.times_is by (get_or old k o.nought) hb (h k o.nought m)))
 
-  pub sums_are : (old other new : List E) → All P old → All P other → length new ≡ length old → length old ≡ length other
-      → ((i : ℕ) → i < length other → get_or new i o.nought ≡ o.plus (get_or old i o.nought) (get_or other i o.nought)) → All P new
+  pub sums_are : (old other new : List E) → All P old → All P other → length new ≡ length old
+      → length old ≡ length other
+      → ((i : ℕ) → i < length other → get_or new i o.nought ≡ o.plus (get_or old i o.nought) (get_or other i o.nought))
+      → All P new
   sums_are old other new h g n m is =
       all_from P o.nought new
       (λ k l.
@@ -26,12 +29,15 @@ module _ {E : Type 0} (P : E → Type 0) (o : Operations E) (f : IsField P o) wh
       let b : k < length other = omega arith in
       rw (is k b) (f.plus_is (get_or old k o.nought) (get_or other k o.nought) (h k o.nought a) (g k o.nought b)))
 
-  pub multiples_are : (by : E) (old other new : List E) → P by → All P old → All P other → length new ≡ length old → length old ≡ length other
-      → ((i : ℕ) → i < length other → get_or new i o.nought ≡ o.plus (get_or old i o.nought) (o.times by (get_or other i o.nought))) → All P new
+  pub multiples_are : (by : E) (old other new : List E) → P by → All P old → All P other → length new ≡ length old
+      → length old ≡ length other
+      → ((i : ℕ) → i < length other
+      → get_or new i o.nought ≡ o.plus (get_or old i o.nought) (o.times by (get_or other i o.nought))) → All P new
   multiples_are by old other new hb h g n m is =
       all_from P o.nought new
       (λ k l.
       let a : k < length old = omega arith in
       let b : k < length other = omega arith in
       rw (is k b)
-      (f.plus_is (get_or old k o.nought) (o.times by (get_or other k o.nought)) (h k o.nought a) (f.times_is by (get_or other k o.nought) hb (g k o.nought b))))
+      (f.plus_is (get_or old k o.nought) (o.times by (get_or other k o.nought)) (h k o.nought a)
+      (f.times_is by (get_or other k o.nought) hb (g k o.nought b))))

@@ -1,5 +1,7 @@
--- The divisors of the polynomials of the subspaces, over the field of 65,536 elements, for up to 2 to the power 15 points: the
--- square of polynomial n plus that polynomial is `factor n` times polynomial n + 1. Computed, and checked in `specs/laws/Gf16Subspaces`.
+-- The divisors of the polynomials of the subspaces, over the field of 65,536 elements, for up to 2 to the power 15
+-- points: the
+-- square of polynomial n plus that polynomial is `factor n` times polynomial n + 1. Computed, and checked in
+-- `specs/laws/Gf16Subspaces`.
 use Rattle.std.specs.Prelude.{ℕ, List, [], ◌∷◌, slice_index}
 
 abbrev pub factor_list : List ℕ
@@ -9,7 +11,8 @@ unfoldable pub factor : ℕ → ℕ
 factor n = slice_index factor_list n
 
 abbrev pub inverse_list : List ℕ
-inverse_list = 30723 ∷ 4973 ∷ 60035 ∷ 613 ∷ 21230 ∷ 46348 ∷ 37670 ∷ 42719 ∷ 14201 ∷ 5337 ∷ 42404 ∷ 1214 ∷ 6583 ∷ 45757 ∷ 55335 ∷ []
+inverse_list =
+    30723 ∷ 4973 ∷ 60035 ∷ 613 ∷ 21230 ∷ 46348 ∷ 37670 ∷ 42719 ∷ 14201 ∷ 5337 ∷ 42404 ∷ 1214 ∷ 6583 ∷ 45757 ∷ 55335 ∷ []
 
 -- the inverse of a factor
 unfoldable pub inverse : ℕ → ℕ

@@ -2,6 +2,5 @@ pub mod Basis
 pub mod Subspaces
 pub mod Constants
 pub mod Steps
-pub mod Trees
-pub mod Columnwise
+pub mod inside
 pub mod laws

@@ -1,7 +1,7 @@
 //! From coefficients in the basis of the subspaces to values.
 ghost use Rattle.std.specs.Prelude.{◌≡◌, ◌<◌, ◌≤◌, ◌^◌, ◌+◌, ◌*◌, ℕ, length, All};
 ghost use Rattle.field_transform.specs.Steps.{products_of_values};
-ghost use Rattle.field_transform.specs.Columnwise.{Columnwise, Flies};
+ghost use Rattle.field_transform.specs.inside.Columnwise.{Columnwise, Flies};
 
 use crate::element::{hat, point_at};
 use crate::subspaces::Subspaces;

@@ -1,7 +1,7 @@
 //! From coefficients of powers to coefficients in the basis of the subspaces.
 ghost use Rattle.std.specs.Prelude.{◌≡◌, ◌<◌, ◌≤◌, ◌+◌, ◌-◌, ◌*◌, ◌^◌, ℕ, length, slice_index_or, All, true, cond};
 ghost use Rattle.field_rows.specs.Columns.{column};
-ghost use Rattle.field_transform.specs.Columnwise.{Columnwise, Expands, Scales, Converts, Lifts};
+ghost use Rattle.field_transform.specs.inside.Columnwise.{Columnwise, Expands, Scales, Converts, Lifts};
 ghost use Rattle.field_transform.specs.Steps.{products_of_powers, products_of_conversion};
 
 use crate::element::{factor_at, one, product, squares};

@@ -5,11 +5,11 @@ ghost use Rattle.field_transform.specs.Subspaces.{HasSubspaces};
 ghost use Rattle.field_transform.specs.laws.Gf16Subspaces.{gf16_subspaces};
 
 use crate::words::add_words;
+use field_elements::{Field, Gf16Plain};
 use field_vectors::{Products, add_multiple_row, butterfly_row, multiply_row};
 use pet_base::Steps;
-use field_elements::{Field, Gf16Plain};
-use pet_poly::add_scaled;
 use pet_field::Gf16Tables;
+use pet_poly::add_scaled;
 use std::sync::ledger::Ledger;
 
 /// A field of characteristic two, in which the point of a sum of numbers, bit by bit, is the sum of their points, and which has

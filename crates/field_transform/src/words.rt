@@ -2,8 +2,8 @@
 ghost use Rattle.std.specs.Prelude.{◌≡◌, ℕ, ◌+◌, ◌<◌, ◌≤◌, length, slice_index_or, All, true, false};
 
 use crate::subspaces::Subspaces;
-use pet_base::Steps;
 use field_elements::Field;
+use pet_base::Steps;
 use std::sync::ledger::Ledger;
 
 /// Adds words, of which those from `known` on are zero, to as many words.

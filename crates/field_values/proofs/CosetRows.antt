@@ -1,6 +1,7 @@
 -- Rows of values that are made coset after coset.
 use borrow.Rule.Slice.PartMut.{put_mid}
-use Rattle.std.proofs.Common.{◌≡◌, ℕ, inl, inr, ◌+◌, ◌-◌, ◌*◌, ◌<◌, ◌≤◌, List, length, get_or, take, drop, ap, sym, ◌∙◌, arith}
+use Rattle.std.proofs.Common.{◌≡◌, ℕ, inl, inr, ◌+◌, ◌-◌, ◌*◌, ◌<◌, ◌≤◌, List, length, get_or, take, drop, ap, sym, ◌∙◌}
+use Rattle.std.proofs.Common.{arith}
 use Rattle.std.proofs.lemmas.Bool.{cases_lt}
 use Rattle.std.proofs.lemmas.List.{get_or-take, get_or-drop, length-take-le, length-drop}
 use Rattle.field_rows.proofs.Parts.{part_before, part_inside}
@@ -9,8 +10,10 @@ use Rattle.field_rows.specs.laws.PlaceLaws.{place_below}
 use Rattle.field_values.proofs.RowAfterRow.{row_within}
 
 -- `count` rows are copied from row `from` on over those from row `to` on
-module _ {E : Type 0} (width from to count start place words : ℕ) (rows into piece : List E) (source : (from + count) * width ≤ length rows) (target : (to + count) * width ≤ length into)
-    (start_is : start ≡ from * width) (place_is : place ≡ to * width) (words_is : words ≡ count * width) (copied : piece ≡ take (start + words - start) (drop start rows)) where
+module _ {E : Type 0} (width from to count start place words : ℕ) (rows into piece : List E)
+    (source : (from + count) * width ≤ length rows) (target : (to + count) * width ≤ length into)
+    (start_is : start ≡ from * width) (place_is : place ≡ to * width) (words_is : words ≡ count * width)
+    (copied : piece ≡ take (start + words - start) (drop start rows)) where
   abbrev new : List E
   new = put_mid place (place + words - place) into piece
 
@@ -21,18 +24,24 @@ module _ {E : Type 0} (width from to count start place words : ℕ) (rows into p
   target_within = omega (arith, target, place_is, words_is)
 
   piece_long : length piece ≡ place + words - place
-  piece_long = ap length copied ∙ length-take-le (start + words - start) (drop start rows) (omega (arith, length-drop start rows, source_within)) ∙ omega arith
+  piece_long =
+      ap length copied
+      ∙ length-take-le (start + words - start) (drop start rows) (omega (arith, length-drop start rows, source_within))
+      ∙ omega arith
 
   within : place + (place + words - place) ≤ length into
   within = omega (arith, target_within)
 
-  pub copied_at : (d : E) (p c : ℕ) → p < count → c < width → get_or new ((to + p) * width + c) d ≡ get_or rows ((from + p) * width + c) d
+  pub copied_at : (d : E) (p c : ℕ) → p < count → c < width
+      → get_or new ((to + p) * width + c) d ≡ get_or rows ((from + p) * width + c) d
   copied_at d p c l m =
       let inside : p * width + c < words = omega (arith, row_within p count width l, words_is) in
       let there : (to + p) * width + c ≡ place + (p * width + c) = omega (arith, place_is) in
       let here : start + (p * width + c) ≡ (from + p) * width + c = omega (arith, start_is) in
-      ap (λ i. get_or new i d) there ∙ part_inside d place (place + words - place) into piece within piece_long (p * width + c) (omega arith)
-      ∙ ap (λ xs. get_or xs (p * width + c) d) copied ∙ get_or-take (start + words - start) (drop start rows) (p * width + c) d (omega arith)
+      ap (λ i. get_or new i d) there
+      ∙ part_inside d place (place + words - place) into piece within piece_long (p * width + c) (omega arith)
+      ∙ ap (λ xs. get_or xs (p * width + c) d) copied
+      ∙ get_or-take (start + words - start) (drop start rows) (p * width + c) d (omega arith)
       ∙ get_or-drop start rows (p * width + c) d ∙ ap (λ i. get_or rows i d) here
 
   pub before_at : (d : E) (i : ℕ) → i < to * width → get_or new i d ≡ get_or into i d
@@ -41,8 +50,10 @@ module _ {E : Type 0} (width from to count start place words : ℕ) (rows into p
 -- a coset more
 pub cosets_more : {E : Type 0} (d : E) (V : ℕ → ℕ → E) (w size coset first count : ℕ) (into after : List E)
     → ((p c : ℕ) → p < count → first + p < coset * size → c < w → get_or into (p * w + c) d ≡ V c (first + p))
-    → ((p c : ℕ) → p < count → coset * size ≤ first + p → first + p < coset * size + size → c < w → get_or after (p * w + c) d ≡ V c (first + p))
-    → ((p c : ℕ) → p < count → first + p < coset * size → c < w → get_or after (p * w + c) d ≡ get_or into (p * w + c) d)
+    → ((p c : ℕ) → p < count → coset * size ≤ first + p → first + p < coset * size + size → c < w
+    → get_or after (p * w + c) d ≡ V c (first + p))
+    → ((p c : ℕ) → p < count → first + p < coset * size → c < w
+    → get_or after (p * w + c) d ≡ get_or into (p * w + c) d)
     → (p c : ℕ) → p < count → first + p < coset * size + size → c < w → get_or after (p * w + c) d ≡ V c (first + p)
 cosets_more d V w size coset first count into after done here before p c l m k =
     elim (cases_lt (first + p) (coset * size)) [
@@ -56,8 +67,10 @@ cost_more from coset each l =
     let e : coset + 1 - from ≡ coset - from + 1 = omega arith in
     ap (λ n. n * each) e ∙ omega arith
 
--- the numbers `low` to `high - 1` are those of `first` to `first + count - 1` that lie in the coset of `size` numbers from `start` on
-module _ (first count begin width_of_coset low high start size : ℕ) (low_is : low ≡ max first begin) (high_is : high ≡ min (first + count) (begin + width_of_coset))
+-- the numbers `low` to `high - 1` are those of `first` to `first + count - 1` that lie in the coset of `size` numbers
+-- from `start` on
+module _ (first count begin width_of_coset low high start size : ℕ) (low_is : low ≡ max first begin)
+    (high_is : high ≡ min (first + count) (begin + width_of_coset))
     (begin_is : begin ≡ start) (size_is : width_of_coset ≡ size) where
   pub up_to_high : high - begin ≤ size
   up_to_high = omega arith
@@ -69,14 +82,17 @@ module _ (first count begin width_of_coset low high start size : ℕ) (low_is : 
   within_rows some near = omega arith
 
   pub coset_values : {E : Type 0} (d : E) (V : ℕ → ℕ → E) (w : ℕ) (rows into : List E)
-      → ((p c : ℕ) → p < high - low → c < w → get_or into ((low - first + p) * w + c) d ≡ get_or rows ((low - begin + p) * w + c) d)
+      → ((p c : ℕ) → p < high - low → c < w
+      → get_or into ((low - first + p) * w + c) d ≡ get_or rows ((low - begin + p) * w + c) d)
       → ((p c : ℕ) → p < high - begin → c < w → get_or rows (p * w + c) d ≡ V c (start + p))
-      → (p c : ℕ) → p < count → start ≤ first + p → first + p < start + size → c < w → get_or into (p * w + c) d ≡ V c (first + p)
+      → (p c : ℕ) → p < count → start ≤ first + p → first + p < start + size → c < w
+      → get_or into (p * w + c) d ≡ V c (first + p)
   coset_values d V w rows into copied made p c l a b m =
       let q = first + p - low in
       let here : low - first + q ≡ p = omega arith in
       let there : start + (low - begin + q) ≡ first + p = omega arith in
-      ap (λ n. get_or into (n * w + c) d) (sym here) ∙ copied q c (omega arith) m ∙ made (low - begin + q) c (omega arith) m ∙ ap (V c) there
+      ap (λ n. get_or into (n * w + c) d) (sym here) ∙ copied q c (omega arith) m
+      ∙ made (low - begin + q) c (omega arith) m ∙ ap (V c) there
 
   pub before_coset : (w p c : ℕ) → first + p < start → c < w → p * w + c < (low - first) * w
   before_coset w p c l m = place_below p (low - first) w c (omega arith) m

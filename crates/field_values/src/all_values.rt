@@ -5,9 +5,9 @@ ghost use Rattle.field_rows.specs.Blocks.{columns_of, size_of, width_of};
 ghost use Rattle.field_values.specs.Matrix.{HasRows};
 
 use crate::transformed::fill_transformed;
+use field_rows::{Block, MAX_WIDTH, Rows, block_values};
 use field_transform::Subspaces;
 use pet_base::{MAX_PACKETS, NoMemory, Steps};
-use field_rows::{Block, MAX_WIDTH, Rows, block_values};
 use std::alloc::Global;
 use std::sync::ledger::Ledger;
 

@@ -7,9 +7,9 @@ ghost use Rattle.field_values.specs.Matrix.{HasRows};
 
 use crate::cosets::{MAX_LEVEL, coset_of, size_at, transform};
 use crate::wide::side_by_side;
+use field_rows::Block;
 use field_transform::Subspaces;
 use pet_base::{MAX_PACKETS, Steps};
-use field_rows::Block;
 use std::alloc::{AllocError, Global};
 use std::sync::ledger::Ledger;
 

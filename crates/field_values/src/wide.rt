@@ -3,9 +3,9 @@ ghost use Rattle.std.specs.Prelude.{◌≡◌, ℕ, ◌+◌, ◌*◌, ◌<◌, �
 ghost use Rattle.field_rows.specs.Blocks.{columns_of, size_of, width_of};
 ghost use Rattle.field_values.specs.Wide.{AreSideBySide};
 
-use pet_base::NoMemory;
 use field_elements::Field;
 use field_rows::Block;
+use pet_base::NoMemory;
 use std::alloc::Global;
 
 /// How many copies of an element are made one by one.

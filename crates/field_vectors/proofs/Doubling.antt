@@ -1,7 +1,8 @@
 -- The products of a factor with a nibble, from its doubles.
 use Rattle.std.proofs.lemmas.Bool.{cases_lt}
 use Rattle.std.proofs.lemmas.List.{get_or-set_same, get_or-set_other}
-use Rattle.std.proofs.Common.{List, length, get_or, set, ◌≡◌, ℕ, zero, suc, ◌+◌, ◌*◌, ◌/◌, ◌%◌, ◌<◌, ◌≤◌, ◌^◌, bit_xor, inl, inr, refl, sym, ap, ap₂, ◌∙◌, arith}
+use Rattle.std.proofs.Common.{List, length, get_or, set, ◌≡◌, ℕ, zero, suc, ◌+◌, ◌*◌, ◌/◌, ◌%◌, ◌<◌, ◌≤◌, ◌^◌, bit_xor}
+use Rattle.std.proofs.Common.{inl, inr, refl, sym, ap, ap₂, ◌∙◌, arith}
 use Rattle.std.proofs.lemmas.Nat.{xor_lt, xor_comm, xor_block}
 use lib.Bits.{xor_shifted}
 use native.Mathlib.Nat.{zero-mul, one-mul, mul_comm}
@@ -20,13 +21,16 @@ abbrev pub T : ℕ → ℕ → ℕ
 T x a = times 16 0x1100B x a
 
 product : (a b c : ℕ) → a < 65536 → b < 65536 → IsProduct 16 0x1100B a b c → c ≡ T a b
-product a b c h g is = product_unique 16 0x1100B gf16_modulus.some gf16_modulus.degree a b c (T a b) is (times_is 16 0x1100B gf16_modulus.some gf16_modulus.degree a b h g)
+product a b c h g is =
+    product_unique 16 0x1100B gf16_modulus.some gf16_modulus.degree a b c (T a b) is
+    (times_is 16 0x1100B gf16_modulus.some gf16_modulus.degree a b h g)
 
 twice_of : (a : ℕ) → carryless a 2 ≡ a * 2
 twice_of a = carryless_double_r a 1 ∙ ap (λ t. 2 * t) (carryless-one_r a) ∙ mul_comm 2 a
 
 pub double_plain : (a : ℕ) → a < 65536 → a * 2 < 65536 → a * 2 ≡ T a 2
-double_plain a h g = product a 2 (a * 2) h (omega arith) (record { below = g; congruent = rw (twice_of a) (Same-refl 0x1100B (a * 2)) })
+double_plain a h g =
+    product a 2 (a * 2) h (omega arith) (record { below = g; congruent = rw (twice_of a) (Same-refl 0x1100B (a * 2)) })
 
 double_over_below : (a : ℕ) → a < 65536 → 65536 ≤ a * 2 → bit_xor (a * 2) 0x1100B < 65536
 double_over_below a h g = same_degree_below 16 (a * 2) 0x1100B (g, omega arith) gf16_modulus.degree
@@ -34,14 +38,18 @@ double_over_below a h g = same_degree_below 16 (a * 2) 0x1100B (g, omega arith) 
 double_long : (a : ℕ) → a < 65536 → 65536 ≤ a * 2 → bit_xor (a * 2) 0x1100B ≡ T a 2
 double_long a h g =
     product a 2 (bit_xor (a * 2) 0x1100B) h (omega arith)
-    (record { below = double_over_below a h g; congruent = (1, rw (twice_of a) (xor_cancel (a * 2) 0x1100B) ∙ sym (carryless-one_l 0x1100B)) })
+    (record {
+      below = double_over_below a h g;
+      congruent = (1, rw (twice_of a) (xor_cancel (a * 2) 0x1100B) ∙ sym (carryless-one_l 0x1100B));
+    })
 
 -- the bit that is shifted out goes with that of the modulus
 pub double_over : (a : ℕ) → a < 65536 → 65536 ≤ a * 2 → bit_xor ((a * 2) % 65536) 0x100B ≡ T a 2
 double_over a h g =
     let r : ℕ = (a * 2) % 65536 in
     let top : a * 2 ≡ 1 * 2 ^ 16 + r = omega arith in
-    let same : bit_xor (1 * 2 ^ 16 + r) (1 * 2 ^ 16 + 0x100B) ≡ bit_xor 1 1 * 2 ^ 16 + bit_xor r 0x100B = xor_block 16 1 1 r 0x100B (omega arith) (omega arith) in
+    let same : bit_xor (1 * 2 ^ 16 + r) (1 * 2 ^ 16 + 0x100B) ≡ bit_xor 1 1 * 2 ^ 16 + bit_xor r 0x100B =
+    xor_block 16 1 1 r 0x100B (omega arith) (omega arith) in
     let none : 0 + bit_xor r 0x100B ≡ bit_xor r 0x100B = omega arith in
     sym none ∙ sym same ∙ ap (λ t. bit_xor t 0x1100B) (sym top) ∙ double_long a h g
 
@@ -53,9 +61,11 @@ powers = (refl, refl, refl, refl)
 
 pub double_more : (x y i j : ℕ) → x < 65536 → i < 65536 → y ≡ T x i → T i 2 ≡ j → T y 2 ≡ T x j
 double_more x y i j h g e f =
-    ap (λ t. T t 2) e ∙ times_assoc 16 0x1100B gf16_modulus.some gf16_modulus.degree x i 2 h g (omega arith) ∙ ap (T x) f
+    ap (λ t. T t 2) e ∙ times_assoc 16 0x1100B gf16_modulus.some gf16_modulus.degree x i 2 h g (omega arith)
+    ∙ ap (T x) f
 
-pub doubles : (x x2 x4 x8 x16 : ℕ) → x < 65536 → x2 ≡ T x 2 → x4 ≡ T x2 2 → x8 ≡ T x4 2 → x16 ≡ T x8 2 → (x4 ≡ T x 4) × (x8 ≡ T x 8) × (x16 ≡ T x 16)
+pub doubles : (x x2 x4 x8 x16 : ℕ) → x < 65536 → x2 ≡ T x 2 → x4 ≡ T x2 2 → x8 ≡ T x4 2 → x16 ≡ T x8 2
+    → (x4 ≡ T x 4) × (x8 ≡ T x 8) × (x16 ≡ T x 16)
 doubles x x2 x4 x8 x16 h e2 e4 e8 e16 =
     let p4 : x4 ≡ T x 4 = e4 ∙ double_more x x2 2 4 h (omega arith) e2 powers.1 in
     let p8 : x8 ≡ T x 8 = e8 ∙ double_more x x4 4 8 h (omega arith) p4 powers.2 in
@@ -77,7 +87,8 @@ apart k hi lo h = xor_comm lo (hi * 2 ^ k) ∙ xor_shifted hi k lo h
 
 four : (n : ℕ) → n < 16 → bit_xor (bit_xor (bit_xor (n % 2 * 1) (n / 2 % 2 * 2)) (n / 4 % 2 * 4)) (n / 8 % 2 * 8) ≡ n
 four n h =
-    let p0 : bit_xor (n % 2 * 1) (n / 2 % 2 * 2) ≡ n % 4 = apart 1 (n / 2 % 2) (n % 2 * 1) (omega arith) ∙ omega arith in
+    let p0 : bit_xor (n % 2 * 1) (n / 2 % 2 * 2) ≡ n % 4 =
+    apart 1 (n / 2 % 2) (n % 2 * 1) (omega arith) ∙ omega arith in
     let p1 : bit_xor (n % 4) (n / 4 % 2 * 4) ≡ n % 8 = apart 2 (n / 4 % 2) (n % 4) (omega arith) ∙ omega arith in
     let p2 : bit_xor (n % 8) (n / 8 % 2 * 8) ≡ n = apart 3 (n / 8 % 2) (n % 8) (omega arith) ∙ omega arith in
     ap (λ t. bit_xor (bit_xor t (n / 4 % 2 * 4)) (n / 8 % 2 * 8)) p0 ∙ ap (λ t. bit_xor t (n / 8 % 2 * 8)) p1 ∙ p2
@@ -102,17 +113,21 @@ nibble x x2 x4 x8 n h g e2 e4 e8 =
     let d3 : T x n3 ≡ n / 8 % 2 * x8 = digit x (n / 8 % 2) 8 h (omega arith) ∙ ap (λ t. n / 8 % 2 * t) (sym e8) in
     sym
     (ap (T x) (sym (four n g)) ∙ linear x (bit_xor (bit_xor n0 n1) n2) n3 h b012 b3
-    ∙ ap₂ bit_xor (linear x (bit_xor n0 n1) n2 h b01 b2 ∙ ap₂ bit_xor (linear x n0 n1 h b0 b1 ∙ ap₂ bit_xor d0 d1) d2) d3)
+    ∙ ap₂ bit_xor
+    (linear x (bit_xor n0 n1) n2 h b01 b2 ∙ ap₂ bit_xor (linear x n0 n1 h b0 b1 ∙ ap₂ bit_xor d0 d1) d2) d3)
 
 -- ---- a place
 
 shift : (k n : ℕ) → 2 ^ k < 65536 → n < 65536 → n * 2 ^ k < 65536 → T (2 ^ k) n ≡ n * 2 ^ k
 shift k n h g b =
-    sym (product (2 ^ k) n (n * 2 ^ k) h g (record { below = b; congruent = rw (carryless_power k n, mul_comm (2 ^ k) n) (Same-refl 0x1100B (n * 2 ^ k)) }))
+    sym (product (2 ^ k) n (n * 2 ^ k) h g
+    (record { below = b; congruent = rw (carryless_power k n, mul_comm (2 ^ k) n) (Same-refl 0x1100B (n * 2 ^ k)) }))
 
-pub placed : (x y k n : ℕ) → x < 65536 → 2 ^ k < 65536 → n < 65536 → n * 2 ^ k < 65536 → y ≡ T x (2 ^ k) → T y n ≡ T x (n * 2 ^ k)
+pub placed : (x y k n : ℕ) → x < 65536 → 2 ^ k < 65536 → n < 65536 → n * 2 ^ k < 65536 → y ≡ T x (2 ^ k)
+    → T y n ≡ T x (n * 2 ^ k)
 placed x y k n h hk hn b e =
-    ap (λ t. T t n) e ∙ times_assoc 16 0x1100B gf16_modulus.some gf16_modulus.degree x (2 ^ k) n h hk hn ∙ ap (T x) (shift k n hk hn b)
+    ap (λ t. T t n) e ∙ times_assoc 16 0x1100B gf16_modulus.some gf16_modulus.degree x (2 ^ k) n h hk hn
+    ∙ ap (T x) (shift k n hk hn b)
 
 -- ---- a table that is filled from the front
 

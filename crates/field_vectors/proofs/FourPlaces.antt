@@ -1,5 +1,6 @@
 -- Four places make the tables of a factor.
-use Rattle.std.proofs.Common.{◌≡◌, ℕ, zero, suc, ◌*◌, ◌/◌, ◌%◌, ◌<◌, ◌^◌, List, [], ◌∷◌, get_or, refl, sym, ap, ◌∙◌, arith}
+use Rattle.std.proofs.Common.{◌≡◌, ℕ, zero, suc, ◌*◌, ◌/◌, ◌%◌, ◌<◌, ◌^◌, List, [], ◌∷◌, get_or, refl, sym, ap, ◌∙◌}
+use Rattle.std.proofs.Common.{arith}
 use Rattle.field_elements.specs.BinaryField.{times}
 use Rattle.field_elements.specs.Carryless.{product_of_bits, remainder_of_bits}
 use Rattle.field_elements.specs.laws.Gf16Laws.{gf16_modulus}
@@ -12,9 +13,11 @@ unfolding times product_of_bits remainder_of_bits
 sixteens = (refl, refl)
 
 pub more : (x y z k : ℕ) → x < 65536 → k < 65536 → y ≡ T x k → z ≡ T y 16 → z ≡ T x (T k 16)
-more x y z k h g e f = f ∙ ap (λ t. T t 16) e ∙ times_assoc 16 0x1100B gf16_modulus.some gf16_modulus.degree x k 16 h g (omega arith)
+more x y z k h g e f =
+    f ∙ ap (λ t. T t 16) e ∙ times_assoc 16 0x1100B gf16_modulus.some gf16_modulus.degree x k 16 h g (omega arith)
 
-pub are_products : (x x1 x2 x3 : ℕ) (l0 l1 l2 l3 h0 h1 h2 h3 : List ℕ) → x < 65536 → x1 ≡ T x 16 → x2 ≡ T x1 16 → x3 ≡ T x2 16
+pub are_products : (x x1 x2 x3 : ℕ) (l0 l1 l2 l3 h0 h1 h2 h3 : List ℕ) → x < 65536 → x1 ≡ T x 16 → x2 ≡ T x1 16
+    → x3 ≡ T x2 16
     → ((n : ℕ) → n < 16 → get_or l0 n 0 ≡ T x n % 256) → ((n : ℕ) → n < 16 → get_or h0 n 0 ≡ T x n / 256)
     → ((n : ℕ) → n < 16 → get_or l1 n 0 ≡ T x1 n % 256) → ((n : ℕ) → n < 16 → get_or h1 n 0 ≡ T x1 n / 256)
     → ((n : ℕ) → n < 16 → get_or l2 n 0 ≡ T x2 n % 256) → ((n : ℕ) → n < 16 → get_or h2 n 0 ≡ T x2 n / 256)
@@ -30,16 +33,26 @@ are_products x x1 x2 x3 l0 l1 l2 l3 h0 h1 h2 h3 h e1 e2 e3 a0 b0 a1 b1 a2 b2 a3 
       high_is = high one p2 p3;
     }
   where
-    low : x ≡ T x 1 → x2 ≡ T x 256 → x3 ≡ T x 4096 → (p n : ℕ) → p < 4 → n < 16 → get_or (get_or (l0 ∷ l1 ∷ l2 ∷ l3 ∷ []) p []) n 0 ≡ T x (n * 16 ^ p) % 256
-    low one p2 p3 zero n g m = a0 n m ∙ ap (λ t. t % 256) (placed x x 0 n h (omega arith) (omega arith) (omega arith) one)
-    low one p2 p3 (suc zero) n g m = a1 n m ∙ ap (λ t. t % 256) (placed x x1 4 n h (omega arith) (omega arith) (omega arith) e1)
-    low one p2 p3 (suc (suc zero)) n g m = a2 n m ∙ ap (λ t. t % 256) (placed x x2 8 n h (omega arith) (omega arith) (omega arith) p2)
-    low one p2 p3 (suc (suc (suc zero))) n g m = a3 n m ∙ ap (λ t. t % 256) (placed x x3 12 n h (omega arith) (omega arith) (omega arith) p3)
+    low : x ≡ T x 1 → x2 ≡ T x 256 → x3 ≡ T x 4096 → (p n : ℕ) → p < 4 → n < 16
+        → get_or (get_or (l0 ∷ l1 ∷ l2 ∷ l3 ∷ []) p []) n 0 ≡ T x (n * 16 ^ p) % 256
+    low one p2 p3 zero n g m =
+        a0 n m ∙ ap (λ t. t % 256) (placed x x 0 n h (omega arith) (omega arith) (omega arith) one)
+    low one p2 p3 (suc zero) n g m =
+        a1 n m ∙ ap (λ t. t % 256) (placed x x1 4 n h (omega arith) (omega arith) (omega arith) e1)
+    low one p2 p3 (suc (suc zero)) n g m =
+        a2 n m ∙ ap (λ t. t % 256) (placed x x2 8 n h (omega arith) (omega arith) (omega arith) p2)
+    low one p2 p3 (suc (suc (suc zero))) n g m =
+        a3 n m ∙ ap (λ t. t % 256) (placed x x3 12 n h (omega arith) (omega arith) (omega arith) p3)
     low one p2 p3 (suc (suc (suc (suc p)))) n g m = absurd (omega arith)
 
-    high : x ≡ T x 1 → x2 ≡ T x 256 → x3 ≡ T x 4096 → (p n : ℕ) → p < 4 → n < 16 → get_or (get_or (h0 ∷ h1 ∷ h2 ∷ h3 ∷ []) p []) n 0 ≡ T x (n * 16 ^ p) / 256
-    high one p2 p3 zero n g m = b0 n m ∙ ap (λ t. t / 256) (placed x x 0 n h (omega arith) (omega arith) (omega arith) one)
-    high one p2 p3 (suc zero) n g m = b1 n m ∙ ap (λ t. t / 256) (placed x x1 4 n h (omega arith) (omega arith) (omega arith) e1)
-    high one p2 p3 (suc (suc zero)) n g m = b2 n m ∙ ap (λ t. t / 256) (placed x x2 8 n h (omega arith) (omega arith) (omega arith) p2)
-    high one p2 p3 (suc (suc (suc zero))) n g m = b3 n m ∙ ap (λ t. t / 256) (placed x x3 12 n h (omega arith) (omega arith) (omega arith) p3)
+    high : x ≡ T x 1 → x2 ≡ T x 256 → x3 ≡ T x 4096 → (p n : ℕ) → p < 4 → n < 16
+        → get_or (get_or (h0 ∷ h1 ∷ h2 ∷ h3 ∷ []) p []) n 0 ≡ T x (n * 16 ^ p) / 256
+    high one p2 p3 zero n g m =
+        b0 n m ∙ ap (λ t. t / 256) (placed x x 0 n h (omega arith) (omega arith) (omega arith) one)
+    high one p2 p3 (suc zero) n g m =
+        b1 n m ∙ ap (λ t. t / 256) (placed x x1 4 n h (omega arith) (omega arith) (omega arith) e1)
+    high one p2 p3 (suc (suc zero)) n g m =
+        b2 n m ∙ ap (λ t. t / 256) (placed x x2 8 n h (omega arith) (omega arith) (omega arith) p2)
+    high one p2 p3 (suc (suc (suc zero))) n g m =
+        b3 n m ∙ ap (λ t. t / 256) (placed x x3 12 n h (omega arith) (omega arith) (omega arith) p3)
     high one p2 p3 (suc (suc (suc (suc p)))) n g m = absurd (omega arith)

@@ -1,6 +1,7 @@
 -- One step of Horner's rule in each lane.
 use lib.Lanes.{zip2, Each1}
-use Rattle.std.proofs.Common.{◌≡◌, ℕ, ◌+◌, ◌*◌, ◌/◌, ◌%◌, ◌<◌, List, length, get_or, map, bit_xor, sym, ap, ap₂, ◌∙◌, arith, w8, Fits}
+use Rattle.std.proofs.Common.{◌≡◌, ℕ, ◌+◌, ◌*◌, ◌/◌, ◌%◌, ◌<◌, List, length, get_or, map, bit_xor, sym, ap, ap₂, ◌∙◌}
+use Rattle.std.proofs.Common.{arith, w8, Fits}
 use Rattle.std.proofs.lemmas.Simd.{Each1-get_or, get_or-zip2, length-zip2, Each1-from_get_or, below_from_Fits}
 use Rattle.std.proofs.lemmas.Nat.{xor_mod, xor_shr, xor_comm}
 use Rattle.std.proofs.lemmas.List.{get_or-map, length-map, ext_get_or}
@@ -13,7 +14,8 @@ J l h = bit_xor l (h * 256)
 sum_of_bytes : (l h : ℕ) → l < 256 → J l h ≡ h * 256 + l
 sum_of_bytes l h g = xor_comm l (h * 256) ∙ xor_shifted h 8 l g
 
-module _ (low high : List ℕ) (long_low : length low ≡ 32) (long_high : length high ≡ 32) (fits_low : Each1 (Fits w8) low) (fits_high : Each1 (Fits w8) high) where
+module _ (low high : List ℕ) (long_low : length low ≡ 32) (long_high : length high ≡ 32)
+    (fits_low : Each1 (Fits w8) low) (fits_high : Each1 (Fits w8) high) where
   abbrev pub v : List ℕ
   v = zip2 J low high
 
@@ -27,10 +29,14 @@ module _ (low high : List ℕ) (long_low : length low ≡ 32) (long_high : lengt
   at_high c l = Each1-get_or (λ a. a < 256) high c 0 (omega arith) (below_from_Fits w8 high fits_high)
 
   at : (c : ℕ) → c < 32 → get_or v c 0 ≡ get_or high c 0 * 256 + get_or low c 0
-  at c l = get_or-zip2 J low high c 0 0 0 (omega arith) (omega arith) ∙ sum_of_bytes (get_or low c 0) (get_or high c 0) (at_low c l)
+  at c l =
+      get_or-zip2 J low high c 0 0 0 (omega arith) (omega arith)
+      ∙ sum_of_bytes (get_or low c 0) (get_or high c 0) (at_low c l)
 
   pub words_fit : Each1 (λ a. a < 65536) v
-  words_fit = Each1-from_get_or (λ a. a < 65536) v 0 (λ c l. let m : c < 32 = omega (arith, long) in omega (arith, at c m, at_low c m, at_high c m))
+  words_fit =
+      Each1-from_get_or (λ a. a < 65536) v 0
+      (λ c l. let m : c < 32 = omega (arith, long) in omega (arith, at c m, at_low c m, at_high c m))
 
   pub low_is : low ≡ map (λ a. a % 256) v
   low_is =
@@ -48,8 +54,10 @@ module _ (low high : List ℕ) (long_low : length low ≡ 32) (long_high : lengt
       let n : c < length v = omega (arith, long) in
       sym (get_or-map (λ a. a / 256) v c 0 0 n ∙ ap (λ a. a / 256) (at c m) ∙ omega (arith, at_low c m)))
 
-  pub stepped : (x : ℕ) (row r0 r1 q0 q1 : List ℕ) → length row ≡ 32 → r0 ≡ map (λ a. times 16 0x1100B x a % 256) v → r1 ≡ map (λ a. times 16 0x1100B x a / 256) v
-      → q0 ≡ map (λ a. a % 256) row → q1 ≡ map (λ a. a / 256) row → (c a : ℕ) → c < 32 → get_or low c 0 ≡ a % 256 → get_or high c 0 ≡ a / 256
+  pub stepped : (x : ℕ) (row r0 r1 q0 q1 : List ℕ) → length row ≡ 32 → r0 ≡ map (λ a. times 16 0x1100B x a % 256) v
+      → r1 ≡ map (λ a. times 16 0x1100B x a / 256) v
+      → q0 ≡ map (λ a. a % 256) row → q1 ≡ map (λ a. a / 256) row → (c a : ℕ) → c < 32 → get_or low c 0 ≡ a % 256
+      → get_or high c 0 ≡ a / 256
       → (get_or (zip2 bit_xor r0 q0) c 0 ≡ bit_xor (times 16 0x1100B x a) (get_or row c 0) % 256)
       × (get_or (zip2 bit_xor r1 q1) c 0 ≡ bit_xor (times 16 0x1100B x a) (get_or row c 0) / 256)
   stepped x row r0 r1 q0 q1 long_row e0 e1 d0 d1 c a l el eh =

@@ -1,4 +1,4 @@
-pub mod Lanes
 pub mod Nibbles
 pub mod Factors
+pub mod inside
 pub mod laws

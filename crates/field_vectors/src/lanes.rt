@@ -1,7 +1,7 @@
 //! Vectors, lane by lane.
 ghost use Rattle.std.specs.Prelude.{◌≡◌, ℕ, List, slice_index, ◌+◌, ◌*◌, ◌/◌, ◌%◌, ◌<◌, length, map, bit_xor, bit_and};
 ghost use Rattle.std.specs.Simd.Lanes.{Each1, zip2};
-ghost use Rattle.field_vectors.specs.Lanes.{IsSpread, at_nibbles};
+ghost use Rattle.field_vectors.specs.inside.Lanes.{IsSpread, at_nibbles};
 
 use std::simd::prelude::*;
 

@@ -6,8 +6,8 @@ ghost use Rattle.field_rows.specs.declared.blocks.TheConstants.{MAX_WIDTH};
 use crate::count::count_steps;
 use crate::memory::{load, store};
 use crate::products::Products;
-use pet_base::Steps;
 use field_rows::MAX_WIDTH;
+use pet_base::Steps;
 use std::simd::prelude::*;
 use std::sync::ledger::Ledger;
 

@@ -1,5 +1,6 @@
 -- Bytes that others begin with, and what a layer's parts sum to.
-use Rattle.std.proofs.Common.{◌≡◌, ◌≢◌, ℕ, zero, suc, ◌+◌, ◌-◌, ◌*◌, ◌%◌, ◌<◌, ◌≤◌, List, [], ◌∷◌, ◌++◌, length, take, drop, map, get_or, refl, sym, ◌∙◌, ap, arith, inl, inr, cond, append_assoc, length-append}
+use Rattle.std.proofs.Common.{◌≡◌, ◌≢◌, ℕ, zero, suc, ◌+◌, ◌-◌, ◌*◌, ◌%◌, ◌<◌, ◌≤◌, List, [], ◌∷◌, ◌++◌, length, take}
+use Rattle.std.proofs.Common.{drop, map, get_or, refl, sym, ◌∙◌, ap, arith, inl, inr, cond, append_assoc, length-append}
 use Rattle.std.specs.Prelude.{◌==◌, All}
 use Rattle.std.specs.List.{sum_by, flat_map, range_with_len}
 use Rattle.std.specs.Int.{to_be_bytes, w32}
@@ -10,7 +11,8 @@ use Rattle.std.proofs.lemmas.List.Elements.{filter-append}
 use Rattle.std.proofs.lemmas.List.Sums.{sum_by-cons}
 use Rattle.std.proofs.lemmas.Bool.{cond-true, cond-false, cases_Bool, eq-eqb, ne_eqb}
 use Rattle.layer_split.specs.declared.cut.Run.{Run}
-use Rattle.layer_split.specs.Layers.{run_entry, run_table, run_table_size, runs_in, bytes_of_run, layer_bytes, layer_length, lengths_of, padded, message}
+use Rattle.layer_split.specs.Layers.{run_entry, run_table, run_table_size, runs_in, bytes_of_run, layer_bytes}
+use Rattle.layer_split.specs.Layers.{layer_length, lengths_of, padded, message}
 use Rattle.layer_split.specs.Bytes.{Begins, run_part, table_of}
 
 pub begins_same : (old new : List ℕ) → new ≡ old → Begins old new
@@ -20,11 +22,13 @@ pub begins_more : (old new more : List ℕ) → new ≡ old ++ more → Begins o
 begins_more old new more e = ap (take (length old)) e ∙ take-append_seam old more
 
 -- two parts behind the old bytes, and one more of the second
-pub part_after : (old front so_far part more middle new : List ℕ) → middle ≡ old ++ (front ++ so_far) → new ≡ middle ++ part → more ≡ so_far ++ part → new ≡ old ++ (front ++ more)
+pub part_after : (old front so_far part more middle new : List ℕ) → middle ≡ old ++ (front ++ so_far)
+    → new ≡ middle ++ part → more ≡ so_far ++ part → new ≡ old ++ (front ++ more)
 part_after old front so_far part more middle new before appended is =
     appended
     ∙ (ap (λ l. l ++ part) before
-    ∙ (append_assoc old (front ++ so_far) part ∙ ap (λ l. old ++ l) (append_assoc front so_far part ∙ ap (λ l. front ++ l) (sym is))))
+    ∙ (append_assoc old (front ++ so_far) part
+    ∙ ap (λ l. old ++ l) (append_assoc front so_far part ∙ ap (λ l. front ++ l) (sym is))))
 
 -- the run table is in layer 0 alone
 pub table_of_first : (runs : List Run) (layer : ℕ) → layer ≡ 0 → table_of runs layer ≡ run_table runs
@@ -35,31 +39,42 @@ table_of_other runs layer other = cond-false (layer == 0) (run_table runs) [] (n
 
 flat_more : {X : Type 0} (f : X → List ℕ) (xs ys : List X) → flat_map f (xs ++ ys) ≡ flat_map f xs ++ flat_map f ys
 flat_more f [] ys = refl
-flat_more f (x ∷ xs) ys = ap (λ l. f x ++ l) (flat_more f xs ys) ∙ sym (append_assoc (f x) (flat_map f xs) (flat_map f ys))
+flat_more f (x ∷ xs) ys =
+    ap (λ l. f x ++ l) (flat_more f xs ys) ∙ sym (append_assoc (f x) (flat_map f xs) (flat_map f ys))
 
 -- one entry more, and one run more
-pub entry_more : (runs : List Run) (i : ℕ) (d : Run) → i < length runs → flat_map run_entry (take (i + 1) runs) ≡ flat_map run_entry (take i runs) ++ run_entry (get_or runs i d)
+pub entry_more : (runs : List Run) (i : ℕ) (d : Run) → i < length runs
+    → flat_map run_entry (take (i + 1) runs) ≡ flat_map run_entry (take i runs) ++ run_entry (get_or runs i d)
 entry_more runs i d lt =
     ap (flat_map run_entry) (take_more runs i d lt)
-    ∙ (flat_more run_entry (take i runs) (get_or runs i d ∷ []) ∙ ap (λ l. flat_map run_entry (take i runs) ++ l) (append-nil (run_entry (get_or runs i d))))
+    ∙ (flat_more run_entry (take i runs) (get_or runs i d ∷ [])
+    ∙ ap (λ l. flat_map run_entry (take i runs) ++ l) (append-nil (run_entry (get_or runs i d))))
 
-one_part : (stream : List ℕ) (layer : ℕ) (r : Run) → flat_map (bytes_of_run stream) (runs_in layer (r ∷ [])) ≡ run_part stream layer r
+one_part : (stream : List ℕ) (layer : ℕ) (r : Run)
+    → flat_map (bytes_of_run stream) (runs_in layer (r ∷ [])) ≡ run_part stream layer r
 one_part stream layer r = elim (cases_Bool (r.layer == layer)) [
-  | inl e ↦ ap (flat_map (bytes_of_run stream)) (cond-true (r.layer == layer) (r ∷ []) [] e) ∙ (append-nil (bytes_of_run stream r) ∙ sym (cond-true (r.layer == layer) (bytes_of_run stream r) [] e))
-  | inr e ↦ ap (flat_map (bytes_of_run stream)) (cond-false (r.layer == layer) (r ∷ []) [] e) ∙ sym (cond-false (r.layer == layer) (bytes_of_run stream r) [] e)
+  | inl e ↦ ap (flat_map (bytes_of_run stream)) (cond-true (r.layer == layer) (r ∷ []) [] e)
+      ∙ (append-nil (bytes_of_run stream r) ∙ sym (cond-true (r.layer == layer) (bytes_of_run stream r) [] e))
+  | inr e ↦ ap (flat_map (bytes_of_run stream)) (cond-false (r.layer == layer) (r ∷ []) [] e)
+      ∙ sym (cond-false (r.layer == layer) (bytes_of_run stream r) [] e)
 ]
 
-pub part_more : (stream : List ℕ) (layer : ℕ) (runs : List Run) (i : ℕ) (d : Run) → i < length runs → flat_map (bytes_of_run stream) (runs_in layer (take (i + 1) runs)) ≡ flat_map (bytes_of_run stream) (runs_in layer (take i runs)) ++ run_part stream layer (get_or runs i d)
+pub part_more : (stream : List ℕ) (layer : ℕ) (runs : List Run) (i : ℕ) (d : Run) → i < length runs
+    → flat_map (bytes_of_run stream) (runs_in layer (take (i + 1) runs))
+    ≡ flat_map (bytes_of_run stream) (runs_in layer (take i runs)) ++ run_part stream layer (get_or runs i d)
 part_more stream layer runs i d lt =
     ap (λ rs. flat_map (bytes_of_run stream) (runs_in layer rs)) (take_more runs i d lt)
-    ∙ (ap (flat_map (bytes_of_run stream)) (filter-append (λ (r : Run). r.layer == layer) (take i runs) (get_or runs i d ∷ []))
+    ∙ (ap (flat_map (bytes_of_run stream))
+    (filter-append (λ (r : Run). r.layer == layer) (take i runs) (get_or runs i d ∷ []))
     ∙ (flat_more (bytes_of_run stream) (runs_in layer (take i runs)) (runs_in layer (get_or runs i d ∷ []))
-    ∙ ap (λ l. flat_map (bytes_of_run stream) (runs_in layer (take i runs)) ++ l) (one_part stream layer (get_or runs i d))))
+    ∙ ap (λ l. flat_map (bytes_of_run stream) (runs_in layer (take i runs)) ++ l)
+    (one_part stream layer (get_or runs i d))))
 
 pub begins_after : (old middle new more : List ℕ) → middle ≡ old ++ more → Begins middle new → Begins old new
 begins_after old middle new more e h =
     begins_more old new (more ++ drop (length middle) new)
-    (sym (take-append-drop (length middle) new) ∙ (ap (λ l. l ++ drop (length middle) new) (h ∙ e) ∙ append_assoc old more (drop (length middle) new)))
+    (sym (take-append-drop (length middle) new)
+    ∙ (ap (λ l. l ++ drop (length middle) new) (h ∙ e) ∙ append_assoc old more (drop (length middle) new)))
 
 -- how many bytes a layer has
 entries_length : (runs : List Run) → length (flat_map run_entry runs) ≡ 5 * length runs
@@ -67,42 +82,63 @@ entries_length [] = refl
 entries_length (r ∷ runs) =
     let later = entries_length runs in
     let one : length (run_entry r) ≡ 5 = refl in
-    let both : length (flat_map run_entry (r ∷ runs)) ≡ length (run_entry r) + length (flat_map run_entry runs) = length-append (run_entry r) (flat_map run_entry runs) in
+    let both : length (flat_map run_entry (r ∷ runs)) ≡ length (run_entry r) + length (flat_map run_entry runs) =
+    length-append (run_entry r) (flat_map run_entry runs) in
     omega arith
 
 table_length : (runs : List Run) → length (run_table runs) ≡ run_table_size (length runs)
 table_length runs =
     let head : length (to_be_bytes w32 (length runs)) ≡ 4 = refl in
     let later = entries_length runs in
-    let both : length (run_table runs) ≡ length (to_be_bytes w32 (length runs)) + length (flat_map run_entry runs) = length-append (to_be_bytes w32 (length runs)) (flat_map run_entry runs) in
+    let both : length (run_table runs) ≡ length (to_be_bytes w32 (length runs)) + length (flat_map run_entry runs) =
+    length-append (to_be_bytes w32 (length runs)) (flat_map run_entry runs) in
     omega arith
 
 run_length : (stream : List ℕ) (r : Run) → r.at + r.len ≤ length stream → length (bytes_of_run stream r) ≡ r.len
-run_length stream r inside = length-take-le r.len (drop r.at stream) (let e : length (drop r.at stream) ≡ length stream - r.at = length-drop r.at stream in omega arith)
+run_length stream r inside =
+    length-take-le r.len (drop r.at stream)
+    (let e : length (drop r.at stream) ≡ length stream - r.at = length-drop r.at stream in omega arith)
 
-runs_length : (stream : List ℕ) (layer : ℕ) (runs : List Run) → All (λ (r : Run). r.at + r.len ≤ length stream) runs → length (flat_map (bytes_of_run stream) (runs_in layer runs)) ≡ sum_by (λ (r : Run). r.len) (runs_in layer runs)
+runs_length : (stream : List ℕ) (layer : ℕ) (runs : List Run) → All (λ (r : Run). r.at + r.len ≤ length stream) runs
+    → length (flat_map (bytes_of_run stream) (runs_in layer runs)) ≡ sum_by (λ (r : Run). r.len) (runs_in layer runs)
 runs_length stream layer [] inside = refl
 runs_length stream layer (r ∷ runs) inside =
-    let later : length (flat_map (bytes_of_run stream) (runs_in layer runs)) ≡ sum_by (λ (r : Run). r.len) (runs_in layer runs) = runs_length stream layer runs (λ k d lt. inside (suc k) d (omega arith)) in
+    let later : length (flat_map (bytes_of_run stream) (runs_in layer runs))
+    ≡ sum_by (λ (r : Run). r.len) (runs_in layer runs) =
+    runs_length stream layer runs (λ k d lt. inside (suc k) d (omega arith)) in
     elim (cases_Bool (r.layer == layer)) [
       | inl e ↦
-          (let here : runs_in layer (r ∷ runs) ≡ r ∷ runs_in layer runs = cond-true (r.layer == layer) (r ∷ runs_in layer runs) (runs_in layer runs) e in
+          (let here : runs_in layer (r ∷ runs)
+          ≡ r ∷ runs_in layer runs = cond-true (r.layer == layer) (r ∷ runs_in layer runs) (runs_in layer runs) e in
           let one : length (bytes_of_run stream r) ≡ r.len = run_length stream r (inside 0 r (omega arith)) in
-          let both : length (flat_map (bytes_of_run stream) (r ∷ runs_in layer runs)) ≡ length (bytes_of_run stream r) + length (flat_map (bytes_of_run stream) (runs_in layer runs)) = length-append (bytes_of_run stream r) (flat_map (bytes_of_run stream) (runs_in layer runs)) in
-          let total : sum_by (λ (r : Run). r.len) (r ∷ runs_in layer runs) ≡ r.len + sum_by (λ (r : Run). r.len) (runs_in layer runs) = sum_by-cons (λ (r : Run). r.len) r (runs_in layer runs) in
-          ap (λ rs. length (flat_map (bytes_of_run stream) rs)) here ∙ ((let k : length (flat_map (bytes_of_run stream) (r ∷ runs_in layer runs)) ≡ sum_by (λ (r : Run). r.len) (r ∷ runs_in layer runs) = omega arith in k) ∙ ap (sum_by (λ (r : Run). r.len)) (sym here)))
+          let both : length (flat_map (bytes_of_run stream) (r ∷ runs_in layer runs))
+          ≡ length (bytes_of_run stream r) + length (flat_map (bytes_of_run stream) (runs_in layer runs)) =
+          length-append (bytes_of_run stream r) (flat_map (bytes_of_run stream) (runs_in layer runs)) in
+          let total : sum_by (λ (r : Run). r.len) (r ∷ runs_in layer runs)
+          ≡ r.len + sum_by (λ (r : Run). r.len) (runs_in layer runs) =
+          sum_by-cons (λ (r : Run). r.len) r (runs_in layer runs) in
+          ap (λ rs. length (flat_map (bytes_of_run stream) rs)) here
+          ∙ ((let k : length (flat_map (bytes_of_run stream) (r ∷ runs_in layer runs))
+          ≡ sum_by (λ (r : Run). r.len) (r ∷ runs_in layer runs) = omega arith in k)
+          ∙ ap (sum_by (λ (r : Run). r.len)) (sym here)))
       | inr e ↦
-          (let here : runs_in layer (r ∷ runs) ≡ runs_in layer runs = cond-false (r.layer == layer) (r ∷ runs_in layer runs) (runs_in layer runs) e in
-          ap (λ rs. length (flat_map (bytes_of_run stream) rs)) here ∙ (later ∙ ap (sum_by (λ (r : Run). r.len)) (sym here)))
+          (let here : runs_in layer (r ∷ runs)
+          ≡ runs_in layer runs = cond-false (r.layer == layer) (r ∷ runs_in layer runs) (runs_in layer runs) e in
+          ap (λ rs. length (flat_map (bytes_of_run stream) rs)) here
+          ∙ (later ∙ ap (sum_by (λ (r : Run). r.len)) (sym here)))
     ]
 
-table_part : (runs : List Run) (layer : ℕ) → length (table_of runs layer) ≡ cond (layer == 0) (run_table_size (length runs)) 0
+table_part : (runs : List Run) (layer : ℕ)
+    → length (table_of runs layer) ≡ cond (layer == 0) (run_table_size (length runs)) 0
 table_part runs layer = elim (cases_Bool (layer == 0)) [
-  | inl e ↦ ap length (cond-true (layer == 0) (run_table runs) [] e) ∙ (table_length runs ∙ sym (cond-true (layer == 0) (run_table_size (length runs)) 0 e))
-  | inr e ↦ ap length (cond-false (layer == 0) (run_table runs) [] e) ∙ sym (cond-false (layer == 0) (run_table_size (length runs)) 0 e)
+  | inl e ↦ ap length (cond-true (layer == 0) (run_table runs) [] e)
+      ∙ (table_length runs ∙ sym (cond-true (layer == 0) (run_table_size (length runs)) 0 e))
+  | inr e ↦ ap length (cond-false (layer == 0) (run_table runs) [] e)
+      ∙ sym (cond-false (layer == 0) (run_table_size (length runs)) 0 e)
 ]
 
-pub layer_size : (stream : List ℕ) (runs : List Run) (layer : ℕ) → All (λ (r : Run). r.at + r.len ≤ length stream) runs → length (layer_bytes stream runs layer) ≡ layer_length runs layer
+pub layer_size : (stream : List ℕ) (runs : List Run) (layer : ℕ) → All (λ (r : Run). r.at + r.len ≤ length stream) runs
+    → length (layer_bytes stream runs layer) ≡ layer_length runs layer
 layer_size stream runs layer inside =
     length-append (table_of runs layer) (flat_map (bytes_of_run stream) (runs_in layer runs))
     ∙ (ap (λ n. n + length (flat_map (bytes_of_run stream) (runs_in layer runs))) (table_part runs layer)
@@ -110,22 +146,31 @@ layer_size stream runs layer inside =
 
 -- whole words
 pub padded_odd : (bytes : List ℕ) (n : ℕ) → n ≡ length bytes → n % 2 ≡ 1 → padded bytes ≡ bytes ++ 0 ∷ []
-padded_odd bytes n e odd = cond-true (length bytes % 2 == 1) (bytes ++ 0 ∷ []) bytes (eq-eqb (length bytes % 2) 1 (ap (λ k. k % 2) (sym e) ∙ odd))
+padded_odd bytes n e odd =
+    cond-true (length bytes % 2 == 1) (bytes ++ 0 ∷ []) bytes
+    (eq-eqb (length bytes % 2) 1 (ap (λ k. k % 2) (sym e) ∙ odd))
 
 pub padded_even : (bytes : List ℕ) (n : ℕ) → n ≡ length bytes → n % 2 ≢ 1 → padded bytes ≡ bytes
-padded_even bytes n e even = cond-false (length bytes % 2 == 1) (bytes ++ 0 ∷ []) bytes (ne_eqb (length bytes % 2) 1 (λ odd. even (ap (λ k. k % 2) e ∙ odd)))
+padded_even bytes n e even =
+    cond-false (length bytes % 2 == 1) (bytes ++ 0 ∷ []) bytes
+    (ne_eqb (length bytes % 2) 1 (λ odd. even (ap (λ k. k % 2) e ∙ odd)))
 
 -- one layer more of the lengths and of the message
 from_range : (f : ℕ → ℕ) (a n i : ℕ) → i < n → get_or (map f (range_with_len a n)) i 0 ≡ f (a + i)
 from_range f a zero i lt = absurd (omega arith)
 from_range f a (suc n) zero lt = ap f (let e : a ≡ a + 0 = omega arith in e)
-from_range f a (suc n) (suc i) lt = from_range f (a + 1) n i (omega arith) ∙ ap f (let e : (a + 1) + i ≡ a + suc i = omega arith in e)
+from_range f a (suc n) (suc i) lt =
+    from_range f (a + 1) n i (omega arith) ∙ ap f (let e : (a + 1) + i ≡ a + suc i = omega arith in e)
 
-pub length_at : (runs : List Run) (lengths : List ℕ) (i : ℕ) → lengths ≡ lengths_of runs (length lengths) → i < length lengths → get_or lengths i 0 ≡ layer_length runs i
+pub length_at : (runs : List Run) (lengths : List ℕ) (i : ℕ) → lengths ≡ lengths_of runs (length lengths)
+    → i < length lengths → get_or lengths i 0 ≡ layer_length runs i
 length_at runs lengths i e lt =
-    ap (λ l. get_or l i 0) e ∙ (from_range (layer_length runs) 0 (length lengths) i lt ∙ ap (layer_length runs) (let k : 0 + i ≡ i = omega arith in k))
+    ap (λ l. get_or l i 0) e
+    ∙ (from_range (layer_length runs) 0 (length lengths) i lt
+    ∙ ap (layer_length runs) (let k : 0 + i ≡ i = omega arith in k))
 
-pub message_more : (stream : List ℕ) (runs : List Run) (i : ℕ) → message stream runs (i + 1) ≡ message stream runs i ++ padded (layer_bytes stream runs i)
+pub message_more : (stream : List ℕ) (runs : List Run) (i : ℕ)
+    → message stream runs (i + 1) ≡ message stream runs i ++ padded (layer_bytes stream runs i)
 message_more stream runs i =
     let part : ℕ → List ℕ = λ layer. padded (layer_bytes stream runs layer) in
     ap (flat_map part) (range_push 0 i)

@@ -19,7 +19,8 @@ begins_group current piece = is_group_head piece && list_any is_picture current
 abbrev pub groups_from : List Piece → List Piece → List (List Piece)
 groups_from current [] = current ∷ []
 groups_from current (piece ∷ later) =
-    if begins_group current piece then current ∷ groups_from (piece ∷ []) later else groups_from (current ++ piece ∷ []) later
+    if begins_group current piece then current
+    ∷ groups_from (piece ∷ []) later else groups_from (current ++ piece ∷ []) later
 
 -- those of these pieces, the first of which begins the first group
 abbrev pub groups_of : List Piece → List (List Piece)

@@ -1,4 +1,5 @@
--- The layers of a group and its message (this project's own): each layer is its runs on end, and layer 0 begins with the run table.
+-- The layers of a group and its message (this project's own): each layer is its runs on end, and layer 0 begins with
+-- the run table.
 use Rattle.std.specs.Prelude.{ℕ, ◌+◌, ◌*◌, ◌%◌, List, [], ◌∷◌, ◌++◌, length, map, take, drop, ◌==◌, if◌then◌else◌}
 use Rattle.std.specs.List.{filter, flat_map, sum_by, range_with_len}
 use Rattle.std.specs.Int.{to_be_bytes, w32}
@@ -51,4 +52,5 @@ pub record Cut : Type 0 where
   pub lengths : List ℕ
 
 abbrev pub cut_of : (Kind → ℕ → ℕ) → ℕ → List Piece → Cut
-cut_of layer_of layers group = let runs = runs_of layer_of group in record { runs = runs; lengths = lengths_of runs layers }
+cut_of layer_of layers group =
+    let runs = runs_of layer_of group in record { runs = runs; lengths = lengths_of runs layers }

@@ -1,4 +1,5 @@
--- The places of pictures (this project's own): a group's P pictures are numbered from 1 in stream order, and so are its B pictures.
+-- The places of pictures (this project's own): a group's P pictures are numbered from 1 in stream order, and so are its
+-- B pictures.
 use Rattle.std.specs.Prelude.{ℕ, ◌+◌, Bool, true, false, List, [], ◌∷◌, ◌++◌, count_by}
 use Rattle.pet_base.specs.declared.kind.Kind.{Kind}
 use Rattle.pet_base.specs.declared.kind.Kind.TheVariants.{Head, I, P, B, D}
@@ -21,7 +22,8 @@ pub record Placed : Type 0 where
   pub piece : Piece
   pub place : ℕ
 
--- The place of a piece behind these of its group: the number of the pieces of its kind, with it. Of heads, I and D pictures it
+-- The place of a piece behind these of its group: the number of the pieces of its kind, with it. Of heads, I and D
+-- pictures it
 -- is not looked at.
 abbrev pub place_behind : List Piece → Piece → ℕ
 place_behind before piece = number_of piece.kind before + 1

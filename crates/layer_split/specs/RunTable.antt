@@ -1,5 +1,6 @@
 -- The runs that a run table at the front of layer 0 names, and when such a table fits the layers (this project's own).
-use Rattle.std.specs.Prelude.{ℕ, ◌+◌, ◌-◌, ◌*◌, Bool, true, not, ◌&&◌, ◌==◌, nat_lt, nat_le, List, [], ◌∷◌, length, map, slice_index}
+use Rattle.std.specs.Prelude.{ℕ, ◌+◌, ◌-◌, ◌*◌, Bool, true, not, ◌&&◌, ◌==◌, nat_lt, nat_le, List, [], ◌∷◌, length, map}
+use Rattle.std.specs.Prelude.{slice_index}
 use Rattle.std.specs.List.{filter, sum_by, list_all, range_with_len}
 use Rattle.std.specs.Int.{from_be_bytes, w32}
 use Rattle.layer_split.specs.declared.run_table.NamedRun.{NamedRun}
@@ -8,7 +9,8 @@ use Rattle.layer_split.specs.Layers.{run_table_size}
 -- the big-endian number in the four bytes from here on
 abbrev pub number_at : List ℕ → ℕ → ℕ
 number_at bytes at =
-    from_be_bytes w32 (slice_index bytes at ∷ slice_index bytes (at + 1) ∷ slice_index bytes (at + 2) ∷ slice_index bytes (at + 3) ∷ [])
+    from_be_bytes w32
+    (slice_index bytes at ∷ slice_index bytes (at + 1) ∷ slice_index bytes (at + 2) ∷ slice_index bytes (at + 3) ∷ [])
 
 abbrev pub run_count : List ℕ → ℕ
 run_count bytes = number_at bytes 0
@@ -53,7 +55,8 @@ fills_others lengths runs =
 -- the runs are those of layers of these lengths, where layer 0 has so many bytes
 abbrev pub are_of : ℕ → List ℕ → List NamedRun → Bool
 are_of len lengths runs =
-    list_all (is_run (length lengths)) runs && (alternates runs && (fills_layer_0 len runs && fills_others lengths runs))
+    list_all (is_run (length lengths)) runs
+    && (alternates runs && (fills_layer_0 len runs && fills_others lengths runs))
 
 -- layer 0 with these bytes has a run table that fits layers of these lengths
 abbrev pub fits : List ℕ → List ℕ → Bool

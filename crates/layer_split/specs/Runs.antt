@@ -16,7 +16,8 @@ both run next = record { layer = run.layer; at = run.at; len = run.len + next.le
 -- adjacent rows of one layer are put together; the first has come so far
 abbrev pub joined_from : Run → List Run → List Run
 joined_from run [] = run ∷ []
-joined_from run (next ∷ later) = if next.layer == run.layer then joined_from (both run next) later else run ∷ joined_from next later
+joined_from run (next ∷ later) =
+    if next.layer == run.layer then joined_from (both run next) later else run ∷ joined_from next later
 
 abbrev pub joined : List Run → List Run
 joined [] = []

@@ -1,5 +1,6 @@
 -- Where a splitter stands to which pieces were added (this project's own).
-use Rattle.std.specs.Prelude.{◌≡◌, ℕ, ◌+◌, ◌-◌, ◌^◌, ◌<◌, ◌≤◌, ◌⊎◌, min, Bool, List, [], ◌∷◌, ◌++◌, length, map, slice_index, Option, Some, None, All, ◌==◌, not, true, false, if◌then◌else◌}
+use Rattle.std.specs.Prelude.{◌≡◌, ℕ, ◌+◌, ◌-◌, ◌^◌, ◌<◌, ◌≤◌, ◌⊎◌, min, Bool, List, [], ◌∷◌, ◌++◌, length, map}
+use Rattle.std.specs.Prelude.{slice_index, Option, Some, None, All, ◌==◌, not, true, false, if◌then◌else◌}
 use Rattle.std.specs.List.{list_any, sum_by}
 use Rattle.pet_base.specs.declared.kind.Kind.{Kind}
 use Rattle.pet_base.specs.declared.kind.Kind.TheVariants.{Head, I, P, B, D}
@@ -48,7 +49,8 @@ place_in _ place = 1
 
 -- the P and the B pictures of a group, counted as far as 32 bits can
 abbrev pub HaveCounted : Places → List Piece → Type 0
-HaveCounted places group = (places.p ≡ min (number_of P group) (2 ^ 32 - 1)) × (places.b ≡ min (number_of B group) (2 ^ 32 - 1))
+HaveCounted places group =
+    (places.p ≡ min (number_of P group) (2 ^ 32 - 1)) × (places.b ≡ min (number_of B group) (2 ^ 32 - 1))
 
 -- whether a row behind these runs begins another run
 abbrev pub begins_run : List Run → ℕ → Bool
@@ -67,7 +69,8 @@ abbrev pub group_size : (Kind → ℕ → ℕ) → List Piece → ℕ
 group_size layer_of group = run_table_size (length (runs_of layer_of group)) + sum_by (λ piece. piece.len) group
 
 -- these are the runs of a group that is not too long, its bytes, and the pictures that were counted in it
-pub record IsGroup (layer_of : Kind → ℕ → ℕ) (group : List Piece) (runs : List Run) (size : ℕ) (places : Places) : Type 0 where
+pub record IsGroup (layer_of : Kind → ℕ → ℕ) (group : List Piece) (runs : List Run) (size : ℕ)
+    (places : Places) : Type 0 where
   pub runs_are : runs ≡ runs_of layer_of group
   pub size_is : size ≡ group_size layer_of group
   pub short : size ≤ MAX_GROUP_BYTES
@@ -109,7 +112,8 @@ pub record HasAdded (splitter : Splitter) (priority : Priorities) (pieces : List
 -- The piece would begin another group, and the one before it is too long, or there are as many as may be.
 pub record IsOneTooMany (priority : Priorities) (pieces : List Piece) (piece : Piece) : Type 0 where
   pub begins : begins_group (last_group pieces) piece ≡ true
-  pub last : (is_too_long (layer_of priority) (length priority.layers) (last_group pieces) ≡ true) ⊎ (length (groups_of pieces) ≡ MAX_GROUPS)
+  pub last : (is_too_long (layer_of priority) (length priority.layers) (last_group pieces) ≡ true)
+      ⊎ (length (groups_of pieces) ≡ MAX_GROUPS)
 
 -- the splitter has refused with this
 abbrev pub HasRefused : Splitter → SplitFault → Type 0

@@ -12,7 +12,8 @@ nil_front : (xs ys : List Piece) → xs ++ ys ≡ [] → xs ≡ []
 nil_front [] ys e = refl
 nil_front (x ∷ xs) ys e = cc
 
-pub given_stand : (s : List ℕ) (given later : List Piece) → pieces_of s ≡ given ++ later → (end : ℕ) × StandOnEnd 0 given end × (end ≤ length s)
+pub given_stand : (s : List ℕ) (given later : List Piece) → pieces_of s ≡ given ++ later
+    → (end : ℕ) × StandOnEnd 0 given end × (end ≤ length s)
 given_stand s given later e = elim (pieces_stand s) [
   | inl none ↦ (0, subst (λ g. StandOnEnd 0 g 0) (sym (nil_front given later (sym e ∙ none))) refl, omega arith)
   | inr h ↦ stand_front 0 (length s) given later (subst (λ ps. StandOnEnd 0 ps (length s)) e h)
@@ -22,5 +23,6 @@ push_not_nil : (xs : List Piece) (x : Piece) → xs ++ x ∷ [] ≡ [] → ⊥
 push_not_nil [] x e = cc
 push_not_nil (y ∷ ys) x e = cc
 
-pub all_stand : (s : List ℕ) (given : List Piece) (last : Piece) → given ++ last ∷ [] ≡ pieces_of s → StandOnEnd 0 (pieces_of s) (length s)
+pub all_stand : (s : List ℕ) (given : List Piece) (last : Piece) → given ++ last ∷ [] ≡ pieces_of s
+    → StandOnEnd 0 (pieces_of s) (length s)
 all_stand s given last e = elim (pieces_stand s) [ inl none ↦ absurd (push_not_nil given last (e ∙ none)) | inr h ↦ h ]

@@ -2,5 +2,5 @@ pub mod StartCodes
 pub mod Refusals
 pub mod Pieces
 pub mod Scanning
-pub mod Moves
+pub mod inside
 pub mod laws

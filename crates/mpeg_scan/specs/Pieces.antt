@@ -1,4 +1,5 @@
--- The pieces of a stream (this project's own, over the start codes of ISO/IEC 11172-2): each runs from one opener to the next or to the
+-- The pieces of a stream (this project's own, over the start codes of ISO/IEC 11172-2): each runs from one opener to
+-- the next or to the
 -- end, and the first also has what stands before its opener.
 use Rattle.std.specs.Prelude.{◌≡◌, ℕ, ◌+◌, ◌-◌, ◌<◌, List, [], ◌∷◌, length, ◌==◌, if◌then◌else◌}
 use Rattle.std.specs.List.{filter, range_with_len}
@@ -43,7 +44,8 @@ but_last [] = []
 but_last (x ∷ []) = []
 but_last (x ∷ y ∷ later) = x ∷ but_last (y ∷ later)
 
--- The pieces that have ended, which they do where the next opener stands: of what was read of a stream that goes on, the
+-- The pieces that have ended, which they do where the next opener stands: of what was read of a stream that goes on,
+-- the
 -- last has not.
 abbrev pub ended_pieces : List ℕ → List Piece
 ended_pieces stream = but_last (pieces_of stream)

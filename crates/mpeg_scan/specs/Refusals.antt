@@ -1,11 +1,15 @@
--- What is refused as a stream, and at which byte that is decided (this project's own, over the start codes of ISO/IEC 11172-2). The end
+-- What is refused as a stream, and at which byte that is decided (this project's own, over the start codes of ISO/IEC
+-- 11172-2). The end
 -- counts as the byte behind the last.
-use Rattle.std.specs.Prelude.{◌≡◌, ℕ, ◌+◌, ◌-◌, ◌<◌, ◌≤◌, Bool, false, not, ◌&&◌, ◌||◌, ◌⊎◌, List, ◌++◌, length, slice_index, IsTrue, ◌==◌, nat_lt, nat_le, if◌then◌else◌}
+use Rattle.std.specs.Prelude.{◌≡◌, ℕ, ◌+◌, ◌-◌, ◌<◌, ◌≤◌, Bool, false, not, ◌&&◌, ◌||◌, ◌⊎◌, List, ◌++◌, length}
+use Rattle.std.specs.Prelude.{slice_index, IsTrue, ◌==◌, nat_lt, nat_le, if◌then◌else◌}
 use Rattle.std.specs.List.{prefix_len}
 use Rattle.pet_base.specs.declared.limits.TheConstants.{MAX_STREAM}
 use Rattle.mpeg_scan.specs.declared.refusal.Scan.{Scan}
-use Rattle.mpeg_scan.specs.declared.refusal.Scan.TheVariants.{Empty, NoHead, System, PictureType, ShortPicture, TooLong, NoMemory}
-use Rattle.mpeg_scan.specs.StartCodes.{is_start_code, code_at, is_head_code, is_system_code, is_picture, type_at, is_type}
+use Rattle.mpeg_scan.specs.declared.refusal.Scan.TheVariants.{Empty, NoHead, System, PictureType, ShortPicture, TooLong}
+use Rattle.mpeg_scan.specs.declared.refusal.Scan.TheVariants.{NoMemory}
+use Rattle.mpeg_scan.specs.StartCodes.{is_start_code, code_at, is_head_code, is_system_code, is_picture, type_at}
+use Rattle.mpeg_scan.specs.StartCodes.{is_type}
 
 -- the longest stream, in bytes
 abbrev pub max_stream : ℕ
@@ -19,7 +23,8 @@ zeros stream = prefix_len (λ x. x == 0) stream
 abbrev pub has_head : List ℕ → Bool
 has_head stream =
     let p = zeros stream - 2 in
-    nat_le 2 (zeros stream) && (is_start_code stream p && (is_head_code (code_at stream p) || is_system_code (code_at stream p)))
+    nat_le 2 (zeros stream)
+    && (is_start_code stream p && (is_head_code (code_at stream p) || is_system_code (code_at stream p)))
 
 -- the refusal holds of the stream
 abbrev pub holds : List ℕ → Scan → Bool
@@ -56,7 +61,8 @@ pub record Refuses (stream : List ℕ) (scan : Scan) : Type 0 where
 
 -- the stream is refused so, and where it is too long already, so it is however it goes on
 abbrev pub IsRefusal : List ℕ → Scan → Type 0
-IsRefusal stream scan = Refuses stream scan × (max_stream < length stream → (rest : List ℕ) → Refuses (stream ++ rest) scan)
+IsRefusal stream scan =
+    Refuses stream scan × (max_stream < length stream → (rest : List ℕ) → Refuses (stream ++ rest) scan)
 
 -- a stream without a refusal
 abbrev pub IsAccepted : List ℕ → Type 0
@@ -64,4 +70,6 @@ IsAccepted stream = (scan : Scan) → holds stream scan ≡ false
 
 -- nothing of the stream is refused so far: each refusal, however it goes on, is decided behind what was read
 abbrev pub IsUndecided : List ℕ → Type 0
-IsUndecided stream = (rest : List ℕ) (scan : Scan) → IsTrue (holds (stream ++ rest) scan) → length stream ≤ decided_at (stream ++ rest) scan
+IsUndecided stream =
+    (rest : List ℕ) (scan : Scan) → IsTrue (holds (stream ++ rest) scan)
+    → length stream ≤ decided_at (stream ++ rest) scan

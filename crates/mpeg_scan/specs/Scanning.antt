@@ -1,6 +1,8 @@
--- Where a scanner stands that has read a stream, however that came in portions, and what it has given of it (this project's own). Every
+-- Where a scanner stands that has read a stream, however that came in portions, and what it has given of it (this
+-- project's own). Every
 -- fact on a refusal or a piece is over each way in which the stream goes on.
-use Rattle.std.specs.Prelude.{◌≡◌, ℕ, ◌+◌, ◌-◌, ◌<◌, ◌≤◌, ◌⊎◌, List, [], ◌∷◌, ◌++◌, length, drop, replicate, slice_index, Some, None, IsTrue, nat_le, if◌then◌else◌}
+use Rattle.std.specs.Prelude.{◌≡◌, ℕ, ◌+◌, ◌-◌, ◌<◌, ◌≤◌, ◌⊎◌, List, [], ◌∷◌, ◌++◌, length, drop, replicate}
+use Rattle.std.specs.Prelude.{slice_index, Some, None, IsTrue, nat_le, if◌then◌else◌}
 use Rattle.std.specs.List.{filter, range_with_len}
 use Rattle.std.specs.Bool.{MatchBool}
 use Rattle.mpeg_scan.specs.declared.refusal.Scan.{Scan}
@@ -39,9 +41,12 @@ pub record InPiece (scanner : Scanner) (stream : List ℕ) (given : List Piece) 
   pub code : scanner.code ≡ code_at stream opener
   pub kind : (code_at stream opener ≡ 0 → opener + 5 < length stream) → scanner.kind ≡ kind_at stream opener
   pub head : (rest : List ℕ) → IsTrue (has_head (stream ++ rest))
-  pub pieces : (rest : List ℕ) → pieces_of (stream ++ rest) ≡ given ++ pieces_from (stream ++ rest) opener scanner.from (openers_from (stream ++ rest) (length stream - 3))
+  pub pieces : (rest : List ℕ)
+      → pieces_of (stream ++ rest)
+      ≡ given ++ pieces_from (stream ++ rest) opener scanner.from (openers_from (stream ++ rest) (length stream - 3))
 
--- The scanner has read the stream, of which nothing is refused so far however it goes on, and has given these pieces: those whose
+-- The scanner has read the stream, of which nothing is refused so far however it goes on, and has given these pieces:
+-- those whose
 -- successor's opener is known.
 pub record HasRead (scanner : Scanner) (stream : List ℕ) (given : List Piece) : Type 0 where
   pub live : scanner.refused ≡ None

@@ -1,11 +1,13 @@
--- Start codes and picture types, by the clauses of ISO/IEC 11172-2 on start codes and on the picture layer: a start code is the bytes
+-- Start codes and picture types, by the clauses of ISO/IEC 11172-2 on start codes and on the picture layer: a start
+-- code is the bytes
 -- 00 00 01 and one code byte, and a picture's type is three bits of the second byte behind its start code.
 use Rattle.std.specs.Prelude.{ℕ, ◌+◌, ◌/◌, ◌%◌, Bool, ◌&&◌, ◌||◌, List, length, slice_index, ◌==◌, nat_lt, nat_le}
 
 -- a start code stands at byte p, and its code is the fourth byte
 abbrev pub is_start_code : List ℕ → ℕ → Bool
 is_start_code stream p =
-    nat_lt (p + 3) (length stream) && (slice_index stream p == 0 && (slice_index stream (p + 1) == 0 && slice_index stream (p + 2) == 1))
+    nat_lt (p + 3) (length stream)
+    && (slice_index stream p == 0 && (slice_index stream (p + 1) == 0 && slice_index stream (p + 2) == 1))
 
 abbrev pub code_at : List ℕ → ℕ → ℕ
 code_at stream p = slice_index stream (p + 3)

@@ -5,7 +5,7 @@ ghost use Rattle.mpeg_scan.specs.declared.piece.Piece.{Piece};
 ghost use Rattle.mpeg_scan.specs.Refusals.{Refuses, IsAccepted, max_stream};
 ghost use Rattle.mpeg_scan.specs.Pieces.{pieces_of, StandOnEnd};
 ghost use Rattle.mpeg_scan.specs.Scanning.{HasRead, HasRefused, HasStopped, HasGrown, IsFrontOf, added};
-ghost use Rattle.mpeg_scan.specs.Moves.{Advances};
+ghost use Rattle.mpeg_scan.specs.inside.Moves.{Advances};
 
 mod decide;
 mod skip;

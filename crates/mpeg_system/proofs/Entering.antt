@@ -15,7 +15,7 @@ use Rattle.mpeg_system.specs.Phases.{is_form, is_stamps}
 use Rattle.mpeg_system.specs.Contents.{behind, behind_stamps, data_in}
 use Rattle.mpeg_system.specs.Units.{Reading, ahead, stopped, units_from}
 use Rattle.mpeg_system.specs.Stages.{packet, packet_ends, finder, stage, goes_on}
-use Rattle.mpeg_system.specs.Unwrapping.{Moves, Stops, Enters, Fails}
+use Rattle.mpeg_system.specs.inside.Unwrapping.{Moves, Stops, Enters, Fails}
 use Rattle.mpeg_system.specs.laws.ContentLaws.{packet_cut, packet_whole, packet_more, packet_same, packet_data}
 use Rattle.mpeg_system.specs.laws.ContentLaws.{prefixed, counts}
 use Rattle.mpeg_system.proofs.Steps.{goes_is, fresh}

@@ -9,7 +9,7 @@ use Rattle.mpeg_system.specs.declared.refusal.System.TheVariants.{NoStart}
 use Rattle.mpeg_system.specs.declared.state.Unwrap.{Unwrap}
 use Rattle.mpeg_system.specs.Units.{Reading, ahead, stopped, units_from}
 use Rattle.mpeg_system.specs.Stages.{passes, code, goes_on}
-use Rattle.mpeg_system.specs.Unwrapping.{Moves, Stops}
+use Rattle.mpeg_system.specs.inside.Unwrapping.{Moves, Stops}
 use Rattle.mpeg_system.specs.laws.FirstUnit.{first_unit, unit_at}
 use Rattle.mpeg_system.specs.laws.StartCode.{no_start, behind_one}
 use Rattle.mpeg_system.proofs.Steps.{goes_is, fresh, passed, passes_run}

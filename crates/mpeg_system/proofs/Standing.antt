@@ -9,7 +9,7 @@ use Rattle.pet_base.specs.laws.SeenLaws.{Grows-nil, KeepsNames-same, KeepsNames-
 use Rattle.outside_files.specs.laws.OutputLaws.{puts_then, part_of_back}
 use Rattle.outside_files.specs.laws.PartLaws.{part_whole}
 use Rattle.mpeg_system.specs.Unwrapping.{IsFrontOf}
-use Rattle.mpeg_system.specs.Feeding.{Stands, HasBegun}
+use Rattle.mpeg_system.specs.inside.Feeding.{Stands, HasBegun}
 use Rattle.mpeg_system.specs.laws.VideoLaws.{video_short}
 
 prepend_none : (known : Option (List ℕ)) → known ≡ prepend_known [] known

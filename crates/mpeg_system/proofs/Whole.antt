@@ -20,7 +20,7 @@ use Rattle.mpeg_system.specs.declared.unwrap_files.UnwrapEnd.{UnwrapEnd}
 use Rattle.mpeg_system.specs.declared.unwrap_files.UnwrapEnd.TheVariants.{Done, NoMemory, PlaceFault, BadSystem}
 use Rattle.mpeg_system.specs.Videos.{video_of}
 use Rattle.mpeg_system.specs.Unwrapping.{IsFrontOf}
-use Rattle.mpeg_system.specs.Feeding.{Stands, HasUnwrapped, HasBegun, EndsSo, IsOfEither}
+use Rattle.mpeg_system.specs.inside.Feeding.{Stands, HasUnwrapped, HasBegun, EndsSo, IsOfEither}
 use Rattle.mpeg_system.specs.Unwraps.{WritesVideo, LeavesFront, Unwraps}
 
 some_same : {A : Type 0} (x y : A) → Some x ≡ Some y → x ≡ y

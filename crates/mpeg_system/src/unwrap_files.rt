@@ -9,7 +9,7 @@ ghost use Rattle.outside_files.specs.Uses.{Failed, reading, writing};
 ghost use Rattle.outside_files.specs.declared.input.TheConstants.{MAX_PORTION};
 ghost use Rattle.mpeg_system.specs.Completes.{CompletesUnwrap};
 ghost use Rattle.mpeg_system.specs.Ends.{unwrap_failed};
-ghost use Rattle.mpeg_system.specs.Feeding.{WasFed, EndsSo, HasUnwrapped, HasBegun, IsOfEither};
+ghost use Rattle.mpeg_system.specs.inside.Feeding.{WasFed, EndsSo, HasUnwrapped, HasBegun, IsOfEither};
 ghost use Rattle.mpeg_system.specs.Unwraps.{LeavesFront, Unwraps};
 
 use crate::refusal::System;

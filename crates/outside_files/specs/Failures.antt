@@ -11,7 +11,8 @@ abbrev pub has_failed : Stop → Bool
 has_failed NoMemory = false
 has_failed Failed = true
 
--- The first failure of the place or of the link ends it: none failed, or one call of the one that is told did, and behind it none
+-- The first failure of the place or of the link ends it: none failed, or one call of the one that is told did, and
+-- behind it none
 -- of that object was made.
 pub record EndsAtOnce (of_place of_link : Bool) (before after : OutsideSeen) : Type 0 where
   pub place : PlaceStops of_place before.place after.place

@@ -13,7 +13,8 @@ abbrev pub with_files : List File → Files → Files
 with_files [] files = files
 with_files (file ∷ more) files = with_files more (with_file file.name file.bytes files)
 
--- Where the files are told, these were written one after the other, each whole, and then, where one is named, a front of
+-- Where the files are told, these were written one after the other, each whole, and then, where one is named, a front
+-- of
 -- it. No other file has changed.
 abbrev pub Wrote : List File → Option File → Seen → Seen → Type 0
 Wrote whole None old new = new.files ≡ option_map (with_files whole) old.files

@@ -37,7 +37,8 @@ KeepsOther (OnFile name) place_old link_old place_new link_new = link_new ≡ li
 KeepsOther (OnLink address) place_old link_old place_new link_new = place_new ≡ place_old
 
 -- only what is to come changes, and the counts of faults do not fall
-pub record OnlyTakes (way : Way) (place_old : Seen) (link_old : LinkSeen) (place_new : Seen) (link_new : LinkSeen) : Type 0 where
+pub record OnlyTakes (way : Way) (place_old : Seen) (link_old : LinkSeen) (place_new : Seen)
+    (link_new : LinkSeen) : Type 0 where
   pub place : OnlyReads place_old place_new
   pub link : OnlyReceives link_old link_new
   pub other : KeepsOther way place_old link_old place_new link_new

@@ -25,11 +25,11 @@ abbrev pub Sent : List (List ℕ) → LinkSeen → LinkSeen → Type 0
 Sent datagrams old new = new.sent ≡ option_map (λ sent. sent ++ datagrams) old.sent
 
 -- the first ones of these
-abbrev pub AreFirst : List (List ℕ) → List (List ℕ) → Type 0
-AreFirst first datagrams = (more : List (List ℕ)) × (datagrams ≡ first ++ more)
+abbrev pub AreFirstDatagrams : List (List ℕ) → List (List ℕ) → Type 0
+AreFirstDatagrams first datagrams = (more : List (List ℕ)) × (datagrams ≡ first ++ more)
 
 abbrev pub SentFirst : List (List ℕ) → LinkSeen → LinkSeen → Type 0
-SentFirst datagrams old new = (first : List (List ℕ)) × AreFirst first datagrams × Sent first old new
+SentFirst datagrams old new = (first : List (List ℕ)) × AreFirstDatagrams first datagrams × Sent first old new
 
 -- The datagrams were sent: the output has grown by their entries and the link is as before, or the link has sent
 -- them and no file has changed.
@@ -40,7 +40,8 @@ Sends (OnLink address) datagrams old new = Sent datagrams old.link new.link × (
 -- or a front of their entries was put, or the first of them were sent
 abbrev pub SendsPart : Way → List (List ℕ) → Routes → Routes → Type 0
 SendsPart (OnFile name) datagrams old new = PutsPart (entries_of datagrams) old.place new.place × (new.link ≡ old.link)
-SendsPart (OnLink address) datagrams old new = SentFirst datagrams old.link new.link × (new.place.files ≡ old.place.files)
+SendsPart (OnLink address) datagrams old new =
+    SentFirst datagrams old.link new.link × (new.place.files ≡ old.place.files)
 
 -- a file that datagrams go to is the output
 abbrev pub IsOpen : Way → Routes → Type 0

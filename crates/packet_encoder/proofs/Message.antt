@@ -1,5 +1,6 @@
 -- The message, its words, and the payload that they make.
-use Rattle.std.proofs.Common.{◌≡◌, ℕ, ◌+◌, ◌*◌, ◌<◌, List, [], ◌∷◌, All, length, get_or, take, drop, flat_map, sym, ap, subst, ◌∙◌, arith, refl, length-append}
+use Rattle.std.proofs.Common.{◌≡◌, ℕ, ◌+◌, ◌*◌, ◌<◌, List, [], ◌∷◌, All, length, get_or, take, drop, flat_map, sym, ap}
+use Rattle.std.proofs.Common.{subst, ◌∙◌, arith, refl, length-append}
 use Rattle.std.proofs.lemmas.List.{length-map}
 use Rattle.std.proofs.lemmas.List.Elements.{All-nil, All-head, All-tail, All-append, All-from_get_or}
 use Rattle.field_elements.specs.Field.{Coding, IsCoding}
@@ -32,7 +33,8 @@ module _ {E : Type 0} (P : E → Type 0) (count : ℕ) (c : Coding E) (laws : Is
   pub bytes_spellings : (row : List E) → All P row → All (λ b. b < 256) (flat_map c.spelling row)
   bytes_spellings [] h = All-nil (λ b. b < 256)
   bytes_spellings (a ∷ row) h =
-      All-append (λ b. b < 256) (c.spelling a) (flat_map c.spelling row) (laws.spellings.spelling_bytes a (All-head P a row h)) (bytes_spellings row (All-tail P a row h))
+      All-append (λ b. b < 256) (c.spelling a) (flat_map c.spelling row)
+      (laws.spellings.spelling_bytes a (All-head P a row h)) (bytes_spellings row (All-tail P a row h))
 
   -- the words of a message of bytes, of which each word has `width`
   module _ (n m : ℕ) (message : List ℕ) (row : List E) (is : row ≡ words c.spelt c.width n message) (many : n ≡ m) where
@@ -40,7 +42,8 @@ module _ {E : Type 0} (P : E → Type 0) (count : ℕ) (c : Coding E) (laws : Is
     pub row_length : length row ≡ m
     row_length = ap length is ∙ length-words c.spelt c.width n message ∙ many
 
-    module _ (whole : length message ≡ m * c.width) (bytes : (k : ℕ) → k < length message → get_or message k 0 < 256) where
+    module _ (whole : length message ≡ m * c.width)
+        (bytes : (k : ℕ) → k < length message → get_or message k 0 < 256) where
       whole_words : length message ≡ n * c.width
       whole_words = rw many whole
 
@@ -49,19 +52,27 @@ module _ {E : Type 0} (P : E → Type 0) (count : ℕ) (c : Coding E) (laws : Is
 
       -- are elements
       pub row_is : All P row
-      row_is = subst (All P) (sym is) (words_are P c.width c.spelt c.spelling laws.spellings n message whole_words all_bytes)
+      row_is =
+          subst (All P) (sym is) (words_are P c.width c.spelt c.spelling laws.spellings n message whole_words all_bytes)
 
       -- and are written as the message
       pub row_message : flat_map c.spelling row ≡ message
-      row_message = ap (flat_map c.spelling) is ∙ spellings_of_words P c.width c.spelt c.spelling laws.spellings n message whole_words all_bytes
+      row_message =
+          ap (flat_map c.spelling) is
+          ∙ spellings_of_words P c.width c.spelt c.spelling laws.spellings n message whole_words all_bytes
 
   -- elements that were laid out are elements
-  pub laid_elements : (blocks : List Block) (row laid : List E) → columns_of c.ops.nought blocks laid ≡ stripes_of blocks row → length laid ≡ size_of blocks → All P row → All P laid
+  pub laid_elements : (blocks : List Block) (row laid : List E)
+      → columns_of c.ops.nought blocks laid ≡ stripes_of blocks row → length laid ≡ size_of blocks → All P row
+      → All P laid
   laid_elements blocks row laid is whole h =
-      elements_of_columns P c.ops.nought blocks laid whole (subst (All (All P)) (sym is) (stripes_by_are P (lengths_of blocks) row h))
+      elements_of_columns P c.ops.nought blocks laid whole
+      (subst (All (All P)) (sym is) (stripes_by_are P (lengths_of blocks) row h))
 
   -- and their columns on end are the row
-  pub laid_row : (blocks : List Block) (row laid : List E) → columns_of c.ops.nought blocks laid ≡ stripes_of blocks row → length row ≡ size_of blocks → words_in c blocks laid ≡ row
+  pub laid_row : (blocks : List Block) (row laid : List E)
+      → columns_of c.ops.nought blocks laid ≡ stripes_of blocks row → length row ≡ size_of blocks
+      → words_in c blocks laid ≡ row
   laid_row blocks row laid is whole = ap (flat_map (λ s. s)) is ∙ stripes_of_row blocks row whole
 
   module _ (header : Header) (blocks : List Block) (laid : List E) (kept : IsStored P count c header blocks laid) where
@@ -85,7 +96,8 @@ module _ {E : Type 0} (P : E → Type 0) (count : ℕ) (c : Coding E) (laws : Is
     unfolding stripes_from
     stripes_are =
         cut_again (needs_of header.table.layers) (words_in c blocks laid) stripes 0 (plan_ends header.table.layers)
-        (plan_partition (needs_of header.table.layers) 0 (plan_ends header.table.layers) (plan_ends_plan header.table.layers kept.table.needed))
+        (plan_partition (needs_of header.table.layers) 0 (plan_ends header.table.layers)
+        (plan_ends_plan header.table.layers kept.table.needed))
         refl (column_lengths c.ops.nought blocks laid ∙ kept.lengths)
 
     module _ (x : E) (hx : P x) (payload : List ℕ) (is : payload ≡ values_of c stripes x) where
@@ -93,9 +105,12 @@ module _ {E : Type 0} (P : E → Type 0) (count : ℕ) (c : Coding E) (laws : Is
       pub payload_is : payload ≡ payload_at c header.table.layers (flat_map c.spelling (words_in c blocks laid)) x
       payload_is =
           is ∙ ap (λ ss. values_of c ss x) (sym stripes_are)
-          ∙ sym (payload_of_words P count c laws header.table.layers (words_in c blocks laid) x words_are_elements words_are_whole)
+          ∙ sym (payload_of_words P count c laws header.table.layers
+          (words_in c blocks laid) x words_are_elements words_are_whole)
 
       pub payload_length : length payload ≡ c.width * length (plan_ends header.table.layers)
       payload_length =
           ap length is ∙ length-values P count c laws stripes x are hx
-          ∙ ap (λ n. c.width * n) (ap length (sym stripes_are) ∙ length-map (plan_stripes header.table.layers) (λ s. take s.1 (drop s.0 (words_in c blocks laid))) ∙ stripe_count header.table.layers)
+          ∙ ap (λ n. c.width * n) (ap length (sym stripes_are)
+          ∙ length-map (plan_stripes header.table.layers) (λ s. take s.1 (drop s.0 (words_in c blocks laid)))
+          ∙ stripe_count header.table.layers)

@@ -1,5 +1,6 @@
 -- The packets of a range of numbers, one after another.
-use Rattle.std.proofs.Common.{◌≡◌, ℕ, ◌+◌, ◌-◌, ◌*◌, ◌<◌, ◌≤◌, inl, inr, List, [], ◌∷◌, ◌++◌, length, map, take, drop, flat_map, refl, sym, ap, ap₂, subst, ◌∙◌, arith, append_assoc}
+use Rattle.std.proofs.Common.{◌≡◌, ℕ, ◌+◌, ◌-◌, ◌*◌, ◌<◌, ◌≤◌, inl, inr, List, [], ◌∷◌, ◌++◌, length, map, take, drop}
+use Rattle.std.proofs.Common.{flat_map, refl, sym, ap, ap₂, subst, ◌∙◌, arith, append_assoc}
 use Rattle.std.specs.Prelude.{Result, Ok, Err, IfOk}
 use Rattle.std.specs.List.{range_with_len}
 use Rattle.std.proofs.lemmas.Bool.{cases_lt}
@@ -39,13 +40,16 @@ module _ {E : Type 0} (t : Format) (c : Coding E) (e : Encoding) (first n m : �
       ∙ ap (λ l. frames_by t c e first n ++ l) (append-nil (planned_text t (frame_of c e (first + n))))
       ∙ ap (λ k. frames_by t c e first n ++ planned_text t (frame_of c e k)) (sym is)
 
-  pub text_more : (old before after : List ℕ) → before ≡ old ++ frames_by t c e first n → after ≡ before ++ planned_text t (frame_of c e m)
+  pub text_more : (old before after : List ℕ) → before ≡ old ++ frames_by t c e first n
+      → after ≡ before ++ planned_text t (frame_of c e m)
       → after ≡ old ++ frames_by t c e first (n + 1)
   text_more old before after so_far grown =
-      grown ∙ ap (λ l. l ++ planned_text t (frame_of c e m)) so_far ∙ append_assoc old (frames_by t c e first n) (planned_text t (frame_of c e m))
+      grown ∙ ap (λ l. l ++ planned_text t (frame_of c e m)) so_far
+      ∙ append_assoc old (frames_by t c e first n) (planned_text t (frame_of c e m))
       ∙ ap (λ l. old ++ l) (sym frames_more)
 
-  pub ranges_more : IsPlannedFrame t (frame_of c e m) → ((k : ℕ) → first ≤ k → k < first + n → IsPlannedFrame t (frame_of c e k))
+  pub ranges_more : IsPlannedFrame t (frame_of c e m)
+      → ((k : ℕ) → first ≤ k → k < first + n → IsPlannedFrame t (frame_of c e k))
       → (k : ℕ) → first ≤ k → k < first + (n + 1) → IsPlannedFrame t (frame_of c e k)
   ranges_more frame h k low high =
       elim (cases_lt k (first + n)) [
@@ -59,27 +63,34 @@ on_ok P Q (Ok a) h p = h a p
 on_ok P Q (Err x) h p = p
 
 -- the values of the columns are those that the packets carry
-pub rows_carried : {E : Type 0} (P : E → Type 0) (count : ℕ) (c : Coding E) (laws : IsCoding P count c) (header : Header) (blocks : List Block) (row : List E) (kept : IsStored P count c header blocks row)
+pub rows_carried : {E : Type 0} (P : E → Type 0) (count : ℕ) (c : Coding E) (laws : IsCoding P count c)
+    (header : Header) (blocks : List Block) (row : List E) (kept : IsStored P count c header blocks row)
     (e : Encoding) → record { header = header; message = flat_map c.spelling (words_in c blocks row) } ≡ e
-    → (n first k f m : ℕ) (bs : List Block) (lent items : List E) → n ≡ length (plan_stripes e.header.table.layers) → f ≡ first → k ≡ m → bs ≡ blocks → lent ≡ row
+    → (n first k f m : ℕ) (bs : List Block) (lent items : List E) → n ≡ length (plan_stripes e.header.table.layers)
+    → f ≡ first → k ≡ m → bs ≡ blocks → lent ≡ row
     → HasRows n k (λ p. map (λ s. value c.ops s (c.point_of (f + p))) (columns_of c.ops.nought bs lent)) items
     → HasRows (length (plan_stripes e.header.table.layers)) m (λ p. values_at c e (first + p)) items
-rows_carried {E = E} P count c laws header blocks row kept e view n first k f m bs lent items wide begins many at same h = record {
-  long = h.long ∙ ap₂ ◌*◌ many wide;
-  each =
-      λ p l.
-      ap (λ w. take w (drop (p * w) items)) (sym wide) ∙ h.each p (omega arith)
-      ∙ ap₂ (λ (b : List Block) (xs : List E). map (λ s. value c.ops s (c.point_of (f + p))) (columns_of c.ops.nought b xs)) at same
-      ∙ ap (λ y. map (λ s. value c.ops s (c.point_of (y + p))) (columns_of c.ops.nought blocks row)) begins
-      ∙ sym (carries P count c laws header blocks row kept e view (first + p));
-}
+rows_carried {E = E} P count c laws header blocks row kept e view n first k f m bs lent items wide begins many at same
+    h = record {
+      long = h.long ∙ ap₂ ◌*◌ many wide;
+      each =
+          λ p l.
+          ap (λ w. take w (drop (p * w) items)) (sym wide) ∙ h.each p (omega arith)
+          ∙ ap₂ (λ (b : List Block) (xs : List E). map (λ s. value c.ops s (c.point_of (f + p)))
+          (columns_of c.ops.nought b xs)) at same
+          ∙ ap (λ y. map (λ s. value c.ops s (c.point_of (y + p))) (columns_of c.ops.nought blocks row)) begins
+          ∙ sym (carries P count c laws header blocks row kept e view (first + p));
+    }
 
 -- one row of them
-pub row_at : {E : Type 0} (c : Coding E) (e : Encoding) (w count first p at m : ℕ) (items : List E) → HasRows w count (λ q. values_at c e (first + q)) items → p < count → at ≡ p * w → m ≡ first + p
+pub row_at : {E : Type 0} (c : Coding E) (e : Encoding) (w count first p at m : ℕ) (items : List E)
+    → HasRows w count (λ q. values_at c e (first + q)) items → p < count → at ≡ p * w → m ≡ first + p
     → (n : ℕ) → n ≡ w → take (at + n - at) (drop at items) ≡ values_at c e m
 row_at c e w count first p at m items h l place is n wide =
     let size : at + n - at ≡ w = omega arith in
-    ap (λ k. take k (drop at items)) size ∙ ap (λ k. take w (drop k items)) place ∙ h.each p l ∙ ap (values_at c e) (sym is)
+    ap (λ k. take k (drop at items)) size ∙ ap (λ k. take w (drop k items)) place ∙ h.each p l
+    ∙ ap (values_at c e) (sym is)
 
-pub row_room : {E : Type 0} (w count p at : ℕ) (row : ℕ → List E) (items : List E) → HasRows w count row items → p < count → at ≡ p * w → at + w ≤ length items
+pub row_room : {E : Type 0} (w count p at : ℕ) (row : ℕ → List E) (items : List E) → HasRows w count row items
+    → p < count → at ≡ p * w → at + w ≤ length items
 row_room w count p at row items h l place = omega (arith, row_within p count w l, h.long, place)

@@ -17,9 +17,11 @@ use Rattle.packet_frame.specs.Planned.{IsPlanTableIn}
 abbrev pub words_in : {E : Type 0} → Coding E → List Block → List E → List E
 words_in c blocks laid = flat_map (λ stripe. stripe) (columns_of c.ops.nought blocks laid)
 
--- a field with a point for each packet, a header in its ranges, and an element for each word, laid out in blocks whose columns are
+-- a field with a point for each packet, a header in its ranges, and an element for each word, laid out in blocks whose
+-- columns are
 -- as long as the plan's stripes
-pub record IsStored {E : Type 0} (is_element : E → Type 0) (count : ℕ) (c : Coding E) (header : Header) (blocks : List Block) (laid : List E) : Type 0 where
+pub record IsStored {E : Type 0} (is_element : E → Type 0) (count : ℕ) (c : Coding E) (header : Header)
+    (blocks : List Block) (laid : List E) : Type 0 where
   pub points : header.table.packets ≤ count
   pub groups : header.groups ≤ MAX_GROUPS
   pub group : header.group < header.groups
@@ -30,7 +32,8 @@ pub record IsStored {E : Type 0} (is_element : E → Type 0) (count : ℕ) (c : 
   pub elements : All is_element laid
   pub whole : length laid ≡ size_of blocks
 
--- a format whose words are as wide as an element of the field, and whose tables are as the header's is, by the layers whose words
+-- a format whose words are as wide as an element of the field, and whose tables are as the header's is, by the layers
+-- whose words
 -- its plan cuts
 pub record IsCoded (t : Format) (width : ℕ) (header : Header) : Type 0 where
   pub format : IsFormat t

@@ -11,11 +11,11 @@ ghost use Rattle.stripe_plan.specs.Sizes.{IsTable};
 
 use crate::laid::{laid_out, plan_blocks};
 use crate::values::{append_elements, elements, stripe_values};
-use packet_frame::{Format, Header, begin_planned, end_planned};
-use pet_base::{MAX_DATAGRAM, MAX_GROUPS, NoMemory, Steps};
 use field_elements::Field;
 use field_rows::{Block, Rows};
 use field_values::AllValues;
+use packet_frame::{Format, Header, begin_planned, end_planned};
+use pet_base::{MAX_DATAGRAM, MAX_GROUPS, NoMemory, Steps};
 use std::alloc::Global;
 use std::marker::Model;
 use std::sync::ledger::Ledger;

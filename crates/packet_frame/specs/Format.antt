@@ -1,4 +1,5 @@
--- The formats of frames. A format is a mark of four bytes, the bytes of a tag, the bytes of a payload for each stripe, and
+-- The formats of frames. A format is a mark of four bytes, the bytes of a tag, the bytes of a payload for each stripe,
+-- and
 -- what bounds the tables. This project's own.
 use Rattle.std.specs.Prelude.{◌≡◌, ℕ, ◌+◌, ◌*◌, ◌<◌, ◌≤◌, ◌^◌, List, length}
 use Rattle.pet_base.specs.declared.limits.TheConstants.{HEAD_LENGTH, LAYER_LENGTH}

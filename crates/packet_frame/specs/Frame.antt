@@ -1,5 +1,6 @@
 -- A frame by its fields, the ranges that they keep, and its one text. This project's own format: numbers are
--- big-endian, and the tag is the front of the SHA-256 digest (FIPS 180-4) of all bytes before it. A frame is of a format;
+-- big-endian, and the tag is the front of the SHA-256 digest (FIPS 180-4) of all bytes before it. A frame is of a
+-- format;
 -- names that tell none are of the frames that are written today.
 use Rattle.std.specs.Prelude.{◌≡◌, ℕ, ◌*◌, ◌<◌, ◌≤◌, List, [], ◌∷◌, ◌++◌, length, take}
 use Rattle.std.specs.List.{flat_map}
@@ -42,7 +43,8 @@ layer_text layer = to_be_bytes w32 layer.length ++ to_be_bytes w16 layer.need
 -- all that is before the layers
 abbrev pub head_text : Format → Fields → List ℕ
 head_text t f =
-    t.mark ++ f.session ++ to_be_bytes w32 f.groups ++ to_be_bytes w32 f.group ++ to_be_bytes w16 f.packets ++ to_be_bytes w16 f.number
+    t.mark ++ f.session ++ to_be_bytes w32 f.groups ++ to_be_bytes w32 f.group ++ to_be_bytes w16 f.packets
+    ++ to_be_bytes w16 f.number
     ++ (length f.layers ∷ [])
 
 -- all that is before the payload

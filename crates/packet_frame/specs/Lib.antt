@@ -4,4 +4,5 @@ pub mod Refusals
 pub mod Planned
 pub mod View
 pub mod Reading
+pub mod inside
 pub mod laws

@@ -1,6 +1,7 @@
 -- The fields that stand in bytes, and why bytes are no frame: the first row of the table of refusals that holds.
 -- This project's own format.
-use Rattle.std.specs.Prelude.{ℕ, zero, suc, ◌+◌, ◌-◌, ◌*◌, Bool, not, ◌||◌, ◌==◌, nat_lt, List, [], ◌∷◌, ◌++◌, length, take, drop, slice_index, Option, None, Some, if◌then◌else◌, ◌≡◌}
+use Rattle.std.specs.Prelude.{ℕ, zero, suc, ◌+◌, ◌-◌, ◌*◌, Bool, not, ◌||◌, ◌==◌, nat_lt, List, [], ◌∷◌, ◌++◌, length}
+use Rattle.std.specs.Prelude.{take, drop, slice_index, Option, None, Some, if◌then◌else◌, ◌≡◌}
 use Rattle.std.specs.List.{list_any}
 use Rattle.std.specs.Str.{bytes_eq}
 use Rattle.std.specs.Int.{Width, w16, w32, byte_len, from_be_bytes}
@@ -41,7 +42,8 @@ fields_in t bytes = record {
   packets = number w16 20 bytes;
   number = number w16 22 bytes;
   layers = layers_at (count_of bytes) (drop HEAD_LENGTH bytes);
-  payload = take (length bytes - bare_length t (count_of bytes)) (drop (HEAD_LENGTH + LAYER_LENGTH * count_of bytes) bytes);
+  payload =
+      take (length bytes - bare_length t (count_of bytes)) (drop (HEAD_LENGTH + LAYER_LENGTH * count_of bytes) bytes);
 }
 
 -- a row of the table: where it holds, and its refusal
@@ -80,8 +82,11 @@ abbrev pub ends_in_tag : Format → List ℕ → Bool
 ends_in_tag t bytes = bytes_eq (drop (length bytes - t.tag) bytes) (tag_of t (take (length bytes - t.tag) bytes))
 
 abbrev pub end_rows : Format → List ℕ → List LayerSize → List Row
-end_rows t bytes layers =
-    (not (length bytes == frame_length_in t layers) || nat_lt MAX_DATAGRAM (length_over t.bounds.bare (planned t.bounds layers)), Length)
+end_rows t bytes layers = (
+  not (length bytes == frame_length_in t layers) || nat_lt MAX_DATAGRAM
+      (length_over t.bounds.bare (planned t.bounds layers)),
+  Length,
+)
     ∷ (not (ends_in_tag t bytes), Tag)
     ∷ []
 

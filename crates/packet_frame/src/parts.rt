@@ -3,7 +3,7 @@ ghost use Rattle.std.specs.Prelude.{◌≡◌, ◌+◌, ◌*◌, ◌≤◌, leng
 ghost use Rattle.std.specs.Int.{w16, w32};
 ghost use Rattle.packet_frame.specs.Format.{IsFormat, bare_length};
 ghost use Rattle.packet_frame.specs.declared.format.Format.{Format};
-ghost use Rattle.packet_frame.specs.Reading.{HasHead};
+ghost use Rattle.packet_frame.specs.inside.Reading.{HasHead};
 ghost use Rattle.packet_frame.specs.Refusals.{number, layer_in, layers_at, count_of, fields_in, ends_in_tag};
 
 use crate::format::Format;

@@ -3,7 +3,8 @@ ghost use Rattle.std.specs.Prelude.{◌≡◌, ◌≤◌, ◌<◌, ◌++◌, len
 ghost use Rattle.stripe_plan.specs.Layers.{plan_ends};
 ghost use Rattle.stripe_plan.specs.Sizes.{IsTableIn, planned};
 ghost use Rattle.packet_frame.specs.Format.{IsFormat, bare_length};
-ghost use Rattle.packet_frame.specs.Reading.{HasHead, Tells, front_rows, range_rows, room_rows, refusal_for, fields_by};
+ghost use Rattle.packet_frame.specs.Reading.{fields_by};
+ghost use Rattle.packet_frame.specs.inside.Reading.{HasHead, Tells, front_rows, range_rows, room_rows, refusal_for};
 ghost use Rattle.packet_frame.specs.Refusals.{fields_in, count_of, first_fault_in, first_of, head_rows, layer_rows, end_rows};
 
 use crate::fault::{Field1, FrameFault};

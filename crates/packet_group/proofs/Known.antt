@@ -1,6 +1,7 @@
 -- One stripe of a message is written, or left as it is.
 use Rattle.std.specs.Prelude.{flat_map}
-use Rattle.std.proofs.Common.{◌≡◌, ◌≢◌, ℕ, ◌+◌, ◌*◌, ◌<◌, ◌≤◌, List, [], ◌∷◌, ◌++◌, length, get_or, take, drop, All, refl, sym, ap, ◌∙◌, arith, subst, inl, inr}
+use Rattle.std.proofs.Common.{◌≡◌, ◌≢◌, ℕ, ◌+◌, ◌*◌, ◌<◌, ◌≤◌, List, [], ◌∷◌, ◌++◌, length, get_or, take, drop, All}
+use Rattle.std.proofs.Common.{refl, sym, ap, ◌∙◌, arith, subst, inl, inr}
 use Rattle.std.proofs.lemmas.Bool.{cases_eq}
 use Rattle.std.proofs.Math.Nat.{mul-le-mul_right}
 use Rattle.field_elements.specs.Field.{Coding, AreSpellings}
@@ -20,7 +21,8 @@ pub record IsHere (layers : List LayerSize) (stripe at size : ℕ) : Type 0 wher
   pub ended : at + size ≤ length (needs_of layers)
 
 -- the next stripe of a walk over the plan
-pub taken : (layers : List LayerSize) (count stripe at size : ℕ) (before left : List (ℕ × ℕ)) → before ≡ drop count (plan_stripes layers) → before ≡ (at, size) ∷ left → stripe ≡ count
+pub taken : (layers : List LayerSize) (count stripe at size : ℕ) (before left : List (ℕ × ℕ))
+    → before ≡ drop count (plan_stripes layers) → before ≡ (at, size) ∷ left → stripe ≡ count
     → IsHere layers stripe at size × (left ≡ drop (stripe + 1) (plan_stripes layers))
 taken layers count stripe at size before left rest first same =
     let plan = plan_stripes layers in
@@ -29,26 +31,35 @@ taken layers count stripe at size before left rest first same =
     let here : get_or plan stripe (0, 0) ≡ (at, size) = ap (λ (i : ℕ). get_or plan i (0, 0)) same ∙ next.here in
     let start : (get_or plan stripe (0, 0)).0 ≡ at = ap (λ (p : ℕ × ℕ). p.0) here in
     let long : (get_or plan stripe (0, 0)).1 ≡ size = ap (λ (p : ℕ × ℕ). p.1) here in (
-      record { inside = inside; here = here; ended = omega (arith, (plan_on_end layers).inside stripe inside, start, long) },
+      record {
+        inside = inside;
+        here = here;
+        ended = omega (arith, (plan_on_end layers).inside stripe inside, start, long);
+      },
       sym next.rest ∙ ap (λ (i : ℕ). drop (i + 1) plan) (sym same),
     )
 
 -- what is done with such a stripe
-pub record IsStep {E : Type 0} (P : E → Type 0) (c : Coding E) (layers : List LayerSize) (held : Held E) (old new : List ℕ) (stripe at size : ℕ) : Type 0 where
+pub record IsStep {E : Type 0} (P : E → Type 0) (c : Coding E) (layers : List LayerSize) (held : Held E)
+    (old new : List ℕ) (stripe at size : ℕ) : Type 0 where
   pub lengths : lengths_of held ≡ stripe_lengths layers
   pub stands : IsHere layers stripe at size
   pub room : length old ≡ length (needs_of layers) * c.width
   pub written : length (stripe_of held stripe) ≡ held.met → All P (stripe_of held stripe)
-      × (new ≡ take (at * c.width) old ++ flat_map c.spelling (stripe_of held stripe) ++ drop ((at + size) * c.width) old)
+      × (new ≡ take (at * c.width) old ++ flat_map c.spelling (stripe_of held stripe)
+      ++ drop ((at + size) * c.width) old)
   pub same : length (stripe_of held stripe) ≢ held.met → new ≡ old
 
-module _ {E : Type 0} (P : E → Type 0) (c : Coding E) (laws : AreSpellings P c.width c.spelt c.spelling) (layers : List LayerSize) (held : Held E) (old new : List ℕ)
+module _ {E : Type 0} (P : E → Type 0) (c : Coding E) (laws : AreSpellings P c.width c.spelt c.spelling)
+    (layers : List LayerSize) (held : Held E) (old new : List ℕ)
     (stripe at size : ℕ) (s : IsStep P c layers held old new stripe at size) where
   long : length (stripe_of held stripe) ≡ size
   long = (sizes_are held layers s.lengths).each stripe ∙ ap (λ (p : ℕ × ℕ). p.1) s.stands.here
 
   row_written : length (stripe_of held stripe) ≡ held.met
-      → IsWritten (words c.spelt c.width (length (needs_of layers)) old) (words c.spelt c.width (length (needs_of layers)) new) (get_or (plan_stripes layers) stripe (0, 0)).0 (stripe_of held stripe)
+      → IsWritten (words c.spelt c.width (length (needs_of layers)) old)
+      (words c.spelt c.width (length (needs_of layers)) new) (get_or (plan_stripes layers) stripe (0, 0)).0
+      (stripe_of held stripe)
   row_written e =
       let w = s.written e in
       let cs = stripe_of held stripe in
@@ -57,36 +68,49 @@ module _ {E : Type 0} (P : E → Type 0) (c : Coding E) (laws : AreSpellings P c
       let top : (at + size) * c.width ≡ (at + length cs) * c.width = ap (λ n. (at + n) * c.width) (sym long) in
       let split : (at + length cs) * c.width ≡ at * c.width + length cs * c.width = omega arith in
       let most : (at + size) * c.width ≤ length (needs_of layers) * c.width = mul-le-mul_right c.width inside in
-      subst (λ a. IsWritten (words c.spelt c.width (length (needs_of layers)) old) (words c.spelt c.width (length (needs_of layers)) new) a cs) (sym start)
-      (words_written P c.width c.spelt c.spelling laws (length (needs_of layers)) at (at * c.width) ((at + size) * c.width) cs old new w.0 (omega (arith, long, inside)) refl (top ∙ split) top
+      subst (λ a. IsWritten (words c.spelt c.width (length (needs_of layers)) old)
+      (words c.spelt c.width (length (needs_of layers)) new) a cs) (sym start)
+      (words_written P c.width c.spelt c.spelling laws (length (needs_of layers)) at (at * c.width)
+      ((at + size) * c.width) cs old new w.0 (omega (arith, long, inside)) refl (top ∙ split) top
       (omega (arith, most, s.room)) w.1)
 
-  pub step_here : length (stripe_of held stripe) ≡ held.met → get_or (stripes_in c layers new) stripe [] ≡ stripe_of held stripe
+  pub step_here : length (stripe_of held stripe) ≡ held.met
+      → get_or (stripes_in c layers new) stripe [] ≡ stripe_of held stripe
   step_here e =
-      cut_written layers (words c.spelt c.width (length (needs_of layers)) old) (words c.spelt c.width (length (needs_of layers)) new) stripe (stripe_of held stripe) s.stands.inside
+      cut_written layers (words c.spelt c.width (length (needs_of layers)) old)
+      (words c.spelt c.width (length (needs_of layers)) new) stripe (stripe_of held stripe) s.stands.inside
       ((sizes_are held layers s.lengths).each stripe) (row_written e)
 
-  pub step_other : (i : ℕ) → i < length (plan_stripes layers) → i ≢ stripe → get_or (stripes_in c layers new) i [] ≡ get_or (stripes_in c layers old) i []
+  pub step_other : (i : ℕ) → i < length (plan_stripes layers) → i ≢ stripe
+      → get_or (stripes_in c layers new) i [] ≡ get_or (stripes_in c layers old) i []
   step_other i l ne =
       elim (cases_eq (length (stripe_of held stripe)) held.met) [
         | inl e ↦
-            cut_other layers (words c.spelt c.width (length (needs_of layers)) old) (words c.spelt c.width (length (needs_of layers)) new) stripe (stripe_of held stripe) s.stands.inside
+            cut_other layers (words c.spelt c.width (length (needs_of layers)) old)
+            (words c.spelt c.width (length (needs_of layers)) new) stripe (stripe_of held stripe) s.stands.inside
             ((sizes_are held layers s.lengths).each stripe) (row_written e) i l ne
         | inr e ↦ ap (λ m. get_or (stripes_in c layers m) i []) (s.same e)
       ]
 
-  pub step_known : ((j : ℕ) → j < stripe → length (stripe_of held j) ≡ held.met → get_or (stripes_in c layers old) j [] ≡ stripe_of held j)
-      → (j : ℕ) → j < stripe + 1 → length (stripe_of held j) ≡ held.met → get_or (stripes_in c layers new) j [] ≡ stripe_of held j
+  pub step_known : ((j : ℕ) → j < stripe → length (stripe_of held j) ≡ held.met
+      → get_or (stripes_in c layers old) j [] ≡ stripe_of held j)
+      → (j : ℕ) → j < stripe + 1 → length (stripe_of held j) ≡ held.met
+      → get_or (stripes_in c layers new) j [] ≡ stripe_of held j
   step_known before j l e =
       elim (cases_eq j stripe) [
-        | inl here ↦ subst (λ i. get_or (stripes_in c layers new) i [] ≡ stripe_of held i) (sym here) (step_here (subst (λ i. length (stripe_of held i) ≡ held.met) here e))
+        | inl here ↦ subst (λ i. get_or (stripes_in c layers new) i [] ≡ stripe_of held i) (sym here)
+            (step_here (subst (λ i. length (stripe_of held i) ≡ held.met) here e))
         | inr ne ↦ step_other j (omega (arith, s.stands.inside)) ne ∙ before j (omega arith) e
       ]
 
-  pub step_others : (start : List ℕ) → ((j : ℕ) → j < length held.stripes → length (stripe_of held j) ≢ held.met → get_or (stripes_in c layers old) j [] ≡ get_or (stripes_in c layers start) j [])
-      → (j : ℕ) → j < length held.stripes → length (stripe_of held j) ≢ held.met → get_or (stripes_in c layers new) j [] ≡ get_or (stripes_in c layers start) j []
+  pub step_others : (start : List ℕ)
+      → ((j : ℕ) → j < length held.stripes → length (stripe_of held j) ≢ held.met
+      → get_or (stripes_in c layers old) j [] ≡ get_or (stripes_in c layers start) j [])
+      → (j : ℕ) → j < length held.stripes → length (stripe_of held j) ≢ held.met
+      → get_or (stripes_in c layers new) j [] ≡ get_or (stripes_in c layers start) j []
   step_others start before j l ne =
       elim (cases_eq j stripe) [
-        | inl here ↦ ap (λ m. get_or (stripes_in c layers m) j []) (s.same (subst (λ i. length (stripe_of held i) ≢ held.met) here ne)) ∙ before j l ne
+        | inl here ↦ ap (λ m. get_or (stripes_in c layers m) j [])
+            (s.same (subst (λ i. length (stripe_of held i) ≢ held.met) here ne)) ∙ before j l ne
         | inr other ↦ step_other j (omega (arith, l, (sizes_are held layers s.lengths).count)) other ∙ before j l ne
       ]

@@ -14,11 +14,14 @@ use Rattle.packet_group.specs.OpenGroup.{GroupState, HoldsAfter, points_of, laye
 use Rattle.packet_group.specs.ShownBytes.{IsShownBytes}
 use Rattle.packet_group.proofs.Cuts.{sizes_are}
 
-pub shown_bytes : {E : Type 0} (P : E → Type 0) (c : Coding E) (g : GroupState E) (numbers : List ℕ) (layer count : ℕ) (bytes : List ℕ)
+pub shown_bytes : {E : Type 0} (P : E → Type 0) (c : Coding E) (g : GroupState E) (numbers : List ℕ) (layer count : ℕ)
+    (bytes : List ℕ)
     → HoldsAfter P c g numbers → count ≤ count_in g.packets
     → (words_before (layers_of g.packets) layer < words_before (layers_of g.packets) (layer + 1)
-    → IsLongestMeeting (plan_stripes (layers_of g.packets)) (words_before (layers_of g.packets) layer) (words_before (layers_of g.packets) (layer + 1)) count)
-    → bytes ≡ bytes_of_layer c.width (layers_of g.packets) g.message layer → IsShownBytes P c g.packets numbers layer bytes
+    → IsLongestMeeting (plan_stripes (layers_of g.packets)) (words_before (layers_of g.packets) layer)
+    (words_before (layers_of g.packets) (layer + 1)) count)
+    → bytes ≡ bytes_of_layer c.width (layers_of g.packets) g.message layer
+    → IsShownBytes P c g.packets numbers layer bytes
 shown_bytes P c g numbers layer count bytes h reached greatest is =
     let layers = layers_of g.packets in
     let sizes = sizes_are g.held layers h.lengths in
@@ -32,11 +35,17 @@ shown_bytes P c g numbers layer count bytes h reached greatest is =
           let some : first < last = omega (arith, meets.3, meets.4) in
           let short : (get_or (plan_stripes layers) j (0, 0)).1 ≤ count = (greatest some).largest j (0, 0) l meets in
           let inside : j < length g.held.stripes = omega (arith, l, sizes.count) in
-          let low : length (stripe_of g.held j) ≤ length numbers = omega (arith, sizes.each j, short, reached, h.many) in
+          let low : length (stripe_of g.held j) ≤ length numbers =
+          omega (arith, sizes.each j, short, reached, h.many) in
           let met : g.held.met ≡ length (points_of c g.packets numbers) = h.stands.met in
-          let long : length (points_of c g.packets numbers) ≡ length numbers = length-map numbers (λ i. (c.point_of i, words c.spelt c.width (length (plan_stripes layers)) (unwrap_or (slot_at g.packets i) []))) in
+          let long : length (points_of c g.packets numbers) ≡ length numbers =
+          length-map numbers (λ i.
+          (c.point_of i, words c.spelt c.width (length (plan_stripes layers)) (unwrap_or (slot_at g.packets i) []))) in
           let only = h.stands.others j inside (omega arith) in
-          subst (λ cs. IsOnlyThrough P c.ops (column c.ops j (take (get_or (plan_stripes layers) j (0, 0)).1 (points_of c g.packets numbers))) cs) (sym (h.known j inside low))
-          (subst (λ n. IsOnlyThrough P c.ops (column c.ops j (take n (points_of c g.packets numbers))) (stripe_of g.held j)) (sizes.each j) only);
+          subst (λ cs. IsOnlyThrough P c.ops (column c.ops j
+          (take (get_or (plan_stripes layers) j (0, 0)).1 (points_of c g.packets numbers))) cs)
+          (sym (h.known j inside low))
+          (subst (λ n. IsOnlyThrough P c.ops (column c.ops j (take n (points_of c g.packets numbers)))
+          (stripe_of g.held j)) (sizes.each j) only);
       bytes_are = is;
     }

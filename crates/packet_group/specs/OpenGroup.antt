@@ -1,4 +1,5 @@
--- What is held of one open group, and the packets for which it stands, in their order. This project's own. No order is stored.
+-- What is held of one open group, and the packets for which it stands, in their order. This project's own. No order is
+-- stored.
 use Rattle.std.specs.Prelude.{◌≡◌, ◌↔◌, ℕ, ◌<◌, ◌≤◌, List, [], length, Contains, map, IsSome, unwrap_or, slice_index_or}
 use Rattle.field_elements.specs.Field.{Coding}
 use Rattle.pet_poly.specs.Value.{AreDistinct}
@@ -13,7 +14,8 @@ use Rattle.packet_session.specs.Session.{IsMessage}
 -- the points of the packets of these numbers, each with the words of its payload
 abbrev pub points_of : {E : Type 0} → Coding E → Packets → List ℕ → List (E × List E)
 points_of c p numbers =
-    map (λ i. (c.point_of i, words c.spelt c.width (length (plan_stripes (layers_of p))) (unwrap_or (slot_at p i) []))) numbers
+    map (λ i. (c.point_of i, words c.spelt c.width (length (plan_stripes (layers_of p))) (unwrap_or (slot_at p i) [])))
+    numbers
 
 -- what is held of an open group: its packets, the message as far as it is known, and the progressive state
 pub record GroupState (E : Type 0) : Type 0 where

@@ -1,4 +1,5 @@
--- The bytes of a shown layer, by the packets that were kept of its group. This project's own, on interpolation by polynomials.
+-- The bytes of a shown layer, by the packets that were kept of its group. This project's own, on interpolation by
+-- polynomials.
 use Rattle.std.specs.Prelude.{◌≡◌, ℕ, ◌+◌, ◌<◌, ◌≤◌, List, [], length, take, slice_index_or, Some}
 use Rattle.field_elements.specs.Field.{Coding}
 use Rattle.pet_interp.specs.Progressive.{column}
@@ -21,7 +22,8 @@ module _ {E : Type 0} (is_element : E → Type 0) (c : Coding E) where
     pub message : List ℕ
     pub is_message : IsMessage c.width (layers_of p) message
     pub stripes : (j : ℕ) → j < length (plan_stripes (layers_of p))
-        → Meets (words_before (layers_of p) layer) (words_before (layers_of p) (layer + 1)) (slice_index_or (plan_stripes (layers_of p)) j (0, 0))
+        → Meets (words_before (layers_of p) layer) (words_before (layers_of p) (layer + 1))
+        (slice_index_or (plan_stripes (layers_of p)) j (0, 0))
         → IsOnlyThrough is_element c.ops
         (column c.ops j (take (slice_index_or (plan_stripes (layers_of p)) j (0, 0)).1 (points_of c p numbers)))
         (slice_index_or (stripes_in c (layers_of p) message) j [])
@@ -30,4 +32,5 @@ module _ {E : Type 0} (is_element : E → Type 0) (c : Coding E) where
 -- each payload that is kept of the group is that of the message
 abbrev pub Agrees : {E : Type 0} → Coding E → Packets → List ℕ → Type 0
 Agrees c p message =
-    (number : ℕ) (payload : List ℕ) → slot_at p number ≡ Some payload → payload ≡ payload_at c (layers_of p) message (c.point_of number)
+    (number : ℕ) (payload : List ℕ) → slot_at p number ≡ Some payload
+    → payload ≡ payload_at c (layers_of p) message (c.point_of number)

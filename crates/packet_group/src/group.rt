@@ -9,11 +9,11 @@ ghost use Rattle.packet_group.specs.OpenGroup.{count_in, HoldsAfter, layers_of, 
 ghost use Rattle.packet_group.specs.ShownBytes.{IsShownIn, IsShownBytes, Agrees};
 
 use crate::write::write_known;
+use field_rows::Rows;
 use packet_frame::Header;
 use packet_set::PacketSet;
 use pet_base::{NoMemory, Steps};
 use pet_interp::Progress;
-use field_rows::Rows;
 use std::alloc::Global;
 use std::marker::Model;
 use std::sync::ledger::Ledger;

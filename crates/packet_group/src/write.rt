@@ -7,8 +7,8 @@ ghost use Rattle.pet_interp.specs.Progressive.{StandsFor, stripe_of, lengths_of}
 ghost use Rattle.packet_session.specs.Payload.{stripes_in};
 ghost use Rattle.packet_group.specs.OpenGroup.{stripe_lengths};
 
-use pet_interp::Progress;
 use field_rows::Rows;
+use pet_interp::Progress;
 use stripe_plan::Table;
 
 /// Writes the words of each stripe that is as long as the number of points that were met. Once a point was met, such a

@@ -22,7 +22,8 @@ IsArrivalText set order arrival bytes text = L.IsArrivalText (λ a. a < 65536) g
 
 -- what is written for these datagrams, the first of them being of the given arrival
 abbrev pub IsLayersText : KeptSet → Order → ℕ → List (List ℕ) → List ℕ → Type 0
-IsLayersText set order arrival datagrams text = L.IsLayersText (λ a. a < 65536) gf16_coding set order arrival datagrams text
+IsLayersText set order arrival datagrams text =
+    L.IsLayersText (λ a. a < 65536) gf16_coding set order arrival datagrams text
 
 -- the text of a datagram's arrival, for whatever order the receiver stood for
 abbrev pub IsTextAt : ReceiverState ℕ → ℕ → List ℕ → List ℕ → Type 0

@@ -17,35 +17,41 @@ record_text arrival group layer bytes =
 
 -- the order of arrival after a datagram
 abbrev pub order_after : KeptSet → Order → List ℕ → Order
-order_after set order bytes = if is_kept (verdict_of set bytes) then order ++ ((fields_of bytes).group, (fields_of bytes).number) ∷ [] else order
+order_after set order bytes =
+    if is_kept (verdict_of set bytes) then order ++ ((fields_of bytes).group, (fields_of bytes).number) ∷ [] else order
 
 -- and after some datagrams
 unfoldable pub order_after_all : KeptSet → Order → List (List ℕ) → Order
 order_after_all set order [] = order
-order_after_all set order (bytes ∷ datagrams) = order_after_all (after set bytes) (order_after set order bytes) datagrams
+order_after_all set order (bytes ∷ datagrams) =
+    order_after_all (after set bytes) (order_after set order bytes) datagrams
 
 -- the layers that a datagram newly shows
 abbrev pub shown_by : KeptSet → List ℕ → List ℕ
 shown_by set bytes = if is_kept (verdict_of set bytes) then newly_shown set (fields_of bytes) else []
 
 module _ {E : Type 0} (is_element : E → Type 0) (c : Coding E) where
-  -- The bytes of a layer by the packets that are kept, in their order. Where these are packets of a message, the bytes are
+  -- The bytes of a layer by the packets that are kept, in their order. Where these are packets of a message, the bytes
+  -- are
   -- the message's.
   pub record IsLayer (p : Packets) (numbers : List ℕ) (layer : ℕ) (bytes : List ℕ) : Type 0 where
     pub shown : IsShownBytes is_element c p numbers layer bytes
-    pub agreed : (message : List ℕ) → IsMessage c.width (layers_of p) message → Agrees c p message → bytes ≡ bytes_of_layer c.width (layers_of p) message layer
+    pub agreed : (message : List ℕ) → IsMessage c.width (layers_of p) message → Agrees c p message
+        → bytes ≡ bytes_of_layer c.width (layers_of p) message layer
 
   -- the records of these layers of a group, at one arrival
   abbrev pub AreRecords : ℕ → ℕ → Packets → List ℕ → List ℕ → List ℕ → Type 0
   AreRecords arrival group p numbers [] text = text ≡ []
   AreRecords arrival group p numbers (layer ∷ layers) text =
-      (bytes : List ℕ) × (rest : List ℕ) × (text ≡ record_text arrival group layer bytes ++ rest) × IsLayer p numbers layer bytes
+      (bytes : List ℕ) × (rest : List ℕ) × (text ≡ record_text arrival group layer bytes ++ rest)
+      × IsLayer p numbers layer bytes
       × AreRecords arrival group p numbers layers rest
 
   -- what is written at the arrival of a datagram
   unfoldable pub IsArrivalText : KeptSet → Order → ℕ → List ℕ → List ℕ → Type 0
   IsArrivalText set order arrival bytes text =
-      AreRecords arrival (fields_of bytes).group (group_with set (fields_of bytes)) (numbers_of (order_after set order bytes) (fields_of bytes).group) (shown_by set bytes) text
+      AreRecords arrival (fields_of bytes).group (group_with set (fields_of bytes))
+      (numbers_of (order_after set order bytes) (fields_of bytes).group) (shown_by set bytes) text
 
   -- what is written for these datagrams, the first of them being of the given arrival
   unfoldable pub IsLayersText : KeptSet → Order → ℕ → List (List ℕ) → List ℕ → Type 0

@@ -33,4 +33,5 @@ module _ {E : Type 0} (is_element : E → Type 0) (c : Coding E) where
 
   -- the text of a datagram's arrival, for whatever order the receiver stood for
   abbrev pub IsTextAt : ReceiverState E → ℕ → List ℕ → List ℕ → Type 0
-  IsTextAt r arrival bytes text = (order : Order) → HasKept is_element c r order → IsArrivalText is_element c (kept_set r) order arrival bytes text
+  IsTextAt r arrival bytes text =
+      (order : Order) → HasKept is_element c r order → IsArrivalText is_element c (kept_set r) order arrival bytes text

@@ -9,7 +9,9 @@ use Rattle.pet_receive.specs.Arrivals.{stripe_lengths}
 
 -- for one datagram, by the packets of its group that were kept before
 abbrev pub steps_of : KeptSet → List ℕ → ℕ
-steps_of set bytes = if is_kept (verdict_of set bytes) then step_bound (count_kept set (fields_of bytes).group) (stripe_lengths (fields_of bytes).layers) else 0
+steps_of set bytes =
+    if is_kept (verdict_of set bytes) then step_bound (count_kept set (fields_of bytes).group)
+    (stripe_lengths (fields_of bytes).layers) else 0
 
 -- for all of them
 unfoldable pub steps_of_all : KeptSet → List (List ℕ) → ℕ

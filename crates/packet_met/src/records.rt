@@ -15,10 +15,10 @@ ghost use Rattle.packet_met.specs.Records.{layers_in, records_text, AreLayersOf,
 ghost use Rattle.outside_files.specs.Outputs.{Puts, PutsPart};
 
 use arrayvec::ArrayVec;
+use field_rows::Rows;
 use packet_verdicts::LayerSet;
 use pet_base::{Failed, MAX_LAYERS, Place};
 use pet_receive::Receiver;
-use field_rows::Rows;
 
 /// A layer that is shown, with its bytes.
 #[derive(Clone, Copy, Default)]

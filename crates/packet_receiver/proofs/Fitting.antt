@@ -1,6 +1,7 @@
 -- Why two receivers cannot be joined, as it is found step by step.
 use Rattle.std.specs.Prelude.{not, if◌then◌else◌, option_map}
-use Rattle.std.proofs.Common.{◌≡◌, ℕ, ◌==◌, ◌||◌, cond, Bool, true, false, List, [], ◌∷◌, length, Option, None, Some, nat_cmp, get_or, refl, sym, ap, ◌∙◌, subst}
+use Rattle.std.proofs.Common.{◌≡◌, ℕ, ◌==◌, ◌||◌, cond, Bool, true, false, List, [], ◌∷◌, length, Option, None, Some}
+use Rattle.std.proofs.Common.{nat_cmp, get_or, refl, sym, ap, ◌∙◌, subst}
 use Rattle.std.specs.Str.{bytes_eq}
 use Rattle.std.specs.List.{find, flat_map, filter_map, cons_option, range_with_len, AllByRecursion}
 use Rattle.std.specs.List.Sorted.{IsStrictlySortedBy}
@@ -20,7 +21,7 @@ use Rattle.packet_verdicts.specs.Verdicts.{clashes, tells_other_count}
 use Rattle.packet_receiver.specs.Arrivals.{GroupState, ReceiverState, kept_set}
 use Rattle.packet_verdicts.specs.Union.{frames_in_group, first_clash, first_full, then_clash, then_full, absorb_fault}
 use Rattle.packet_verdicts.specs.GroupClash.{is_other_payload, clashes_by}
-use Rattle.packet_receiver.specs.Joining.{packets_of, packets_at, clash_or, clash_from}
+use Rattle.packet_receiver.specs.inside.Joining.{packets_of, packets_at, clash_or, clash_from}
 use Rattle.packet_verdicts.specs.laws.EntryLaws.{lookup_values, keys_values, all_found}
 use Rattle.packet_verdicts.specs.laws.JoinedGroups.{Rises}
 use Rattle.packet_receiver.proofs.Received.{count_told}
@@ -31,44 +32,60 @@ clash_of f = Clash f.group f.number
 
 -- ---- the first of a group
 
-module _ (p : Packets) (k : ℕ) (group : p.header.group ≡ k) (s t : Fields → Bool) (alike : (n : ℕ) (x : List ℕ) → s (fields_with p.header n x) ≡ t (fields_with p.header n x)) (later : Option Absorb) where
+module _ (p : Packets) (k : ℕ) (group : p.header.group ≡ k) (s t : Fields → Bool)
+    (alike : (n : ℕ) (x : List ℕ) → s (fields_with p.header n x) ≡ t (fields_with p.header n x))
+    (later : Option Absorb) where
   abbrev frame_at : ℕ → Option Fields
   frame_at n = option_map (fields_with p.header n) (slot_at p n)
 
-  bool_by : (n : ℕ) (x : List ℕ) (b : Bool) (us vs : Option Fields) → clash_or k (option_map (λ f. f.number) vs) later ≡ option_or (option_map clash_of us) later
-      → clash_or k (option_map (λ f. f.number) (cond b (Some (fields_with p.header n x)) vs)) later ≡ option_or (option_map clash_of (cond b (Some (fields_with p.header n x)) us)) later
+  bool_by : (n : ℕ) (x : List ℕ) (b : Bool) (us vs : Option Fields)
+      → clash_or k (option_map (λ f. f.number) vs) later ≡ option_or (option_map clash_of us) later
+      → clash_or k (option_map (λ f. f.number) (cond b (Some (fields_with p.header n x)) vs)) later
+      ≡ option_or (option_map clash_of (cond b (Some (fields_with p.header n x)) us)) later
   bool_by n x true us vs ih = ap (λ g. Some (Clash g n)) (sym group)
   bool_by n x false us vs ih = ih
 
-  slot_by : (n : ℕ) (o : Option (List ℕ)) (xs : List Fields) → clash_or k (option_map (λ f. f.number) (find t xs)) later ≡ option_or (option_map clash_of (find s xs)) later
-      → clash_or k (option_map (λ f. f.number) (find t (cons_option (option_map (fields_with p.header n) o) xs))) later ≡ option_or (option_map clash_of (find s (cons_option (option_map (fields_with p.header n) o) xs))) later
+  slot_by : (n : ℕ) (o : Option (List ℕ)) (xs : List Fields)
+      → clash_or k (option_map (λ f. f.number) (find t xs)) later ≡ option_or (option_map clash_of (find s xs)) later
+      → clash_or k (option_map (λ f. f.number) (find t (cons_option (option_map (fields_with p.header n) o) xs))) later
+      ≡ option_or (option_map clash_of (find s (cons_option (option_map (fields_with p.header n) o) xs))) later
   slot_by n None xs ih = ih
   slot_by n (Some x) xs ih =
-      ap (λ b. clash_or k (option_map (λ (f : Fields). f.number) (cond b (Some (fields_with p.header n x)) (find t xs))) later) (sym (alike n x))
+      ap (λ b. clash_or k (option_map (λ (f : Fields). f.number)
+      (cond b (Some (fields_with p.header n x)) (find t xs))) later) (sym (alike n x))
       ∙ bool_by n x (s (fields_with p.header n x)) (find s xs) (find t xs) ih
 
-  in_group : (ns : List ℕ) → clash_or k (option_map (λ f. f.number) (find t (filter_map frame_at ns))) later ≡ option_or (option_map clash_of (find s (filter_map frame_at ns))) later
+  in_group : (ns : List ℕ)
+      → clash_or k (option_map (λ f. f.number) (find t (filter_map frame_at ns))) later
+      ≡ option_or (option_map clash_of (find s (filter_map frame_at ns))) later
   in_group [] = refl
   in_group (n ∷ ns) = slot_by n (slot_at p n) (filter_map frame_at ns) (in_group ns)
 
-or_map : {A B : Type 0} (f : A → B) (x y : Option A) → option_or (option_map f x) (option_map f y) ≡ option_map f (option_or x y)
+or_map : {A B : Type 0} (f : A → B) (x y : Option A)
+    → option_or (option_map f x) (option_map f y) ≡ option_map f (option_or x y)
 or_map f None y = refl
 or_map f (Some x) y = refl
 
 -- ---- of all groups
 
-module _ {E : Type 0} (r : ReceiverState E) (told : Option ℕ) (kept : IsKeptSet (kept_set r)) (is : told ≡ told_by (kept_set r)) where
-  clash_same : (h : Header) (k n : ℕ) (x : List ℕ) → h.group ≡ k → clashes (kept_set r) (fields_with h n x) ≡ clashes_by told (packets_at (packets_of r.groups) k) h n x
+module _ {E : Type 0} (r : ReceiverState E) (told : Option ℕ) (kept : IsKeptSet (kept_set r))
+    (is : told ≡ told_by (kept_set r)) where
+  clash_same : (h : Header) (k n : ℕ) (x : List ℕ) → h.group ≡ k
+      → clashes (kept_set r) (fields_with h n x) ≡ clashes_by told (packets_at (packets_of r.groups) k) h n x
   clash_same h k n x group =
       let f : Fields = fields_with h n x in
       let other : Option ℕ → Bool = λ o. option_map_or (λ m. not (m == h.groups)) o false in
       let count : tells_other_count (kept_set r) f ≡ other told = count_told (kept_set r) kept f ∙ ap other (sym is) in
-      let table : ℕ → Bool = λ j. option_map_or (λ (p : Packets). not (same_table p.header.table h.table)) (packets_at (packets_of r.groups) j) false in
+      let table : ℕ
+      → Bool = λ j. option_map_or (λ (p : Packets). not (same_table p.header.table h.table))
+      (packets_at (packets_of r.groups) j) false in
       let payload : ℕ → Bool = λ j. is_other_payload (packets_at (packets_of r.groups) j) n x in
       ap (λ b. b || table h.group || payload h.group) count ∙ ap (λ j. other told || table j || payload j) group
 
   clash_all : (ts : List (ℕ × GroupState E)) → AllByRecursion (λ e. e.1.packets.header.group ≡ e.0) ts
-      → clash_from told (packets_of r.groups) (packets_of ts) ≡ option_map clash_of (find (clashes (kept_set r)) (flat_map (λ (e : ℕ × Packets). frames_in_group e.1) (packets_of ts)))
+      → clash_from told (packets_of r.groups) (packets_of ts)
+      ≡ option_map clash_of
+      (find (clashes (kept_set r)) (flat_map (λ (e : ℕ × Packets). frames_in_group e.1) (packets_of ts)))
   clash_all [] h = clash_end (packets_of r.groups) told
   clash_all (e ∷ rest) h =
       let p = e.1.packets in
@@ -76,30 +93,39 @@ module _ {E : Type 0} (r : ReceiverState E) (told : Option ℕ) (kept : IsKeptSe
       let t : Fields → Bool = λ f. clashes_by told (packets_at (packets_of r.groups) e.0) p.header f.number f.payload in
       let more = flat_map (λ (x : ℕ × Packets). frames_in_group x.1) (packets_of rest) in
       clash_next (packets_of r.groups) told (e.0, e.1.packets) (packets_of rest)
-      ∙ in_group p e.0 h.0 s t (λ n x. clash_same p.header e.0 n x h.0) (clash_from told (packets_of r.groups) (packets_of rest)) (range_with_len 0 (length p.slots))
+      ∙ in_group p e.0 h.0 s t (λ n x. clash_same p.header e.0 n x h.0)
+      (clash_from told (packets_of r.groups) (packets_of rest)) (range_with_len 0 (length p.slots))
       ∙ ap (option_or (option_map clash_of (find s (frames_in_group p)))) (clash_all rest h.1)
       ∙ or_map clash_of (find s (frames_in_group p)) (find s more)
       ∙ ap (option_map clash_of) (sym (find-append s (frames_in_group p) more))
 
-  pub clash_is : (o : ReceiverState E) → IsKeptSet (kept_set o) → clash_from told (packets_of r.groups) (packets_of o.groups) ≡ option_map clash_of (first_clash (kept_set r) (kept_set o))
+  pub clash_is : (o : ReceiverState E) → IsKeptSet (kept_set o)
+      → clash_from told (packets_of r.groups) (packets_of o.groups)
+      ≡ option_map clash_of (first_clash (kept_set r) (kept_set o))
   clash_is o other =
-      let rises : Rises o.groups = subst (IsStrictlySortedBy nat_cmp) (keys_values (λ (g : GroupState E). g.packets) o.groups) other.rising in
+      let rises : Rises o.groups = subst (IsStrictlySortedBy nat_cmp)
+      (keys_values (λ (g : GroupState E). g.packets) o.groups) other.rising in
       clash_all o.groups (recursion_from_All (λ (e : ℕ × GroupState E). e.1.packets.header.group ≡ e.0) o.groups
       (λ i d l. (other.groups (get_or o.groups i d).0 (get_or o.groups i d).1.packets
-      (lookup_values (λ (g : GroupState E). g.packets) (is_at (nat_cmp (get_or o.groups i d).0)) o.groups ∙ ap (option_map (λ (g : GroupState E). g.packets)) (all_found o.groups rises i d l))).same_group))
+      (lookup_values (λ (g : GroupState E). g.packets) (is_at (nat_cmp (get_or o.groups i d).0)) o.groups
+      ∙ ap (option_map (λ (g : GroupState E). g.packets)) (all_found o.groups rises i d l))).same_group))
 
 -- ---- the answer
 
 module _ (a b : KeptSet) where
   pub fault_session : bytes_eq a.session b.session ≡ false → absorb_fault a b ≡ Some OtherSession
   unfolding absorb_fault
-  fault_session e = ap (λ s. if not s then Some OtherSession else then_clash (first_clash a b) (then_full (first_full a b))) e
+  fault_session e =
+      ap (λ s. if not s then Some OtherSession else then_clash (first_clash a b) (then_full (first_full a b))) e
 
-  past_session : bytes_eq a.session b.session ≡ true → absorb_fault a b ≡ then_clash (first_clash a b) (then_full (first_full a b))
+  past_session : bytes_eq a.session b.session ≡ true
+      → absorb_fault a b ≡ then_clash (first_clash a b) (then_full (first_full a b))
   unfolding absorb_fault
-  past_session e = ap (λ s. if not s then Some OtherSession else then_clash (first_clash a b) (then_full (first_full a b))) e
+  past_session e =
+      ap (λ s. if not s then Some OtherSession else then_clash (first_clash a b) (then_full (first_full a b))) e
 
-  clash_by : (o : Option Fields) (later : Option Absorb) (x : Absorb) → Some x ≡ option_map clash_of o → then_clash o later ≡ Some x
+  clash_by : (o : Option Fields) (later : Option Absorb) (x : Absorb) → Some x ≡ option_map clash_of o
+      → then_clash o later ≡ Some x
   clash_by None later x e = absurd (cc)
   clash_by (Some f) later x e = sym e
 
@@ -107,11 +133,15 @@ module _ (a b : KeptSet) where
   none_by None later e = refl
   none_by (Some f) later e = absurd (cc)
 
-  pub fault_clash : bytes_eq a.session b.session ≡ true → (x : Absorb) → Some x ≡ option_map clash_of (first_clash a b) → absorb_fault a b ≡ Some x
+  pub fault_clash : bytes_eq a.session b.session ≡ true → (x : Absorb) → Some x ≡ option_map clash_of (first_clash a b)
+      → absorb_fault a b ≡ Some x
   fault_clash e x is = past_session e ∙ clash_by (first_clash a b) (then_full (first_full a b)) x is
 
-  pub fault_full : bytes_eq a.session b.session ≡ true → None ≡ option_map clash_of (first_clash a b) → (group : ℕ) → first_full a b ≡ Some group → absorb_fault a b ≡ Some (Full group)
-  fault_full e none group is = past_session e ∙ none_by (first_clash a b) (then_full (first_full a b)) none ∙ ap then_full is
+  pub fault_full : bytes_eq a.session b.session ≡ true → None ≡ option_map clash_of (first_clash a b) → (group : ℕ)
+      → first_full a b ≡ Some group → absorb_fault a b ≡ Some (Full group)
+  fault_full e none group is =
+      past_session e ∙ none_by (first_clash a b) (then_full (first_full a b)) none ∙ ap then_full is
 
-  pub fault_none : bytes_eq a.session b.session ≡ true → None ≡ option_map clash_of (first_clash a b) → first_full a b ≡ None → absorb_fault a b ≡ None
+  pub fault_none : bytes_eq a.session b.session ≡ true → None ≡ option_map clash_of (first_clash a b)
+      → first_full a b ≡ None → absorb_fault a b ≡ None
   fault_none e none is = past_session e ∙ none_by (first_clash a b) (then_full (first_full a b)) none ∙ ap then_full is

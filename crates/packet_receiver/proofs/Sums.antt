@@ -1,6 +1,8 @@
 -- The sums over the open groups of a kept set, and when a set is complete.
-use Rattle.std.specs.Prelude.{is_some, count_by, sum_by, nat_le, option_map, IsSome, IfSome, MatchOption, IsTrue, nat_eq}
-use Rattle.std.proofs.Common.{◌≡◌, ◌↔◌, ℕ, ◌+◌, ◌*◌, ◌^◌, ◌<◌, ◌≤◌, eqb, cond, Bool, true, false, List, [], ◌∷◌, length, All, Option, None, Some, nat_cmp, get_or, map, refl, sym, ap, ◌∙◌, arith, subst, inl, inr}
+use Rattle.std.specs.Prelude.{is_some, count_by, sum_by, nat_le, option_map, IsSome, IfSome, MatchOption, IsTrue}
+use Rattle.std.specs.Prelude.{nat_eq}
+use Rattle.std.proofs.Common.{◌≡◌, ◌↔◌, ℕ, ◌+◌, ◌*◌, ◌^◌, ◌<◌, ◌≤◌, eqb, cond, Bool, true, false, List, [], ◌∷◌, length}
+use Rattle.std.proofs.Common.{All, Option, None, Some, nat_cmp, get_or, map, refl, sym, ap, ◌∙◌, arith, subst, inl, inr}
 use Rattle.std.specs.List.{range_with_len, list_any, slice_get}
 use Rattle.std.specs.Ordering.{eq_by_cmp}
 use Rattle.std.specs.Cmp.{nat_eq_equiv}
@@ -12,7 +14,8 @@ use Rattle.std.proofs.lemmas.List.Elements.{All-map, All-head, All-tail, All-con
 use Rattle.std.proofs.lemmas.List.FromFn.{length-range_with_len, get_or-range_with_len}
 use Rattle.std.proofs.lemmas.List.Sums.{sum_by-cons, sum_by-le, count_by-le-length}
 use Rattle.std.proofs.lemmas.Map.Entries.{All-lookup}
-use Rattle.std.proofs.lemmas.Map.Views.{length-le_from_below, Contains-keys_from_lookup, list_any-from_Contains, exact_unsigned_eq, tells_apart}
+use Rattle.std.proofs.lemmas.Map.Views.{length-le_from_below, Contains-keys_from_lookup, list_any-from_Contains}
+use Rattle.std.proofs.lemmas.Map.Views.{exact_unsigned_eq, tells_apart}
 use Rattle.std.proofs.lemmas.Map.Lookups.{exact_unsigned}
 use Rattle.std.proofs.lemmas.Option.{same_Some}
 use Rattle.std.proofs.lemmas.Map.Views.{All-keys-insert_entry}
@@ -47,18 +50,31 @@ all_count : {A : Type 0} (test : A → Bool) (xs : List A) → All (λ x. test x
 all_count test [] h = refl
 all_count test (x ∷ xs) h =
     let one : Bool → ℕ = λ b. cond b 1 0 in
-    omega (arith, sum_by-cons (λ t. cond (test t) 1 0) x xs, ap one (All-head (λ t. test t ≡ true) x xs h), all_count test xs (All-tail (λ t. test t ≡ true) x xs h))
+    omega (
+      arith,
+      sum_by-cons (λ t. cond (test t) 1 0) x xs,
+      ap one (All-head (λ t. test t ≡ true) x xs h),
+      all_count test xs (All-tail (λ t. test t ≡ true) x xs h),
+    )
 
-sum_states : {E : Type 0} (f : Packets → ℕ) (es : List (ℕ × GroupState E)) → sum_by (λ g. f g.packets) (values_of es) ≡ sum_by (λ (e : ℕ × Packets). f e.1) (map (λ e. (e.0, e.1.packets)) es)
+sum_states : {E : Type 0} (f : Packets → ℕ) (es : List (ℕ × GroupState E))
+    → sum_by (λ g. f g.packets) (values_of es) ≡ sum_by (λ (e : ℕ × Packets). f e.1) (map (λ e. (e.0, e.1.packets)) es)
 sum_states f [] = refl
 sum_states f (e ∷ es) =
-    omega (arith, sum_by-cons (λ (g : GroupState _). f g.packets) e.1 (values_of es), sum_by-cons (λ (t : ℕ × Packets). f t.1) (e.0, e.1.packets) (map (λ e. (e.0, e.1.packets)) es), sum_states f es)
+    omega (
+      arith,
+      sum_by-cons (λ (g : GroupState _). f g.packets) e.1 (values_of es),
+      sum_by-cons (λ (t : ℕ × Packets). f t.1) (e.0, e.1.packets) (map (λ e. (e.0, e.1.packets)) es),
+      sum_states f es,
+    )
 
-pub sum_is : {E : Type 0} (f : Packets → ℕ) (es : List (ℕ × GroupState E)) → sum_by (λ g. f g.packets) (values_of es) ≡ sum_by (λ (e : ℕ × Packets). f e.1) (map (λ e. (e.0, e.1.packets)) es)
+pub sum_is : {E : Type 0} (f : Packets → ℕ) (es : List (ℕ × GroupState E))
+    → sum_by (λ g. f g.packets) (values_of es) ≡ sum_by (λ (e : ℕ × Packets). f e.1) (map (λ e. (e.0, e.1.packets)) es)
 sum_is f es = sum_states f es
 
 -- a sum over a list that has come as far as an item: with this one, and that it is at most the whole
-pub sum_more : {X : Type 0} (f : X → ℕ) (total one whole : ℕ) (it : List X) (x : X) (rest : List X) → it ≡ x ∷ rest → one ≡ f x
+pub sum_more : {X : Type 0} (f : X → ℕ) (total one whole : ℕ) (it : List X) (x : X) (rest : List X) → it ≡ x ∷ rest
+    → one ≡ f x
     → total + sum_by f it ≡ whole → (total + one + sum_by f rest ≡ whole) × (total + one ≤ whole)
 sum_more f total one whole it x rest is here so =
     let first = sum_by-cons f x rest in
@@ -89,16 +105,24 @@ module _ {word : ℕ} (set : KeptSet) (sound : IsKeptSetBy word set) (n : ℕ) (
       }
 
   pub all_limited : All (λ e. IsLimited n e.0 e.1) set.groups
-  all_limited i d l = limited (get_or set.groups i d).0 (get_or set.groups i d).1 (all_found set.groups sound.rising i d l)
+  all_limited i d l =
+      limited (get_or set.groups i d).0 (get_or set.groups i d).1 (all_found set.groups sound.rising i d l)
 
   keys_below : All (λ k. k < n) (keys_of set.groups)
   keys_below = All-map (λ k. k < n) (λ (e : ℕ × Packets). e.0) set.groups (λ i d l. (all_limited i d l).below)
 
   pub few_open : length set.groups ≤ n
-  few_open = omega (arith, length-le_from_below n (keys_of set.groups) sound.rising keys_below, length-map set.groups (λ (e : ℕ × Packets). e.0))
+  few_open =
+      omega (
+        arith,
+        length-le_from_below n (keys_of set.groups) sound.rising keys_below,
+        length-map set.groups (λ (e : ℕ × Packets). e.0),
+      )
 
-  pub sum_few : (f : Packets → ℕ) (most : ℕ) → ((e : ℕ × Packets) → IsLimited n e.0 e.1 → f e.1 ≤ most) → sum_by (λ e. f e.1) set.groups ≤ length set.groups * most
-  sum_few f most each = sum_by-le (λ (e : ℕ × Packets). f e.1) most set.groups (λ i d l. each (get_or set.groups i d) (all_limited i d l))
+  pub sum_few : (f : Packets → ℕ) (most : ℕ) → ((e : ℕ × Packets) → IsLimited n e.0 e.1 → f e.1 ≤ most)
+      → sum_by (λ e. f e.1) set.groups ≤ length set.groups * most
+  sum_few f most each =
+      sum_by-le (λ (e : ℕ × Packets). f e.1) most set.groups (λ i d l. each (get_or set.groups i d) (all_limited i d l))
 
   -- ---- completeness
 
@@ -107,12 +131,17 @@ module _ {word : ℕ} (set : KeptSet) (sound : IsKeptSetBy word set) (n : ℕ) (
       let test : ℕ → Bool = λ layer. nat_le (count_of (layers_of p) layer) (count_in p) in
       let size = length (layers_of p) in (
         λ whole layer l.
-            let all = count_all test (range_with_len 0 size) (exact_unsigned_eq (shown_in p) size whole ∙ sym (length-range_with_len 0 size)) in
-            let here : test (get_or (range_with_len 0 size) layer 0) ≡ true = all layer 0 (omega (arith, l, length-range_with_len 0 size)) in
-            (l, le_from_test (count_of (layers_of p) layer) (count_in p) (ap test (sym (at_place size layer 0 l)) ∙ here)),
+            let all = count_all test (range_with_len 0 size)
+            (exact_unsigned_eq (shown_in p) size whole ∙ sym (length-range_with_len 0 size)) in
+            let here : test (get_or (range_with_len 0 size) layer 0) ≡ true =
+            all layer 0 (omega (arith, l, length-range_with_len 0 size)) in (
+              l,
+              le_from_test (count_of (layers_of p) layer) (count_in p) (ap test (sym (at_place size layer 0 l)) ∙ here),
+            ),
         λ each. eq-eqb (shown_in p) size (all_count test (range_with_len 0 size) (λ k d l.
             let i : k < size = omega (arith, l, length-range_with_len 0 size) in
-            ap test (at_place size k d i) ∙ test_from_le (count_of (layers_of p) k) (count_in p) (each k i).1) ∙ length-range_with_len 0 size),
+            ap test (at_place size k d i) ∙ test_from_le (count_of (layers_of p) k) (count_in p) (each k i).1)
+            ∙ length-range_with_len 0 size),
       )
     where
       at_place : (n i d : ℕ) → i < n → get_or (range_with_len 0 n) i d ≡ i
@@ -135,13 +164,22 @@ module _ {word : ℕ} (set : KeptSet) (sound : IsKeptSetBy word set) (n : ℕ) (
       by : (o : Option Packets) → open_group set group ≡ o → is_some o ≡ true
       by (Some p) is = refl
       by None is =
-          let v : Packets = (get_or set.groups 0 (0, record { header = record { session = []; groups = 0; group = 0; table = record { packets = 0; layers = [] } }; word = 0; slots = [] })).1 in
+          let v : Packets = (get_or set.groups 0 (
+            0,
+            record {
+              header = record { session = []; groups = 0; group = 0; table = record { packets = 0; layers = [] } };
+              word = 0;
+              slots = [];
+            },
+          )).1 in
           let more = insert_entry nat_cmp set.groups group v in
           let long = sum_insert (λ (p : Packets). 1) set.groups group v sound.rising in
           let one : Option Packets → ℕ = λ o. unwrap_or (option_map (λ (p : Packets). 1) o) 0 in
           let none = ap one is in
-          let most = length-le_from_below n (keys_of more) (rises_insert set.groups group v sound.rising) (All-keys-insert_entry nat_cmp group v (λ k. k < n) set.groups keys_below l) in
-          absurd (omega (arith, long, none, most, length-map more (λ (e : ℕ × Packets). e.0), ones more, ones set.groups, full, l))
+          let most = length-le_from_below n (keys_of more) (rises_insert set.groups group v sound.rising)
+          (All-keys-insert_entry nat_cmp group v (λ k. k < n) set.groups keys_below l) in
+          absurd (omega
+          (arith, long, none, most, length-map more (λ (e : ℕ × Packets). e.0), ones more, ones set.groups, full, l))
 
   some_open : 0 < length set.groups
   some_open =
@@ -149,20 +187,26 @@ module _ {word : ℕ} (set : KeptSet) (sound : IsKeptSetBy word set) (n : ℕ) (
         | inl l ↦ l
         | inr none ↦
             let empty : set.groups ≡ [] = nil_from_length set.groups (omega arith) in
-            let no : None ≡ Some n = sym (ap (λ (es : List (ℕ × Packets)). option_map (λ (e : ℕ × Packets). e.1.header.groups) (slice_get es 0)) empty) ∙ told in
+            let no : None
+            ≡ Some n =
+            sym (ap (λ (es : List (ℕ × Packets)). option_map (λ (e : ℕ × Packets). e.1.header.groups) (slice_get es 0))
+            empty) ∙ told in
             absurd (cc)
       ]
 
   told_is : groups_told set ≡ n
   told_is = ap (λ o. unwrap_or o 0) told
 
-  whole_at : All (λ e. is_whole e.1 ≡ true) set.groups → (group : ℕ) (o : Option Packets) → open_group set group ≡ o → is_some o ≡ true
+  whole_at : All (λ e. is_whole e.1 ≡ true) set.groups → (group : ℕ) (o : Option Packets) → open_group set group ≡ o
+      → is_some o ≡ true
       → MatchOption o ⊥ (λ p. (layer : ℕ) → layer < length (layers_of p) → IsShownIn p layer)
   whole_at all group None is some = absurd (cc)
   whole_at all group (Some p) is some =
-      (whole_is p).0 (subst (λ o. IfSome o (λ (q : Packets). is_whole q ≡ true)) is (All-lookup (λ (q : Packets). is_whole q ≡ true) (is_at (nat_cmp group)) set.groups all))
+      (whole_is p).0 (subst (λ o. IfSome o (λ (q : Packets). is_whole q ≡ true)) is
+      (All-lookup (λ (q : Packets). is_whole q ≡ true) (is_at (nat_cmp group)) set.groups all))
 
-  is_there : (o : Option Packets) → MatchOption o ⊥ (λ p. (layer : ℕ) → layer < length (layers_of p) → IsShownIn p layer) → is_some o ≡ true
+  is_there : (o : Option Packets)
+      → MatchOption o ⊥ (λ p. (layer : ℕ) → layer < length (layers_of p) → IsShownIn p layer) → is_some o ≡ true
   is_there None h = absurd h
   is_there (Some p) h = refl
 
@@ -175,25 +219,36 @@ module _ {word : ℕ} (set : KeptSet) (sound : IsKeptSetBy word set) (n : ℕ) (
             let all = count_all test set.groups (omega (arith, full)) in
             record {
               some = some_open;
-              shown = λ group l. whole_at all group (open_group set group) refl (all_open full group (omega (arith, told_is)));
+              shown = λ group l. whole_at all group (open_group set group) refl
+                  (all_open full group (omega (arith, told_is)));
             },
         λ c.
             let each : All (λ e. is_whole e.1 ≡ true) set.groups =
             λ i d l.
             let e = get_or set.groups i d in
             let low : e.0 < groups_told set = omega (arith, (all_limited i d l).below, told_is) in
-            (whole_is e.1).1 (subst (λ o. MatchOption o ⊥ (λ (p : Packets). (layer : ℕ) → layer < length (layers_of p) → IsShownIn p layer)) (all_found set.groups sound.rising i d l) (c.shown e.0 low)) in
+            (whole_is e.1).1 (subst (λ o. MatchOption o ⊥
+            (λ (p : Packets). (layer : ℕ) → layer < length (layers_of p) → IsShownIn p layer))
+            (all_found set.groups sound.rising i d l) (c.shown e.0 low)) in
             let there : (q : ℕ) → q < n → list_any (eqb q) (keys_of set.groups) ≡ true =
             λ q l. list_any-from_Contains nat_eq_equiv q (keys_of set.groups)
-            (Contains-keys_from_lookup {eq = eq_by_cmp nat_cmp} (tells_apart exact_unsigned) q set.groups (is_there (open_group set q) (c.shown q (omega (arith, told_is))))) in
-            omega (arith, all_count test set.groups each, le-length_from_below (keys_of set.groups) n there, length-map set.groups (λ (e : ℕ × Packets). e.0), few_open),
+            (Contains-keys_from_lookup {eq = eq_by_cmp nat_cmp} (tells_apart exact_unsigned) q set.groups
+            (is_there (open_group set q) (c.shown q (omega (arith, told_is))))) in
+            omega (
+              arith,
+              all_count test set.groups each,
+              le-length_from_below (keys_of set.groups) n there,
+              length-map set.groups (λ (e : ℕ × Packets). e.0),
+              few_open,
+            ),
       )
 
 whole_sum : (es : List (ℕ × Packets)) → sum_by (λ e. whole_in e.1) es ≡ sum_by (λ e. cond (is_whole e.1) 1 0) es
 unfolding whole_in
 whole_sum es = refl
 
-pub complete_is : {word : ℕ} (set : KeptSet) → IsKeptSetBy word set → (n total : ℕ) → told_by set ≡ Some n → total ≡ sum_by (λ e. whole_in e.1) set.groups → IsTrue (nat_eq total n) ↔ IsComplete set
+pub complete_is : {word : ℕ} (set : KeptSet) → IsKeptSetBy word set → (n total : ℕ) → told_by set ≡ Some n
+    → total ≡ sum_by (λ e. whole_in e.1) set.groups → IsTrue (nat_eq total n) ↔ IsComplete set
 complete_is set sound n total told is =
     let c = complete_count set sound n told in (
       λ yes. c.0 (sym (is ∙ whole_sum set.groups) ∙ exact_unsigned_eq total n yes),
@@ -203,32 +258,53 @@ complete_is set sound n total told is =
 pub not_complete : (set : KeptSet) → told_by set ≡ None → IsTrue false ↔ IsComplete set
 not_complete set told = (λ no. absurd (cc), λ c. absurd (omega (arith, c.some, ap length (none_open set.groups told))))
 
-fit_by : {word : ℕ} (set : KeptSet) → IsKeptSetBy word set → (f : Packets → ℕ) → ((n : ℕ) (e : ℕ × Packets) → IsLimited n e.0 e.1 → f e.1 ≤ MAX_PACKETS) → (o : Option ℕ) → told_by set ≡ o → sum_by (λ (e : ℕ × Packets). f e.1) set.groups < 2 ^ 32
-fit_by set sound f most None told = let e = ap (sum_by (λ (e : ℕ × Packets). f e.1)) (none_open set.groups told) in omega (arith, e)
+fit_by : {word : ℕ} (set : KeptSet) → IsKeptSetBy word set → (f : Packets → ℕ)
+    → ((n : ℕ) (e : ℕ × Packets) → IsLimited n e.0 e.1 → f e.1 ≤ MAX_PACKETS) → (o : Option ℕ) → told_by set ≡ o
+    → sum_by (λ (e : ℕ × Packets). f e.1) set.groups < 2 ^ 32
+fit_by set sound f most None told =
+    let e = ap (sum_by (λ (e : ℕ × Packets). f e.1)) (none_open set.groups told) in omega (arith, e)
 fit_by set sound f most (Some n) told =
     let few = few_open set sound n told in
     let some = some_open set sound n told in
-    let first = (all_limited set sound n told 0 (0, record { header = record { session = []; groups = 0; group = 0; table = record { packets = 0; layers = [] } }; word = 0; slots = [] }) some).few in
+    let first = (all_limited set sound n told 0 (
+      0,
+      record {
+        header = record { session = []; groups = 0; group = 0; table = record { packets = 0; layers = [] } };
+        word = 0;
+        slots = [];
+      },
+    ) some).few in
     let sum = sum_few set sound n told f MAX_PACKETS (most n) in
     omega (arith, few, first, sum)
 
 -- no sum of these over the open groups is above 65,535 times 4,096
-pub sums_fit : {word : ℕ} (set : KeptSet) → IsKeptSetBy word set → (f : Packets → ℕ) → ((n : ℕ) (e : ℕ × Packets) → IsLimited n e.0 e.1 → f e.1 ≤ MAX_PACKETS) → sum_by (λ (e : ℕ × Packets). f e.1) set.groups < 2 ^ 32
+pub sums_fit : {word : ℕ} (set : KeptSet) → IsKeptSetBy word set → (f : Packets → ℕ)
+    → ((n : ℕ) (e : ℕ × Packets) → IsLimited n e.0 e.1 → f e.1 ≤ MAX_PACKETS)
+    → sum_by (λ (e : ℕ × Packets). f e.1) set.groups < 2 ^ 32
 sums_fit set sound f most = fit_by set sound f most (told_by set) refl
 
-pub kept_fits : {word : ℕ} (set : KeptSet) → IsKeptSetBy word set → sum_by (λ (e : ℕ × Packets). count_in e.1) set.groups < 2 ^ 32
+pub kept_fits : {word : ℕ} (set : KeptSet) → IsKeptSetBy word set
+    → sum_by (λ (e : ℕ × Packets). count_in e.1) set.groups < 2 ^ 32
 kept_fits set sound = sums_fit set sound count_in (λ n e l. omega (arith, l.packets))
 
 shown_few : (n group : ℕ) (p : Packets) → IsLimited n group p → shown_in p ≤ MAX_PACKETS
 shown_few n group p l =
-    omega (arith, count_by-le-length (λ layer. nat_le (count_of (layers_of p) layer) (count_in p)) (range_with_len 0 (length (layers_of p))), length-range_with_len 0 (length (layers_of p)), l.layers)
+    omega (
+      arith,
+      count_by-le-length (λ layer. nat_le (count_of (layers_of p) layer) (count_in p))
+          (range_with_len 0 (length (layers_of p))),
+      length-range_with_len 0 (length (layers_of p)),
+      l.layers,
+    )
 
-pub shown_fits : {word : ℕ} (set : KeptSet) → IsKeptSetBy word set → sum_by (λ (e : ℕ × Packets). shown_in e.1) set.groups < 2 ^ 32
+pub shown_fits : {word : ℕ} (set : KeptSet) → IsKeptSetBy word set
+    → sum_by (λ (e : ℕ × Packets). shown_in e.1) set.groups < 2 ^ 32
 shown_fits set sound = sums_fit set sound shown_in (λ n e l. shown_few n e.0 e.1 l)
 
 whole_few : (p : Packets) → whole_in p ≤ MAX_PACKETS
 unfolding whole_in
 whole_few p = omega (arith, one-le (is_whole p))
 
-pub whole_fits : {word : ℕ} (set : KeptSet) → IsKeptSetBy word set → sum_by (λ (e : ℕ × Packets). whole_in e.1) set.groups < 2 ^ 32
+pub whole_fits : {word : ℕ} (set : KeptSet) → IsKeptSetBy word set
+    → sum_by (λ (e : ℕ × Packets). whole_in e.1) set.groups < 2 ^ 32
 whole_fits set sound = sums_fit set sound whole_in (λ n e l. whole_few e.1)

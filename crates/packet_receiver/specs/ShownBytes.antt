@@ -21,4 +21,5 @@ groups_told set = unwrap_or (told_by set) 0
 -- something is kept, and every layer of every group of the session is shown
 pub record IsComplete (set : KeptSet) : Type 0 where
   pub some : 0 < length set.groups
-  pub shown : (group : ℕ) → group < groups_told set → MatchOption (open_group set group) ⊥ (λ p. (layer : ℕ) → layer < length (layers_of p) → IsShownIn p layer)
+  pub shown : (group : ℕ) → group < groups_told set
+      → MatchOption (open_group set group) ⊥ (λ p. (layer : ℕ) → layer < length (layers_of p) → IsShownIn p layer)

@@ -14,4 +14,5 @@ steps_after before lengths many = sum_by (λ r. step_bound r lengths) (range_wit
 -- and all that the union adds
 abbrev pub union_steps : KeptSet → KeptSet → ℕ
 union_steps mine theirs =
-    sum_by (λ e. steps_after (count_kept mine e.0) (stripe_lengths (layers_of e.1)) (length (new_numbers (open_group mine e.0) e.1))) theirs.groups
+    sum_by (λ e. steps_after (count_kept mine e.0) (stripe_lengths (layers_of e.1))
+    (length (new_numbers (open_group mine e.0) e.1))) theirs.groups

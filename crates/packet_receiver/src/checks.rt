@@ -2,12 +2,12 @@
 ghost use Rattle.std.specs.Prelude.{◌≡◌, ◌+◌, ◌≤◌, is_none, None, Some, option_copied, IfOk, OnOk, IfErr, All, sum_by};
 ghost use Rattle.packet_verdicts.specs.KeptSet.{cost_in};
 ghost use Rattle.packet_verdicts.specs.Union.{first_past};
-ghost use Rattle.packet_receiver.specs.Joining.{packets_by, packets_at, clash_from, new_of, cost_beside};
+ghost use Rattle.packet_receiver.specs.inside.Joining.{packets_by, packets_at, clash_from, new_of, cost_beside};
 
 use crate::has_packets::HasPackets;
-use packet_verdicts::{Absorb, clash_in};
-use packet_set::PacketSet;
 use packet_session::group_cost;
+use packet_set::PacketSet;
+use packet_verdicts::{Absorb, clash_in};
 use std::collections::BTreeMap;
 
 /// The first packet of the other's, by group, then number, that clashes with what is kept here, where `told` is the
@@ -73,7 +73,7 @@ pub(crate) fn packets_in<'a, G: HasPackets>(
 
 /// What the open groups cost with one more, which costs nothing where it is open; and nothing where that is more than
 /// the limit.
-#[tactic(auto, unfolding(crate::specs::Joining::cost_beside))]
+#[tactic(auto, unfolding(crate::specs::inside::Joining::cost_beside))]
 fn with_group(mine: Option<&PacketSet>, theirs: &PacketSet, limit: u64, cost: u64) -> Option<u64>
     requires two { theirs.now.word ≡ 2 }
     requires room { cost ≤ limit }

@@ -4,15 +4,15 @@ ghost use Rattle.packet_set.specs.Packets.{count_in};
 ghost use Rattle.pet_interp.specs.Progressive.{step_bound};
 ghost use Rattle.packet_receiver.specs.Arrivals.{GroupState, HoldsAfter, layers_of, stripe_lengths};
 ghost use Rattle.packet_verdicts.specs.Union.{is_new};
-ghost use Rattle.packet_receiver.specs.Joining.{OpensAll, IsReadyAt, IsFillable, HasFilled, CanJoin, JoinsOne, JoinsAll, with_theirs, packets_of, shown_by};
+ghost use Rattle.packet_receiver.specs.inside.Joining.{OpensAll, IsReadyAt, IsFillable, HasFilled, CanJoin, JoinsOne, JoinsAll, with_theirs, packets_of, shown_by};
 
 use crate::has_packets::HasPackets;
 use crate::opening::open_missing;
 use crate::shown::newly_shown;
+use field_rows::Rows;
 use packet_group::OpenGroup;
 use packet_set::PacketSet;
 use pet_base::{NoMemory, Steps};
-use field_rows::Rows;
 use std::alloc::Global;
 use std::collections::BTreeMap;
 use std::sync::ledger::Ledger;

@@ -1,12 +1,12 @@
 //! The verdict of a frame by what is kept of its group, or where its group is not open.
 ghost use Rattle.std.specs.Prelude.{◌≡◌, ◌≤◌, option_copied};
 ghost use Rattle.packet_frame.specs.View.{view};
-ghost use Rattle.packet_receiver.specs.Receiving.{verdict_by, verdict_new};
+ghost use Rattle.packet_receiver.specs.inside.Receiving.{verdict_by, verdict_new};
 
-use packet_verdicts::{Verdict, judge_in, shown_next};
 use packet_frame::Frame;
-use packet_set::PacketSet;
 use packet_session::group_cost_by;
+use packet_set::PacketSet;
+use packet_verdicts::{Verdict, judge_in, shown_next};
 
 /// The verdict by what is kept of the frame's group. The open groups cost `cost`, at most `limit`.
 pub(crate) fn judge_group(

@@ -9,13 +9,13 @@ ghost use Rattle.packet_set.specs.Packets.{with_packet, count_in};
 ghost use Rattle.pet_interp.specs.Progressive.{step_bound};
 ghost use Rattle.stripe_plan.specs.Sizes.{cost_by};
 ghost use Rattle.packet_receiver.specs.Arrivals.{GroupState, HoldsAfter, stripe_lengths};
-ghost use Rattle.packet_receiver.specs.Receiving.{IsReadyFor, HasGrown};
+ghost use Rattle.packet_receiver.specs.inside.Receiving.{IsReadyFor, HasGrown};
 
 use crate::opening::open_missing;
-use packet_group::OpenGroup;
-use packet_frame::Frame;
-use pet_base::{NoMemory, Steps};
 use field_rows::Rows;
+use packet_frame::Frame;
+use packet_group::OpenGroup;
+use pet_base::{NoMemory, Steps};
 use std::alloc::Global;
 use std::collections::BTreeMap;
 use std::sync::ledger::Ledger;

@@ -6,13 +6,13 @@ ghost use Rattle.std.specs.Map.{lookup};
 ghost use Rattle.packet_set.specs.Packets.{no_packets_of};
 ghost use Rattle.stripe_plan.specs.Sizes.{cost_by};
 ghost use Rattle.packet_receiver.specs.Arrivals.{GroupState, HoldsAfter};
-ghost use Rattle.packet_receiver.specs.Joining.{OpensOne};
+ghost use Rattle.packet_receiver.specs.inside.Joining.{OpensOne};
 
-use packet_group::OpenGroup;
-use packet_frame::Header;
-use pet_base::NoMemory;
-use packet_session::group_cost_by;
 use field_rows::Rows;
+use packet_frame::Header;
+use packet_group::OpenGroup;
+use packet_session::group_cost_by;
+use pet_base::NoMemory;
 use std::alloc::Global;
 use std::collections::BTreeMap;
 

@@ -1,6 +1,6 @@
 //! The layers that are shown by what another receiver has kept.
 ghost use Rattle.std.specs.Prelude.{◌≡◌, IfOk};
-ghost use Rattle.packet_receiver.specs.Joining.{packets_by, shown_by};
+ghost use Rattle.packet_receiver.specs.inside.Joining.{packets_by, shown_by};
 
 use crate::checks::packets_in;
 use crate::has_packets::HasPackets;

@@ -1,11 +1,11 @@
 //! Sums over the open groups of a receiver.
 ghost use Rattle.std.specs.Prelude.{◌≡◌, ◌^◌, ◌<◌, sum_by};
 ghost use Rattle.std.specs.Map.{values_of};
-ghost use Rattle.packet_receiver.specs.Counted.{counted};
+ghost use Rattle.packet_receiver.specs.inside.Counted.{counted};
 
 use crate::has_packets::HasPackets;
-use packet_verdicts::{one_if_whole, shown_layers};
 use packet_set::PacketSet;
+use packet_verdicts::{one_if_whole, shown_layers};
 use std::collections::BTreeMap;
 
 /// What is counted of each group.

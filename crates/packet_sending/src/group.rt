@@ -11,8 +11,8 @@ ghost use Rattle.packet_session.specs.Datagrams.{group_datagrams, range_datagram
 ghost use Rattle.pet_base.specs.Entries.{entry_text};
 
 use outside_routes::{Route, RouteStop, put_entry};
-use pet_encode::Encoder;
 use pet_base::{Link, MAX_DATAGRAM, NoMemory, Place, Steps};
+use pet_encode::Encoder;
 use pet_field::Gf16Tables;
 use std::alloc::Global;
 use std::sync::ledger::Ledger;

@@ -52,7 +52,9 @@ pub record AreEncoders (s : Session) (encoders : List Encoding) : Type 0 where
 
 -- The law of these words: the datagrams of the groups, in order, are those of the session.
 abbrev pub GroupsMakeDatagrams : Type 0
-GroupsMakeDatagrams = (s : Session) (encoders : List Encoding) → AreEncoders s encoders → flat_map group_datagrams encoders ≡ session_datagrams s
+GroupsMakeDatagrams =
+    (s : Session) (encoders : List Encoding) → AreEncoders s encoders
+    → flat_map group_datagrams encoders ≡ session_datagrams s
 
 -- the frame is one of the session's packets
 abbrev pub IsItsPacket : Session → Fields → Type 0

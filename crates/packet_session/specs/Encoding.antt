@@ -21,7 +21,8 @@ frame_of c e number =
 
 -- the values that it carries: those of the group's stripes, in order
 abbrev pub values_at : {E : Type 0} → Coding E → Encoding → ℕ → List E
-values_at c e number = map (λ stripe. value c.ops stripe (c.point_of number)) (stripes_in c e.header.table.layers e.message)
+values_at c e number =
+    map (λ stripe. value c.ops stripe (c.point_of number)) (stripes_in c e.header.table.layers e.message)
 
 -- the packets `first` to `first + count - 1`, on end
 abbrev pub frames_text : {E : Type 0} → Coding E → Encoding → ℕ → ℕ → List ℕ
@@ -31,4 +32,5 @@ frames_text c e first count = flat_map (λ number. text (frame_of c e number)) (
 pub record IsGroupOf (s : Session) (e : Encoding) : Type 0 where
   pub number : e.header.session ≡ s.number
   pub groups : e.header.groups ≡ length s.groups
-  pub source : slice_get s.groups e.header.group ≡ Some (record { packets = e.header.table.packets; layers = e.header.table.layers; message = e.message })
+  pub source : slice_get s.groups e.header.group
+      ≡ Some (record { packets = e.header.table.packets; layers = e.header.table.layers; message = e.message })

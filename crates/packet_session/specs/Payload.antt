@@ -1,4 +1,5 @@
--- The payload of a packet (this project's own format, on the values of polynomials over a field): for each stripe of the
+-- The payload of a packet (this project's own format, on the values of polynomials over a field): for each stripe of
+-- the
 -- plan in order, the value at the packet's point of the polynomial that has the stripe's words as its coefficients, the
 -- stripe's first word the one of the power 0.
 use Rattle.std.specs.Prelude.{ℕ, List, length, take, drop, map}

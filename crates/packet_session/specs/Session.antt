@@ -1,5 +1,6 @@
 -- A session, and the packets that a sender makes of it. This project's own.
-use Rattle.std.specs.Prelude.{◌≡◌, ℕ, ◌+◌, ◌*◌, ◌<◌, ◌≤◌, min, List, [], ◌∷◌, ◌++◌, length, take, drop, map, All, sum_by, option_map, unwrap_or, slice_get, Some}
+use Rattle.std.specs.Prelude.{◌≡◌, ℕ, ◌+◌, ◌*◌, ◌<◌, ◌≤◌, min, List, [], ◌∷◌, ◌++◌, length, take, drop, map, All}
+use Rattle.std.specs.Prelude.{sum_by, option_map, unwrap_or, slice_get, Some}
 use Rattle.std.specs.List.{range_with_len}
 use Rattle.pet_base.specs.declared.limits.TheConstants.{MAX_GROUPS}
 use Rattle.field_elements.specs.Field.{Coding}
@@ -50,7 +51,8 @@ length_of_layer width layers layer = unwrap_or (option_map (bytes_in_layer width
 
 -- the bytes of a layer: those of its words, cut to its length
 abbrev pub bytes_of_layer : ℕ → List LayerSize → List ℕ → ℕ → List ℕ
-bytes_of_layer width layers message layer = take (length_of_layer width layers layer) (drop (words_before layers layer * width) message)
+bytes_of_layer width layers message layer =
+    take (length_of_layer width layers layer) (drop (words_before layers layer * width) message)
 
 module _ {E : Type 0} (c : Coding E) where
   -- packet `number` of the group `group` of a session

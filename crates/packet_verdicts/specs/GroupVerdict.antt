@@ -20,4 +20,6 @@ verdict_at f before (Some payload) = if bytes_eq payload f.payload then Repeated
 
 -- by what is kept of its group, which is open
 abbrev pub verdict_in : Fields → Packets → Verdict
-verdict_in f p = if not (same_table p.header.table (header_of f).table) then Clash else verdict_at f (count_in p) (slot_at p f.number)
+verdict_in f p =
+    if not (same_table p.header.table (header_of f).table) then Clash else verdict_at f (count_in p)
+    (slot_at p f.number)

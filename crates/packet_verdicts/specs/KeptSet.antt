@@ -1,6 +1,7 @@
 -- What a receiver of one session has kept: a finite map from the pairs of a group and a packet number to frames of one
 -- session number. This project's own.
-use Rattle.std.specs.Prelude.{◌≡◌, ℕ, ◌<◌, ◌≤◌, List, [], length, Option, Some, IsSome, option_map, option_and_then, unwrap_or, sum_by, slice_get}
+use Rattle.std.specs.Prelude.{◌≡◌, ℕ, ◌<◌, ◌≤◌, List, [], length, Option, Some, IsSome, option_map, option_and_then}
+use Rattle.std.specs.Prelude.{unwrap_or, sum_by, slice_get}
 use Rattle.std.specs.Ordering.{nat_cmp}
 use Rattle.std.specs.BTreeMap.{is_at, insert_entry}
 use Rattle.std.specs.Map.{lookup, keys_of}
@@ -66,7 +67,8 @@ header_of f = record {
 
 -- the packets of the frame's group, the frame among them, where a payload has `word` bytes for each stripe
 abbrev pub group_with_by : ℕ → KeptSet → Fields → Packets
-group_with_by word set f = with_packet (unwrap_or (open_group set f.group) (no_packets_of word (header_of f))) f.number f.payload
+group_with_by word set f =
+    with_packet (unwrap_or (open_group set f.group) (no_packets_of word (header_of f))) f.number f.payload
 
 abbrev pub group_with : KeptSet → Fields → Packets
 group_with set f = group_with_by 2 set f
@@ -85,13 +87,15 @@ pub record IsKeptGroupBy (word : ℕ) (session : List ℕ) (group : ℕ) (p : Pa
   pub same_group : p.header.group ≡ group
   pub slots : length p.slots ≡ p.header.table.packets
   pub some : 0 < count_in p
-  pub frames : (number : ℕ) (payload : List ℕ) → slot_at p number ≡ Some payload → IsFrameBy word (fields_with p.header number payload)
+  pub frames : (number : ℕ) (payload : List ℕ) → slot_at p number ≡ Some payload
+      → IsFrameBy word (fields_with p.header number payload)
 
 -- what every kept set is: frames of one session number, with one number of groups, one table a group, within the limit
 pub record IsKeptSetBy (word : ℕ) (set : KeptSet) : Type 0 where
   pub rising : IsStrictlySortedBy nat_cmp (keys_of set.groups)
   pub groups : (group : ℕ) (p : Packets) → open_group set group ≡ Some p → IsKeptGroupBy word set.session group p
-  pub one_count : (a b : ℕ) (p q : Packets) → open_group set a ≡ Some p → open_group set b ≡ Some q → p.header.groups ≡ q.header.groups
+  pub one_count : (a b : ℕ) (p q : Packets) → open_group set a ≡ Some p → open_group set b ≡ Some q
+      → p.header.groups ≡ q.header.groups
   pub within : cost_kept set ≤ set.limit
 
 -- the same of frames of two bytes a stripe

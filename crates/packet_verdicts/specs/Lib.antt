@@ -1,9 +1,9 @@
 pub mod KeptSet
 pub mod Verdicts
-pub mod ByCounts
 pub mod Group
 pub mod Union
 pub mod GroupVerdict
 pub mod GroupClash
 pub mod GroupLayers
+pub mod inside
 pub mod laws

@@ -1,5 +1,6 @@
 -- The union of two kept sets, and what a receiver answers that takes in all that another has kept. This project's own.
-use Rattle.std.specs.Prelude.{ℕ, ◌+◌, not, ◌&&◌, nat_lt, if◌then◌else◌, Bool, List, [], ◌∷◌, length, map, filter, Option, None, Some, is_some, is_none, option_map}
+use Rattle.std.specs.Prelude.{ℕ, ◌+◌, not, ◌&&◌, nat_lt, if◌then◌else◌, Bool, List, [], ◌∷◌, length, map, filter}
+use Rattle.std.specs.Prelude.{Option, None, Some, is_some, is_none, option_map}
 use Rattle.std.specs.Option.{option_or}
 use Rattle.std.specs.Ordering.{nat_cmp}
 use Rattle.std.specs.BTreeMap.{is_at, insert_entry}
@@ -16,7 +17,9 @@ use Rattle.packet_verdicts.specs.declared.union.Absorb.TheVariants.{OtherSession
 
 -- the frames that are kept of a group, by number
 abbrev pub frames_in_group : Packets → List Fields
-frames_in_group p = filter_map (λ number. option_map (fields_with p.header number) (slot_at p number)) (range_with_len 0 (length p.slots))
+frames_in_group p =
+    filter_map (λ number. option_map (fields_with p.header number) (slot_at p number))
+    (range_with_len 0 (length p.slots))
 
 -- the frames that are kept, by group, then number
 abbrev pub frames_in : KeptSet → List Fields
@@ -31,12 +34,14 @@ join_slots (mine ∷ more) (theirs ∷ rest) = option_or mine theirs ∷ join_sl
 -- the packets that are kept of a group here, where it is open, or there
 abbrev pub join_group : Option Packets → Packets → Packets
 join_group None theirs = theirs
-join_group (Some mine) theirs = record { header = mine.header; word = mine.word; slots = join_slots mine.slots theirs.slots }
+join_group (Some mine) theirs =
+    record { header = mine.header; word = mine.word; slots = join_slots mine.slots theirs.slots }
 
 -- group by group
 unfoldable pub join_groups : List (ℕ × Packets) → List (ℕ × Packets) → List (ℕ × Packets)
 join_groups mine [] = mine
-join_groups mine (theirs ∷ rest) = join_groups (insert_entry nat_cmp mine theirs.0 (join_group (lookup (is_at (nat_cmp theirs.0)) mine) theirs.1)) rest
+join_groups mine (theirs ∷ rest) =
+    join_groups (insert_entry nat_cmp mine theirs.0 (join_group (lookup (is_at (nat_cmp theirs.0)) mine) theirs.1)) rest
 
 -- the union: the frames that the one or the other has kept
 abbrev pub union : KeptSet → KeptSet → KeptSet
@@ -53,7 +58,8 @@ new_groups mine theirs = filter (λ e. is_none (open_group mine e.0)) theirs.gro
 -- the first of these groups with which the cost passes the limit
 unfoldable pub first_past : ℕ → ℕ → List (ℕ × Packets) → Option ℕ
 first_past limit cost [] = None
-first_past limit cost (e ∷ rest) = if nat_lt limit (cost + cost_in e.1) then Some e.0 else first_past limit (cost + cost_in e.1) rest
+first_past limit cost (e ∷ rest) =
+    if nat_lt limit (cost + cost_in e.1) then Some e.0 else first_past limit (cost + cost_in e.1) rest
 
 abbrev pub first_full : KeptSet → KeptSet → Option ℕ
 first_full mine theirs = first_past mine.limit (cost_kept mine) (new_groups mine theirs)
@@ -82,9 +88,11 @@ new_numbers mine theirs = filter (is_new mine theirs) (range_with_len 0 (length 
 
 -- the pairs that are kept there and not here, by group, then number
 abbrev pub new_pairs : KeptSet → KeptSet → List (ℕ × ℕ)
-new_pairs mine theirs = flat_map (λ e. map (λ number. (e.0, number)) (new_numbers (open_group mine e.0) e.1)) theirs.groups
+new_pairs mine theirs =
+    flat_map (λ e. map (λ number. (e.0, number)) (new_numbers (open_group mine e.0) e.1)) theirs.groups
 
 -- the layers that the union shows, and that what is kept here does not show, by group, then layer
 abbrev pub shown_by_union : KeptSet → KeptSet → List (ℕ × ℕ)
 shown_by_union mine theirs =
-    flat_map (λ e. map (λ layer. (e.0, layer)) (shown_between (layers_of e.1) (count_kept mine e.0) (count_kept (union mine theirs) e.0))) theirs.groups
+    flat_map (λ e. map (λ layer. (e.0, layer))
+    (shown_between (layers_of e.1) (count_kept mine e.0) (count_kept (union mine theirs) e.0))) theirs.groups

@@ -1,5 +1,6 @@
 -- The verdict of a datagram by a kept set, and the set after it. This project's own.
-use Rattle.std.specs.Prelude.{ℕ, ◌+◌, ◌^◌, Bool, true, false, not, ◌&&◌, ◌||◌, ◌==◌, nat_lt, nat_le, if◌then◌else◌, List, [], ◌∷◌, length, filter, sum_by, is_some, is_none}
+use Rattle.std.specs.Prelude.{ℕ, ◌+◌, ◌^◌, Bool, true, false, not, ◌&&◌, ◌||◌, ◌==◌, nat_lt, nat_le, if◌then◌else◌}
+use Rattle.std.specs.Prelude.{List, [], ◌∷◌, length, filter, sum_by, is_some, is_none}
 use Rattle.std.specs.Str.{bytes_eq}
 use Rattle.std.specs.List.{list_any, range_with_len}
 use Rattle.std.specs.Option.{option_map_or}
@@ -23,11 +24,13 @@ tells_other_count set f = list_any (λ e. not (e.1.header.groups == f.groups)) s
 
 -- the frame's group is open with another table
 abbrev pub tells_other_table : KeptSet → Fields → Bool
-tells_other_table set f = option_map_or (λ p. not (same_table p.header.table (header_of f).table)) (open_group set f.group) false
+tells_other_table set f =
+    option_map_or (λ p. not (same_table p.header.table (header_of f).table)) (open_group set f.group) false
 
 -- the frame's number is kept with another payload
 abbrev pub tells_other_payload : KeptSet → Fields → Bool
-tells_other_payload set f = option_map_or (λ payload. not (bytes_eq payload f.payload)) (payload_of set f.group f.number) false
+tells_other_payload set f =
+    option_map_or (λ payload. not (bytes_eq payload f.payload)) (payload_of set f.group f.number) false
 
 abbrev pub clashes : KeptSet → Fields → Bool
 clashes set f = tells_other_count set f || tells_other_table set f || tells_other_payload set f
@@ -45,7 +48,9 @@ is_too_much set f = is_too_much_by 2 set f
 
 -- the layers that are shown by `after` packets, and were not by `before`
 abbrev pub shown_between : List LayerSize → ℕ → ℕ → List ℕ
-shown_between layers before after = filter (λ j. nat_lt before (count_of layers j) && nat_le (count_of layers j) after) (range_with_len 0 (length layers))
+shown_between layers before after =
+    filter (λ j. nat_lt before (count_of layers j) && nat_le (count_of layers j) after)
+    (range_with_len 0 (length layers))
 
 -- the layers that the frame newly shows, where it is kept
 abbrev pub newly_shown : KeptSet → Fields → List ℕ
@@ -69,7 +74,8 @@ frame_verdict set f = frame_verdict_by 2 set f
 
 -- the verdict of a datagram of a format
 unfoldable pub verdict_in : Format → KeptSet → List ℕ → Verdict
-verdict_in t set bytes = if is_some (first_fault_in t bytes) then Damaged else frame_verdict_by t.word set (planned_fields t bytes)
+verdict_in t set bytes =
+    if is_some (first_fault_in t bytes) then Damaged else frame_verdict_by t.word set (planned_fields t bytes)
 
 abbrev pub verdict_of : KeptSet → List ℕ → Verdict
 verdict_of set bytes = verdict_in FORMAT set bytes

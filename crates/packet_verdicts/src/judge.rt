@@ -1,7 +1,7 @@
 //! The verdict of a frame by what is kept of its group.
 ghost use Rattle.std.specs.Prelude.{◌≡◌, ◌+◌, ◌^◌, ◌<◌, ◌≤◌, cond, length, not, ◌==◌, false};
 ghost use Rattle.std.specs.Option.{option_map_or};
-ghost use Rattle.packet_verdicts.specs.ByCounts.{is_between, shown_by};
+ghost use Rattle.packet_verdicts.specs.inside.ByCounts.{is_between, shown_by};
 ghost use Rattle.packet_frame.specs.View.{view};
 ghost use Rattle.packet_set.specs.Packets.{layers_of, count_in};
 ghost use Rattle.packet_verdicts.specs.Verdicts.{layer_set, shown_between};

@@ -2,7 +2,7 @@
 ghost use Rattle.std.specs.Prelude.{◌≡◌, ◌<◌, ◌≤◌, cond, [], ◌∷◌, ◌++◌, length, map, option_copied, OnOk, is_some, false};
 ghost use Rattle.std.specs.Option.{option_map_or};
 ghost use Rattle.packet_set.specs.Packets.{slot_at};
-ghost use Rattle.packet_verdicts.specs.ByCounts.{shown_by};
+ghost use Rattle.packet_verdicts.specs.inside.ByCounts.{shown_by};
 ghost use Rattle.packet_verdicts.specs.Union.{new_numbers, is_new};
 ghost use Rattle.packet_verdicts.specs.GroupLayers.{count_in_open, shown_by_both};
 

@@ -1,4 +1,5 @@
--- What a call sees of the outside, and leaves of it, as one record. What is optional is told or not. This project's own.
+-- What a call sees of the outside, and leaves of it, as one record. What is optional is told or not. This project's
+-- own.
 use Rattle.std.specs.Prelude.{ℕ, List, Option}
 use Rattle.pet_base.specs.Seen.{Seen}
 use Rattle.pet_base.specs.LinkSeen.{LinkSeen}

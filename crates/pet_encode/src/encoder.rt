@@ -6,12 +6,12 @@ ghost use Rattle.packet_session.specs.Session.{Session, IsMessage, IsPacketOf};
 ghost use Rattle.stripe_plan.specs.Layers.{needs_of};
 ghost use Rattle.stripe_plan.specs.Sizes.{IsTable};
 
-use packet_encoder::PacketEncoder;
-use packet_frame::{FORMAT, Header};
-use pet_base::{MAX_GROUPS, MAX_PACKETS, NoMemory, Steps};
 use field_elements::Field;
 use field_rows::Rows;
 use field_values::AllValues;
+use packet_encoder::PacketEncoder;
+use packet_frame::{FORMAT, Header};
+use pet_base::{MAX_GROUPS, MAX_PACKETS, NoMemory, Steps};
 use std::alloc::Global;
 use std::marker::Model;
 use std::sync::ledger::Ledger;

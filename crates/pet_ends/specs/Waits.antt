@@ -1,4 +1,5 @@
--- What is seen of a queue of datagrams: the entries that wait, as in a datagram file; how many bytes are kept, those that are
+-- What is seen of a queue of datagrams: the entries that wait, as in a datagram file; how many bytes are kept, those
+-- that are
 -- handed on among them; and for how many there is room. This project's own.
 use Rattle.std.specs.Prelude.{ℕ, List}
 

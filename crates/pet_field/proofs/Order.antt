@@ -1,5 +1,6 @@
 -- x has the order 65,535, so each element but zero is a power of x.
-use Rattle.std.proofs.Common.{◌≡◌, ◌≢◌, ℕ, zero, suc, ◌+◌, ◌-◌, ◌*◌, ◌/◌, ◌<◌, ◌≤◌, ◌⊎◌, inl, inr, Bool, true, false, ◌||◌, eqb, List, [], ◌∷◌, length, refl, sym, ap, ◌∙◌, subst, arith}
+use Rattle.std.proofs.Common.{◌≡◌, ◌≢◌, ℕ, zero, suc, ◌+◌, ◌-◌, ◌*◌, ◌/◌, ◌<◌, ◌≤◌, ◌⊎◌, inl, inr, Bool, true, false}
+use Rattle.std.proofs.Common.{◌||◌, eqb, List, [], ◌∷◌, length, refl, sym, ap, ◌∙◌, subst, arith}
 use Rattle.std.specs.List.{list_any, IsDistinct, AllByRecursion as Each}
 use Rattle.std.proofs.lemmas.Bool.{cases_eq, cases_lt, eqb-true, eqb-false, ne_eqb, or_cases, false≢true}
 use Rattle.std.proofs.lemmas.Map.Steps.{length-le_from_distinct_below}
@@ -33,7 +34,8 @@ twice_is a h =
           rw t (record { below = omega arith; congruent = rw e (Same-refl 0x1100B (a * 2)) })
       | inr g ↦
           let z : a / 32768 ≡ 1 = omega arith in
-          let t : bit_xor (a * 2) (a / 32768 * 0x1100B) ≡ bit_xor (a * 2) 0x1100B = ap (λ q. bit_xor (a * 2) (q * 0x1100B)) z ∙ ap (bit_xor (a * 2)) (one-mul 0x1100B) in
+          let t : bit_xor (a * 2) (a / 32768 * 0x1100B) ≡ bit_xor (a * 2) 0x1100B =
+          ap (λ q. bit_xor (a * 2) (q * 0x1100B)) z ∙ ap (bit_xor (a * 2)) (one-mul 0x1100B) in
           rw t
           (record {
             below = same_degree_below 16 (a * 2) 0x1100B (omega arith, omega arith) (omega arith, omega arith);
@@ -44,7 +46,8 @@ twice_is a h =
 -- what is a product is the field's product
 pub product_is : (a b c : ℕ) → a < 65536 → b < 65536 → IsProduct 16 0x1100B a b c → c ≡ gf16.times a b
 product_is a b c h g x =
-    product_unique 16 0x1100B gf16_modulus.some gf16_modulus.degree a b c (times 16 0x1100B a b) x (times_is 16 0x1100B gf16_modulus.some gf16_modulus.degree a b h g)
+    product_unique 16 0x1100B gf16_modulus.some gf16_modulus.degree a b c (times 16 0x1100B a b) x
+    (times_is 16 0x1100B gf16_modulus.some gf16_modulus.degree a b h g)
 
 twice_times : (a : ℕ) → a < 65536 → twice a ≡ gf16.times 2 a
 twice_times a h = product_is 2 a (twice a) (omega arith) h (twice_is a h)
@@ -69,11 +72,14 @@ one_times : (a : ℕ) → a < 65536 → gf16.times 1 a ≡ a
 one_times a h = gf16_field.times_comm 1 a (omega arith) h ∙ gf16_field.times-one a h
 
 pub power-add : (i j : ℕ) → power_of_x (i + j) ≡ gf16.times (power_of_x i) (power_of_x j)
-power-add zero j = ap power_of_x (zero-add j) ∙ sym (ap (λ y. gf16.times y (power_of_x j)) power-one ∙ one_times (power_of_x j) (power_below j))
+power-add zero j =
+    ap power_of_x (zero-add j)
+    ∙ sym (ap (λ y. gf16.times y (power_of_x j)) power-one ∙ one_times (power_of_x j) (power_below j))
 power-add (suc i) j =
     let e : suc i + j ≡ suc (i + j) = omega arith in
     ap power_of_x e ∙ power-suc (i + j) ∙ ap (gf16.times 2) (power-add i j)
-    ∙ sym (gf16_field.times_assoc 2 (power_of_x i) (power_of_x j) (omega arith) (power_below i) (power_below j)) ∙ ap (λ y. gf16.times y (power_of_x j)) (sym (power-suc i))
+    ∙ sym (gf16_field.times_assoc 2 (power_of_x i) (power_of_x j) (omega arith) (power_below i) (power_below j))
+    ∙ ap (λ y. gf16.times y (power_of_x j)) (sym (power-suc i))
 
 -- ---- the order, by going through the powers
 
@@ -103,7 +109,8 @@ none_step : (n a : ℕ) → none_is_one (suc n) a ≡ true → (a ≢ 1) × (non
 unfolding none_is_one
 none_step n a = go (eqb a 1) refl
   where
-    go : (b : Bool) → eqb a 1 ≡ b → elim b [ true ↦ false | false ↦ none_is_one n (twice a) ] ≡ true → (a ≢ 1) × (none_is_one n (twice a) ≡ true)
+    go : (b : Bool) → eqb a 1 ≡ b → elim b [ true ↦ false | false ↦ none_is_one n (twice a) ] ≡ true
+        → (a ≢ 1) × (none_is_one n (twice a) ≡ true)
     go true e h = absurd (false≢true h)
     go false e h = (eqb-false a 1 e, h)
 
@@ -144,21 +151,24 @@ module _ (n : ℕ) (n_is : n ≡ 65535) where
   pub power-turn : (k : ℕ) → power_of_x (n + k) ≡ power_of_x k
   power-turn k =
       let h = power_below k in
-      power-add n k ∙ ap (λ y. gf16.times y (power_of_x k)) turn ∙ gf16_field.times_comm 1 (power_of_x k) (omega arith) h ∙ gf16_field.times-one (power_of_x k) h
+      power-add n k ∙ ap (λ y. gf16.times y (power_of_x k)) turn
+      ∙ gf16_field.times_comm 1 (power_of_x k) (omega arith) h ∙ gf16_field.times-one (power_of_x k) h
 
   differ_before : (i j : ℕ) → i < j → j < n → power_of_x i ≢ power_of_x j
   differ_before i j l m e =
       let p : n - i + i ≡ n = omega arith in
       let q : n - i + j ≡ n + (j - i) = omega arith in
       let t : power_of_x (j - i) ≡ 1 =
-      sym (power-turn (j - i)) ∙ ap power_of_x (sym q) ∙ power-add (n - i) j ∙ ap (gf16.times (power_of_x (n - i))) (sym e) ∙ sym (power-add (n - i) i) ∙ ap power_of_x p ∙ turn in
+      sym (power-turn (j - i)) ∙ ap power_of_x (sym q) ∙ power-add (n - i) j
+      ∙ ap (gf16.times (power_of_x (n - i))) (sym e) ∙ sym (power-add (n - i) i) ∙ ap power_of_x p ∙ turn in
       not_before (j - i) (omega arith) (omega arith) t
 
   never_zero : (k : ℕ) → k ≤ n → power_of_x k ≢ 0
   never_zero k l z =
       let p : n - k + k ≡ n = omega arith in
       let h = power_below (n - k) in
-      let t : ◌≡◌ {A = ℕ} 1 0 = sym turn ∙ ap power_of_x (sym p) ∙ power-add (n - k) k ∙ ap (gf16.times (power_of_x (n - k))) z ∙ times-zero (λ a. a < 65536) gf16 gf16_field (power_of_x (n - k)) h in
+      let t : ◌≡◌ {A = ℕ} 1 0 = sym turn ∙ ap power_of_x (sym p) ∙ power-add (n - k) k
+      ∙ ap (gf16.times (power_of_x (n - k))) z ∙ times-zero (λ a. a < 65536) gf16 gf16_field (power_of_x (n - k)) h in
       absurd (omega arith)
 
   -- the powers below k, the highest first
@@ -198,7 +208,10 @@ module _ (n : ℕ) (n_is : n ≡ 65535) where
         | inr ne ↦
             elim (look a k) [
               | inl x ↦ inl (x.0, omega (arith, x.1), x.2)
-              | inr absent ↦ inr (λ i l. elim (cases_eq i k) [ inl e ↦ subst (λ j. power_of_x j ≢ a) (sym e) ne | inr d ↦ absent i (omega arith) ])
+              | inr absent ↦ inr (λ i l. elim (cases_eq i k) [
+                | inl e ↦ subst (λ j. power_of_x j ≢ a) (sym e) ne
+                | inr d ↦ absent i (omega arith)
+              ])
             ]
       ]
 
@@ -208,7 +221,8 @@ module _ (n : ℕ) (n_is : n ≡ 65535) where
       let zero_apart = apart 0 n (λ i l. never_zero i (omega arith)) in
       let a_apart = apart a n absent in
       let ne : eqb a 0 ≡ false = ne_eqb a 0 (omega arith) in
-      let long = length-le_from_distinct_below (a ∷ 0 ∷ powers n) 65536 ((ne, a_apart), (zero_apart, distinct n (omega arith))) (below_all a hi) in
+      let long = length-le_from_distinct_below (a ∷ 0 ∷ powers n) 65536
+      ((ne, a_apart), (zero_apart, distinct n (omega arith))) (below_all a hi) in
       omega (arith, long, length-powers n)
     where
       below_all : (a : ℕ) → a < 65536 → (q : ℕ) → list_any (eqb q) (a ∷ 0 ∷ powers n) ≡ true → q < 65536

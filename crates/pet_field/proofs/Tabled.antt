@@ -1,5 +1,6 @@
 -- Products and inverses by exponents of x, and tables that are filled power by power.
-use Rattle.std.proofs.Common.{◌≡◌, ℕ, suc, ◌+◌, ◌-◌, ◌<◌, ◌≤◌, inl, inr, List, length, get_or, set, refl, sym, ap, ◌∙◌, subst, arith}
+use Rattle.std.proofs.Common.{◌≡◌, ℕ, suc, ◌+◌, ◌-◌, ◌<◌, ◌≤◌, inl, inr, List, length, get_or, set, refl, sym, ap, ◌∙◌}
+use Rattle.std.proofs.Common.{subst, arith}
 use Rattle.std.proofs.lemmas.Bool.{cases_eq}
 use Rattle.std.proofs.lemmas.List.{get_or-set_same, get_or-set_other, get_or_read}
 use Rattle.field_elements.specs.laws.FieldLaws.{times-zero}
@@ -15,7 +16,8 @@ pub zero_left : (a : ℕ) → a < 65536 → gf16.times 0 a ≡ 0
 zero_left a h = gf16_field.times_comm 0 a (omega arith) h ∙ zero_right a h
 
 -- the sum of exponents of two elements is one of their product
-pub product_at : (a b i j s : ℕ) → power_of_x i ≡ a → power_of_x j ≡ b → power_of_x s ≡ power_of_x (i + j) → power_of_x s ≡ gf16.times a b
+pub product_at : (a b i j s : ℕ) → power_of_x i ≡ a → power_of_x j ≡ b → power_of_x s ≡ power_of_x (i + j)
+    → power_of_x s ≡ gf16.times a b
 product_at a b i j s x y z = z ∙ power-add i j ∙ ap (λ c. gf16.times c (power_of_x j)) x ∙ ap (gf16.times a) y
 
 module _ (n : ℕ) (n_is : n ≡ 65535) where
@@ -28,7 +30,8 @@ module _ (n : ℕ) (n_is : n ≡ 65535) where
   pub inverse_at : (a i : ℕ) → i ≤ n → power_of_x i ≡ a → gf16.times a (power_of_x (n - i)) ≡ 1
   inverse_at a i l x =
       let whole : i + (n - i) ≡ n = omega arith in
-      ap (λ c. gf16.times c (power_of_x (n - i))) (sym x) ∙ sym (power-add i (n - i)) ∙ ap power_of_x whole ∙ turn n n_is
+      ap (λ c. gf16.times c (power_of_x (n - i))) (sym x) ∙ sym (power-add i (n - i)) ∙ ap power_of_x whole
+      ∙ turn n n_is
 
 -- ---- filling
 
@@ -38,9 +41,11 @@ pub record AreFilled (k : ℕ) (powers exponents : List ℕ) : Type 0 where
   pub exponents_are : (i : ℕ) → i < k → power_of_x (get_or exponents (power_of_x i) 0) ≡ power_of_x i
 
 pub filled_none : (powers exponents : List ℕ) → AreFilled 0 powers exponents
-filled_none powers exponents = record { powers_are = λ i h. absurd (omega arith); exponents_are = λ i h. absurd (omega arith) }
+filled_none powers exponents =
+    record { powers_are = λ i h. absurd (omega arith); exponents_are = λ i h. absurd (omega arith) }
 
-pub filled_more : (k p : ℕ) (powers exponents : List ℕ) → AreFilled k powers exponents → p ≡ power_of_x k → k < length powers → p < length exponents
+pub filled_more : (k p : ℕ) (powers exponents : List ℕ) → AreFilled k powers exponents → p ≡ power_of_x k
+    → k < length powers → p < length exponents
     → AreFilled (suc k) (set powers k p) (set exponents p k)
 filled_more k p powers exponents so_far is there room =
     record {
@@ -54,11 +59,13 @@ filled_more k p powers exponents so_far is there room =
             | inl e ↦ rw e (ap power_of_x (get_or-set_same exponents p k 0 room) ∙ sym is)
             | inr ne ↦
                 ap power_of_x (get_or-set_other exponents p (power_of_x i) k 0 ne)
-                ∙ so_far.exponents_are i (elim (cases_eq i k) [ inl e ↦ absurd (ne (ap power_of_x e ∙ sym is)) | inr d ↦ omega arith ])
+                ∙ so_far.exponents_are i
+                (elim (cases_eq i k) [ inl e ↦ absurd (ne (ap power_of_x e ∙ sym is)) | inr d ↦ omega arith ])
           ];
     }
 
-pub filled_all : (powers exponents : List ℕ) → length powers ≡ 65536 → length exponents ≡ 65536 → AreFilled 65536 powers exponents → AreTables powers exponents
+pub filled_all : (powers exponents : List ℕ) → length powers ≡ 65536 → length exponents ≡ 65536
+    → AreFilled 65536 powers exponents → AreTables powers exponents
 filled_all powers exponents many full filled =
     record {
       many = many;
@@ -71,12 +78,14 @@ filled_all powers exponents many full filled =
 
 -- ---- reading
 
-pub power_read : (powers exponents : List ℕ) (k x : ℕ) → AreTables powers exponents → k < 65536 → x ≡ get_or powers k x → x ≡ power_of_x k
+pub power_read : (powers exponents : List ℕ) (k x : ℕ) → AreTables powers exponents → k < 65536 → x ≡ get_or powers k x
+    → x ≡ power_of_x k
 power_read powers exponents k x tables below read =
     let inside : k < length powers = omega (arith, tables.many) in
     get_or_read powers k x inside read 0 ∙ tables.powers_are k below
 
-pub exponent_read : (powers exponents : List ℕ) (a x : ℕ) → AreTables powers exponents → 0 < a → a < 65536 → x ≡ get_or exponents a x → power_of_x x ≡ a
+pub exponent_read : (powers exponents : List ℕ) (a x : ℕ) → AreTables powers exponents → 0 < a → a < 65536
+    → x ≡ get_or exponents a x → power_of_x x ≡ a
 exponent_read powers exponents a x tables lo hi read =
     let inside : a < length exponents = omega (arith, tables.full) in
     ap power_of_x (get_or_read exponents a x inside read 0) ∙ tables.exponents_are a lo hi

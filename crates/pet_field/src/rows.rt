@@ -4,10 +4,10 @@ ghost use Rattle.field_elements.specs.Gf16.{gf16};
 ghost use Rattle.field_vectors.specs.Factors.{factors_of};
 
 use crate::tables::Gf16Tables;
+use field_rows::{Rows, each_column};
 use field_vectors::{Products, add_multiples, column_values, count_steps, scale_row};
 use pet_base::Steps;
 use pet_poly::add_scaled;
-use field_rows::{Rows, each_column};
 use std::sync::ledger::Ledger;
 
 /// Below so many columns the products one by one are faster than a row of vectors, of which most would be empty.

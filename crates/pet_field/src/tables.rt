@@ -4,8 +4,8 @@ ghost use Rattle.field_elements.specs.Gf16.{gf16, gf16_coding};
 ghost use Rattle.field_elements.specs.laws.Gf16Laws.{gf16_lawful, gf16_equal};
 ghost use Rattle.pet_field.specs.Powers.{AreTables, power_of_x};
 
-use pet_base::{NoMemory, Steps};
 use field_elements::{Field, Gf16Plain, multiply_modulo};
+use pet_base::{NoMemory, Steps};
 use std::alloc::{AllocError, Global};
 use std::marker::Model;
 use std::sync::ledger::Ledger;

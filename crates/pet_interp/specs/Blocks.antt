@@ -1,5 +1,6 @@
 -- How a progressive state keeps its stripes: in blocks of adjacent stripes of one length (this project's own).
-use Rattle.std.specs.Prelude.{◌≡◌, ℕ, ◌*◌, ◌<◌, ◌≤◌, Bool, false, cond, List, [], All, length, map, slice_index_or, nat_lt}
+use Rattle.std.specs.Prelude.{◌≡◌, ℕ, ◌*◌, ◌<◌, ◌≤◌, Bool, false, cond, List, [], All, length, map, slice_index_or}
+use Rattle.std.specs.Prelude.{nat_lt}
 use Rattle.std.specs.List.{flat_map}
 use Rattle.field_rows.specs.Columns.{block_columns}
 use Rattle.field_rows.specs.Stripes.{cut}
@@ -42,7 +43,8 @@ pub record IsLongest {E : Type 0} (stripes : List (List E)) (top : ℕ) : Type 0
   pub reached : 0 < top → (j : ℕ) × (j < length stripes) × (length (slice_index_or stripes j []) ≡ top)
 
 -- what is taken for stripes of these lengths before any point was met
-pub record HasRoom {E : Type 0} (is_element : E → Type 0) (lengths : List ℕ) (blocks : List (HeldBlock E)) (product spare : List E) : Type 0 where
+pub record HasRoom {E : Type 0} (is_element : E → Type 0) (lengths : List ℕ) (blocks : List (HeldBlock E))
+    (product spare : List E) : Type 0 where
   pub are : map length (stripes_in blocks) ≡ lengths
   pub each : All (IsBlock is_element 0 (length spare)) blocks
   pub products : All is_element product
@@ -50,7 +52,8 @@ pub record HasRoom {E : Type 0} (is_element : E → Type 0) (lengths : List ℕ)
   pub longest : IsLongest (stripes_in blocks) (length product)
 
 -- what a progressive state keeps to
-pub record IsSound {E : Type 0} (is_element : E → Type 0) (met factors room : ℕ) (blocks : List (HeldBlock E)) (product : List E) : Type 0 where
+pub record IsSound {E : Type 0} (is_element : E → Type 0) (met factors room : ℕ) (blocks : List (HeldBlock E))
+    (product : List E) : Type 0 where
   pub each : All (IsBlock is_element met room) blocks
   pub products : All is_element product
   -- the product has as many places as the longest stripe

@@ -3,13 +3,13 @@ ghost use Rattle.std.specs.Prelude.{◌≡◌, ◌≢◌, ℕ, ◌+◌, ◌*◌,
 ghost use Rattle.field_rows.specs.declared.blocks.TheConstants.{MAX_WIDTH};
 ghost use Rattle.pet_poly.specs.Rows.{words};
 ghost use Rattle.pet_interp.specs.Progressive.{longer_than};
-ghost use Rattle.pet_interp.specs.Lifted.{begun_all, grown};
+ghost use Rattle.pet_interp.specs.inside.Lifted.{begun_all, grown};
 
 use crate::copies::push_copies;
 use crate::rows::{add_rows, begin_row};
-use pet_base::{NoMemory, Steps};
 use field_elements::Field;
 use field_rows::{Rows, transpose};
+use pet_base::{NoMemory, Steps};
 use std::alloc::Global;
 use std::marker::Model;
 use std::sync::ledger::Ledger;

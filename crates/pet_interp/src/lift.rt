@@ -5,13 +5,13 @@ ghost use Rattle.pet_poly.specs.InPlace.{linear_product};
 ghost use Rattle.pet_poly.specs.Rows.{words};
 ghost use Rattle.pet_interp.specs.Progressive.{longer_than, step_bound};
 ghost use Rattle.pet_interp.specs.Blocks.{IsBlock, stripes_in};
-ghost use Rattle.pet_interp.specs.Lifted.{begun_all, grown, grown_to, IsLifted};
+ghost use Rattle.pet_interp.specs.inside.Lifted.{begun_all, grown, grown_to, IsLifted};
 
 use crate::block::StripeBlock;
-use pet_base::Steps;
 use field_elements::Field;
-use pet_poly::{eval_monic, times_linear};
 use field_rows::Rows;
+use pet_base::Steps;
+use pet_poly::{eval_monic, times_linear};
 use std::sync::ledger::Ledger;
 
 /// Lifts the stripes and moves the product on, if a stripe is longer than the number of points that were met.

@@ -3,11 +3,11 @@ ghost use Rattle.std.specs.Prelude.{◌≡◌, ℕ, ◌+◌, ◌*◌, ◌<◌, �
 ghost use Rattle.field_rows.specs.declared.blocks.TheConstants.{MAX_WIDTH};
 ghost use Rattle.pet_poly.specs.Rows.{words};
 ghost use Rattle.field_rows.specs.Columns.{column};
-ghost use Rattle.pet_interp.specs.Lifted.{begun, grown};
+ghost use Rattle.pet_interp.specs.inside.Lifted.{begun, grown};
 
-use pet_base::Steps;
 use field_elements::Field;
 use field_rows::Rows;
+use pet_base::Steps;
 use std::sync::ledger::Ledger;
 
 /// Writes into row `met` the multiple of the product that each column lacks to its value at x; `inverse` is that of the

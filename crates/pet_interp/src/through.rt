@@ -1,11 +1,11 @@
 //! The polynomial through points.
 ghost use Rattle.std.specs.Prelude.{◌≡◌, ◌≢◌, ℕ, ◌+◌, ◌*◌, ◌<◌, ◌≤◌, length, All, List};
 ghost use Rattle.pet_poly.specs.Value.{AreDistinct};
-ghost use Rattle.pet_interp.specs.Newton.{nested, gap, expanded};
+ghost use Rattle.pet_interp.specs.inside.Newton.{nested, gap, expanded};
 ghost use Rattle.pet_interp.specs.Points.{firsts, IsOnlyThrough};
 
-use pet_base::Steps;
 use field_elements::Field;
+use pet_base::Steps;
 use std::sync::ledger::Ledger;
 
 /// Leaves in `into` the only list of as many coefficients as there are points that goes through the points, each given

@@ -3,8 +3,8 @@ ghost use Rattle.std.specs.Prelude.{◌≡◌, ◌+◌, ◌<◌, ◌≤◌, ◌+
 ghost use Rattle.pet_poly.specs.Value.{value, value_monic};
 ghost use Rattle.pet_poly.specs.InPlace.{linear_product_from, linear_product, scaled_sum};
 
-use pet_base::Steps;
 use field_elements::Field;
+use pet_base::Steps;
 use std::sync::ledger::Ledger;
 
 /// Multiplies a monic polynomial by X - x. Its lower coefficients are the first `degree` places; those of the product

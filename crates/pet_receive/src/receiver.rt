@@ -12,11 +12,11 @@ ghost use Rattle.pet_receive.specs.UnionSteps.{union_steps};
 ghost use Rattle.packet_verdicts.specs.Union.{union, absorb_fault, new_pairs, shown_by_union};
 ghost use Rattle.pet_receive.specs.ShownBytes.{IsShown, IsShownBytes, Agrees, IsComplete, shown_in_all};
 
-use packet_verdicts::{Absorb, Verdict};
+use field_rows::Rows;
 use packet_frame::{FORMAT, Header};
 use packet_receiver::PacketReceiver;
+use packet_verdicts::{Absorb, Verdict};
 use pet_base::{NoMemory, Steps};
-use field_rows::Rows;
 use std::alloc::Global;
 use std::marker::Model;
 use std::sync::ledger::Ledger;

@@ -1,6 +1,5 @@
 pub mod Words
 pub mod Ends
-pub mod WrittenFiles
-pub mod Forms
 pub mod Lines
+pub mod inside
 pub mod laws

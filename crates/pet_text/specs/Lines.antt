@@ -10,7 +10,10 @@ use Rattle.store_text.specs.declared.fault.StoreKind.TheVariants as store
 use Rattle.pet_text.specs.declared.status.PlanKind.{PlanKind}
 use Rattle.pet_text.specs.declared.status.PlanKind.TheVariants as plan
 use Rattle.pet_text.specs.declared.status.Status.{Status}
-use Rattle.pet_text.specs.declared.status.Status.TheVariants.{Done, Usage, NoMemory, PlaceFault, LinkFault, OutFault, BadStream, BadPriority, BadPlan, BadStore, OtherSession, Clash, Incomplete, TurnsSpent, BadTable, NotLeast, Changed, Full}
+use Rattle.pet_text.specs.declared.status.Status.TheVariants.{Done, Usage, NoMemory, PlaceFault, LinkFault, OutFault}
+use Rattle.pet_text.specs.declared.status.Status.TheVariants.{BadStream, BadPriority, BadPlan, BadStore, OtherSession}
+use Rattle.pet_text.specs.declared.status.Status.TheVariants.{Clash, Incomplete, TurnsSpent, BadTable, NotLeast}
+use Rattle.pet_text.specs.declared.status.Status.TheVariants.{Changed, Full}
 
 abbrev pub code_of : Status → ℕ
 code_of Done = 0
@@ -90,7 +93,8 @@ fault_text LinkFault = codes "fault link\n"
 fault_text OutFault = []
 fault_text (BadStream fault) = codes "fault stream " ++ scan_text fault ++ codes "\n"
 fault_text (BadPriority fault) = codes "fault priority " ++ priority_text fault ++ codes "\n"
-fault_text (BadPlan kind number) = codes "fault plan " ++ plan_kind_text kind ++ codes " " ++ decimal number ++ codes "\n"
+fault_text (BadPlan kind number) =
+    codes "fault plan " ++ plan_kind_text kind ++ codes " " ++ decimal number ++ codes "\n"
 fault_text (BadStore which at kind) =
     codes "fault store " ++ decimal which ++ codes " " ++ store_kind_text kind ++ codes " " ++ decimal at ++ codes "\n"
 fault_text OtherSession = codes "fault session\n"
@@ -108,7 +112,8 @@ bound_text port = codes "bound " ++ decimal port ++ codes "\n"
 
 -- how many datagrams were read, how many packets are kept, and how many layers were shown
 abbrev pub receive_text : ℕ → ℕ → ℕ → List ℕ
-receive_text read kept shown = codes "read " ++ decimal read ++ codes " kept " ++ decimal kept ++ codes " shown " ++ decimal shown ++ codes "\n"
+receive_text read kept shown =
+    codes "read " ++ decimal read ++ codes " kept " ++ decimal kept ++ codes " shown " ++ decimal shown ++ codes "\n"
 
 -- how many datagrams of two stores the merged store has
 abbrev pub merged_text : ℕ → List ℕ

@@ -1,5 +1,6 @@
 -- The command words, this project's own.
-use Rattle.std.specs.Prelude.{ℕ, ◌+◌, ◌-◌, ◌*◌, ◌&&◌, ◌==◌, not, nat_le, nat_lt, nat_eq, Bool, List, [], ◌∷◌, length, drop, map, Option, None, Some, option_map, codes, String, string_bytes, if◌then◌else◌}
+use Rattle.std.specs.Prelude.{ℕ, ◌+◌, ◌-◌, ◌*◌, ◌&&◌, ◌==◌, not, nat_le, nat_lt, nat_eq, Bool, List, [], ◌∷◌, length}
+use Rattle.std.specs.Prelude.{drop, map, Option, None, Some, option_map, codes, String, string_bytes, if◌then◌else◌}
 use Rattle.std.specs.List.{starts_with}
 use Rattle.std.specs.Str.{bytes_eq}
 use Rattle.std.specs.declared.alloc.Global.{Global}
@@ -23,7 +24,8 @@ file_of word = if starts_with nat_eq word (codes "file:") && nat_lt 5 (length wo
 
 -- the address behind `udp:`: a host, a colon, and a port that is no less than the least one
 abbrev pub udp_of : ℕ → List ℕ → Option (List ℕ)
-udp_of least word = if starts_with nat_eq word (codes "udp:") && is_address least (drop 4 word) then Some (drop 4 word) else None
+udp_of least word =
+    if starts_with nat_eq word (codes "udp:") && is_address least (drop 4 word) then Some (drop 4 word) else None
 
 -- the file, or else the address
 abbrev pub file_or_udp : Option (List ℕ) → Option (List ℕ) → Option End
@@ -36,7 +38,8 @@ end_of least word = file_or_udp (file_of word) (udp_of least word)
 
 -- a digit out of 0 to 9 and a to f
 abbrev pub digit_of : ℕ → Option ℕ
-digit_of c = if nat_le 48 c && nat_le c 57 then Some (c - 48) else if nat_le 97 c && nat_le c 102 then Some (c - 87) else None
+digit_of c =
+    if nat_le 48 c && nat_le c 57 then Some (c - 48) else if nat_le 97 c && nat_le c 102 then Some (c - 87) else None
 
 -- a byte of two digits, the high one first
 abbrev pub byte_of : Option ℕ → Option ℕ → Option ℕ
@@ -70,7 +73,8 @@ check_of stream priority plan =
 
 -- two files that are read, and another file that is written, or an address
 abbrev pub send_files : List ℕ → List ℕ → End → Bool
-send_files stream priority (File to) = is_name stream && (is_name priority && (not (bytes_eq to stream) && not (bytes_eq to priority)))
+send_files stream priority (File to) =
+    is_name stream && (is_name priority && (not (bytes_eq to stream) && not (bytes_eq to priority)))
 send_files stream priority (Udp address) = is_name stream && is_name priority
 
 -- `send STREAM PRIORITY TO`: two files that are read, and where the datagrams go to
@@ -81,7 +85,8 @@ send_of stream priority (Some to) = if send_files stream priority to then Some (
 -- two files that are written, each another than the other, and than a file that is read
 abbrev pub receive_files : End → List ℕ → List ℕ → Bool
 receive_files (File from) layers store =
-    is_name layers && (is_name store && (not (bytes_eq from layers) && (not (bytes_eq from store) && not (bytes_eq layers store))))
+    is_name layers
+    && (is_name store && (not (bytes_eq from layers) && (not (bytes_eq from store) && not (bytes_eq layers store))))
 receive_files (Udp address) layers store = is_name layers && (is_name store && not (bytes_eq layers store))
 
 -- `receive FROM SESSION LAYERS STORE`: where the datagrams come from, a session number, and two files that are written
@@ -102,7 +107,8 @@ merge_of first second out =
 abbrev pub video_of : List ℕ → List ℕ → Option Command
 video_of store out = if is_name store && (is_name out && not (bytes_eq out store)) then Some (Video store out) else None
 
--- The command of the words, where they have the form of one. Datagrams are received at any port, also at one that is to be
+-- The command of the words, where they have the form of one. Datagrams are received at any port, also at one that is to
+-- be
 -- found, which is port 0; they are sent to a port of another number.
 abbrev pub command_of : List (List ℕ) → Option Command
 command_of (word ∷ first ∷ second ∷ []) =

@@ -2,7 +2,7 @@
 ghost use Rattle.std.specs.Prelude.{◌≡◌, ◌↔◌, Err, None, Some, IfOk};
 ghost use Rattle.pet_text.specs.declared.words.Command.TheVariants.{Plan, Check, Send, Receive, Merge, Video};
 ghost use Rattle.pet_text.specs.Words.{texts_of, command_of};
-ghost use Rattle.pet_text.specs.Forms.{command_in};
+ghost use Rattle.pet_text.specs.inside.Forms.{command_in};
 ghost use Rattle.pet_text.specs.Ends.{end_in};
 
 use crate::end::{End, own_end};

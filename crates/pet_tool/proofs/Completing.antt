@@ -1,5 +1,6 @@
 -- What each command completes follows from what it does.
-use Rattle.std.proofs.Common.{◌≡◌, ℕ, Bool, true, false, List, [], ◌∷◌, ◌++◌, ◌⊎◌, length, Option, None, Some, refl, sym, ap, subst, ◌∙◌, inl, inr}
+use Rattle.std.proofs.Common.{◌≡◌, ℕ, Bool, true, false, List, [], ◌∷◌, ◌++◌, ◌⊎◌, length, Option, None, Some, refl}
+use Rattle.std.proofs.Common.{sym, ap, subst, ◌∙◌, inl, inr}
 use Rattle.std.proofs.lemmas.List.Elements.{All-contains}
 use Rattle.std.specs.Prelude.{if◌then◌else◌}
 use Rattle.std.specs.Io.KnownBytes.{append_known}
@@ -58,87 +59,123 @@ use Rattle.pet_tool.specs.Does.{Does, Runs, OnFiles, OnRead}
 use Rattle.pet_tool.specs.Lines.{line_of, line_of_plan, line_of_check, line_of_send, line_of_merge, line_of_video}
 use Rattle.pet_tool.proofs.Telling.{silent, told, Told}
 use Rattle.pet_tool.specs.Headline.{Headline, HasWhatWasSent, NamesWhatItStores, ReceivesWhatWasSent}
-use Rattle.pet_tool.specs.Statuses.{status_of, status_of_plan, status_of_check, status_of_send, status_of_receive, status_of_merge, status_of_video}
+use Rattle.pet_tool.specs.Statuses.{status_of, status_of_plan, status_of_check, status_of_send, status_of_receive}
+use Rattle.pet_tool.specs.Statuses.{status_of_merge, status_of_video}
 use Rattle.pet_tool.specs.Undisturbed.{IsUndisturbed, EndsWith}
 
 -- the lines and then that of the status which the end has
-ends_with : (status now : Status) (lines : List ℕ) (before after : OutsideSeen) → now ≡ status → after.written ≡ append_known before.written (lines ++ fault_text now) → EndsWith status lines before after now
+ends_with : (status now : Status) (lines : List ℕ) (before after : OutsideSeen) → now ≡ status
+    → after.written ≡ append_known before.written (lines ++ fault_text now) → EndsWith status lines before after now
 ends_with status now lines before after ended printed = record {
   ended = ended;
   printed = printed ∙ ap (λ (s : Status). append_known before.written (lines ++ fault_text s)) ended;
 }
 
 -- what was told of a command that printed nothing itself, of which the line is known
-module _ {E : Type 0} (of : E → End) (before between after : OutsideSeen) (e : E) (status : Status) (line : List ℕ) (written : between.written ≡ before.written)
-    (said : Told (line_of (of e)) (status_of (of e)) between after status) (ended : status_of (of e) ≡ Done) (is : line_of (of e) ≡ line) where
+module _ {E : Type 0} (of : E → End) (before between after : OutsideSeen) (e : E) (status : Status) (line : List ℕ)
+    (written : between.written ≡ before.written)
+    (said : Told (line_of (of e)) (status_of (of e)) between after status) (ended : status_of (of e) ≡ Done)
+    (is : line_of (of e) ≡ line) where
   done_with : EndsWith Done line before after status
   done_with =
       ends_with Done status line before after (said.ended ∙ ended)
-      (said.printed ∙ ap (λ (o : Option (List ℕ)). append_known o (line_of (of e) ++ fault_text status)) written ∙ ap (λ (l : List ℕ). append_known before.written (l ++ fault_text status)) is)
+      (said.printed ∙ ap (λ (o : Option (List ℕ)). append_known o (line_of (of e) ++ fault_text status)) written
+      ∙ ap (λ (l : List ℕ). append_known before.written (l ++ fault_text status)) is)
 
-plan_completes : (stream priority : List ℕ) (before after : OutsideSeen) (status : Status) → Runs end.Plan (OnRead (PlanEnds stream priority)) before after status → CompletesPlan stream priority before after status
+plan_completes : (stream priority : List ℕ) (before after : OutsideSeen) (status : Status)
+    → Runs end.Plan (OnRead (PlanEnds stream priority)) before after status
+    → CompletesPlan stream priority before after status
 plan_completes stream priority before after status runs = λ p b calm given.
     let only = runs.did.only in
-    let said = told (line_of_plan runs.end) (status_of_plan runs.end) runs.between after status runs.tells (λ rose. calm.well.out (subst (λ (n : ℕ). Rose n after.out_faults) only.out_faults rose)) in
+    let said = told (line_of_plan runs.end) (status_of_plan runs.end) runs.between after status runs.tells
+    (λ rose. calm.well.out (subst (λ (n : ℕ). Rose n after.out_faults) only.out_faults rose)) in
     let planned = plans_session stream priority before.place runs.between.place runs.end only.did p b (record {
       memory = λ none. calm.memory (said.ended ∙ ap status_of_plan none);
-      well = λ had. calm.well.place (subst (λ (now : Seen). Failed (reading stream ∷ reading priority ∷ []) before.place now) (sym said.place) had);
+      well = λ had. calm.well.place
+          (subst (λ (now : Seen). Failed (reading stream ∷ reading priority ∷ []) before.place now)
+          (sym said.place) had);
       given = given;
     }) in
-    done_with end.Plan before runs.between after runs.end status _ only.written said (ap status_of_plan planned.ended) (ap line_of_plan planned.ended ∙ planned.is)
+    done_with end.Plan before runs.between after runs.end status _ only.written said (ap status_of_plan planned.ended)
+    (ap line_of_plan planned.ended ∙ planned.is)
 
-check_completes : (stream priority plan : List ℕ) (before after : OutsideSeen) (status : Status) → Runs end.Check (OnRead (λ old new. Checks old new stream priority plan)) before after status → CompletesCheck stream priority plan before after status
+check_completes : (stream priority plan : List ℕ) (before after : OutsideSeen) (status : Status)
+    → Runs end.Check (OnRead (λ old new. Checks old new stream priority plan)) before after status
+    → CompletesCheck stream priority plan before after status
 check_completes stream priority plan before after status runs = λ p b calm given there.
     let only = runs.did.only in
-    let said = told (line_of_check runs.end) (status_of_check runs.end) runs.between after status runs.tells (λ rose. calm.well.out (subst (λ (n : ℕ). Rose n after.out_faults) only.out_faults rose)) in
+    let said = told (line_of_check runs.end) (status_of_check runs.end) runs.between after status runs.tells
+    (λ rose. calm.well.out (subst (λ (n : ℕ). Rose n after.out_faults) only.out_faults rose)) in
     let ended = checks_session stream priority plan before.place runs.between.place runs.end only.did p b (record {
       memory = λ none. calm.memory (said.ended ∙ ap status_of_check none);
-      well = λ had. calm.well.place (subst (λ (now : Seen). Failed (reading stream ∷ reading priority ∷ reading plan ∷ []) before.place now) (sym said.place) had);
+      well = λ had. calm.well.place (subst (λ (now : Seen). Failed
+          (reading stream ∷ reading priority ∷ reading plan ∷ []) before.place now) (sym said.place) had);
       given = given;
       plan_there = there;
     }) in
-    done_with end.Check before runs.between after runs.end status _ only.written said (ap status_of_check ended) (ap line_of_check ended)
+    done_with end.Check before runs.between after runs.end status _ only.written said (ap status_of_check ended)
+    (ap line_of_check ended)
 
 -- the line of what was sent
-sent_text : (p b : List ℕ) (sent : SentNumbers) → IsSentOf p b sent → send_text sent.session sent.groups sent.datagrams ≡ sent_line_text p b
+sent_text : (p b : List ℕ) (sent : SentNumbers) → IsSentOf p b sent
+    → send_text sent.session sent.groups sent.datagrams ≡ sent_line_text p b
 sent_text p b sent is =
     ap (λ (n : List ℕ). send_text n sent.groups sent.datagrams) is.session
     ∙ ap (λ (g : ℕ). send_text (session_number p b) g sent.datagrams) is.groups
     ∙ ap (λ (d : ℕ). send_text (session_number p b) (length (tables_in p b)) d) is.datagrams
 
 -- it stays sent, whatever is printed behind
-still_sent : (to : Way) (p b : List ℕ) (before between after : OutsideSeen) → after.place ≡ between.place → after.link ≡ between.link → SendsAll to p b before between → SendsAll to p b before after
-still_sent (OnFile name) p b before between after place link sent = subst (λ (s : Seen). Wrote (packets_file name p b ∷ []) None before.place s) (sym place) sent
+still_sent : (to : Way) (p b : List ℕ) (before between after : OutsideSeen) → after.place ≡ between.place
+    → after.link ≡ between.link → SendsAll to p b before between → SendsAll to p b before after
+still_sent (OnFile name) p b before between after place link sent =
+    subst (λ (s : Seen). Wrote (packets_file name p b ∷ []) None before.place s) (sym place) sent
 still_sent (OnLink address) p b before between after place link sent = (
   subst (λ (l : LinkSeen). Sent (packets_in p b) before.link l) (sym link) sent.0,
   subst (λ (l : LinkSeen). IsAimedAt address before.link l) (sym link) sent.1,
   ap (λ (s : Seen). s.files) place ∙ sent.2,
 )
 
-send_completes : (stream priority : List ℕ) (to : Way) (before after : OutsideSeen) (status : Status) → Runs end.Send (Sends stream priority to) before after status → CompletesSend stream priority to before after status
+send_completes : (stream priority : List ℕ) (to : Way) (before after : OutsideSeen) (status : Status)
+    → Runs end.Send (Sends stream priority to) before after status
+    → CompletesSend stream priority to before after status
 send_completes stream priority to before after status runs = λ p b calm given.
-    let said = told (line_of_send runs.end) (status_of_send runs.end) runs.between after status runs.tells (λ rose. calm.calm.well.out (subst (λ (n : ℕ). Rose n after.out_faults) runs.did.out_faults rose)) in
+    let said = told (line_of_send runs.end) (status_of_send runs.end) runs.between after status runs.tells
+    (λ rose. calm.calm.well.out (subst (λ (n : ℕ). Rose n after.out_faults) runs.did.out_faults rose)) in
     let sent = sends_session stream priority to before runs.between runs.end runs.did p b (record {
       memory = λ none. calm.calm.memory (said.ended ∙ ap status_of_send none);
-      well = λ had. calm.calm.well.place (subst (λ (now : Seen). Failed (uses stream priority to) before.place now) (sym said.place) had);
+      well = λ had. calm.calm.well.place
+          (subst (λ (now : Seen). Failed (uses stream priority to) before.place now) (sym said.place) had);
       link = λ had. calm.link (subst (λ (l : LinkSeen). AimedFailed to before.link l) (sym said.link) had);
       given = given;
     }) in (
       still_sent to p b before runs.between after said.place said.link sent.packets,
-      done_with end.Send before runs.between after runs.end status _ runs.did.written said (ap status_of_send sent.ended) (ap line_of_send sent.ended ∙ sent_text p b sent.sent sent.is),
+      done_with end.Send before runs.between after runs.end status _ runs.did.written said
+          (ap status_of_send sent.ended) (ap line_of_send sent.ended ∙ sent_text p b sent.sent sent.is),
     )
 
 -- the status of the end by whether all layers are shown
-shown_status : (all : Bool) → status_of_receive (if all then receive.Done else receive.Incomplete) ≡ (if all then Done else Incomplete)
+shown_status : (all : Bool)
+    → status_of_receive (if all then receive.Done else receive.Incomplete) ≡ (if all then Done else Incomplete)
 shown_status true = refl
 shown_status false = refl
 
-headline : (from : Way) (session layers store : List ℕ) (before after : OutsideSeen) (status : Status) → Runs end.Receive (Receives from session layers store) before after status → Headline from session layers store before after status
+headline : (from : Way) (session layers store : List ℕ) (before after : OutsideSeen) (status : Status)
+    → Runs end.Receive (Receives from session layers store) before after status
+    → Headline from session layers store before after status
 headline from session layers store before after status runs = λ s files ds is calm given.
     let said = silent (status_of_receive runs.end) runs.between after status runs.tells in
-    let can = can_receive_before s from layers store files ds (fault_text status) before runs.between after runs.end said.1 (record { memory = λ none. calm.calm.memory (said.0 ∙ ap status_of_receive none); well = calm.calm.well; link = calm.link; given = given }) in
-    let received = completes_receive from session layers store before runs.between runs.end runs.did s files ds is can in
-    let lined = received_with_line s from layers store files ds (fault_text status) before runs.between after runs.end said.1 calm.calm.well runs.did.later received in
+    let can = can_receive_before s from layers store files ds
+    (fault_text status) before runs.between after runs.end said.1
+    (record {
+      memory = λ none. calm.calm.memory (said.0 ∙ ap status_of_receive none);
+      well = calm.calm.well;
+      link = calm.link;
+      given = given;
+    }) in
+    let received = completes_receive from session layers store before runs.between runs.end runs.did s files ds is
+    can in
+    let lined = received_with_line s from layers store files ds
+    (fault_text status) before runs.between after runs.end said.1 calm.calm.well runs.did.later received in
     record {
       written = lined.0;
       ends = ends_with _ status _ before after (said.0 ∙ ap status_of_receive received.ended ∙ shown_status _) lined.1;
@@ -147,7 +184,8 @@ headline from session layers store before after status runs = λ s files ds is c
     }
 
 -- what `send` sends are packets of the session
-sent_given : (p b : List ℕ) (from : Way) (files : Files) (ds : List (List ℕ)) (old : OutsideSeen) → HasWhatWasSent p b from files ds old → HasPacketsOf (session_of p b) from files ds old
+sent_given : (p b : List ℕ) (from : Way) (files : Files) (ds : List (List ℕ)) (old : OutsideSeen)
+    → HasWhatWasSent p b from files ds old → HasPacketsOf (session_of p b) from files ds old
 sent_given p b from files ds old sent =
     let session : IsSession 2 (session_of p b) = is_session p b sent.stream_bytes sent.accepted in
     record {
@@ -157,15 +195,19 @@ sent_given p b from files ds old sent =
       found = sent.found;
       few = sent.few;
       packets = λ k d lt accepted number.
-          (All-contains (IsItsDatagram (session_of p b)) (datagrams (datagrams_text (session_of p b))) _ (sent_are_packets (session_of p b) session) (sent.sent k d lt)).packet;
+          (All-contains (IsItsDatagram (session_of p b)) (datagrams (datagrams_text (session_of p b))) _
+          (sent_are_packets (session_of p b) session) (sent.sent k d lt)).packet;
     }
 
-received_sent : (from : Way) (session layers store : List ℕ) (before after : OutsideSeen) (status : Status) → Headline from session layers store before after status → ReceivesWhatWasSent from session layers store before after status
+received_sent : (from : Way) (session layers store : List ℕ) (before after : OutsideSeen) (status : Status)
+    → Headline from session layers store before after status
+    → ReceivesWhatWasSent from session layers store before after status
 received_sent from session layers store before after status meets = λ p b files ds is calm sent.
     meets (session_of p b) files ds is calm (sent_given p b from files ds before sent)
 
 -- LAYERS and STORE stay as they are behind the line of the status
-still_stored : (session layers store : List ℕ) (before between after : OutsideSeen) → after.place ≡ between.place → NamesStored session layers store before between → NamesStored session layers store before after
+still_stored : (session layers store : List ℕ) (before between after : OutsideSeen) → after.place ≡ between.place
+    → NamesStored session layers store before between → NamesStored session layers store before after
 still_stored session layers store before between after same named = record {
   set = named.set;
   sound = named.sound;
@@ -175,7 +217,10 @@ still_stored session layers store before between after same named = record {
   named = named.named;
 }
 
-stored_at : (session layers store : List ℕ) (before between : OutsideSeen) (end : ReceiveEnd) → EndNames session layers store before between end → (status_of_receive end ≡ Done) ⊎ (status_of_receive end ≡ Incomplete) ⊎ (status_of_receive end ≡ TurnsSpent) → NamesStored session layers store before between
+stored_at : (session layers store : List ℕ) (before between : OutsideSeen) (end : ReceiveEnd)
+    → EndNames session layers store before between end
+    → (status_of_receive end ≡ Done) ⊎ (status_of_receive end ≡ Incomplete) ⊎ (status_of_receive end ≡ TurnsSpent)
+    → NamesStored session layers store before between
 stored_at session layers store before between receive.Done named is = named
 stored_at session layers store before between receive.Incomplete named is = named
 stored_at session layers store before between receive.TurnsSpent named is = named
@@ -192,62 +237,88 @@ stored_at session layers store before between receive.OutFault named (inl is) = 
 stored_at session layers store before between receive.OutFault named (inr (inl is)) = absurd (cc)
 stored_at session layers store before between receive.OutFault named (inr (inr is)) = absurd (cc)
 
-names_stored : (from : Way) (session layers store : List ℕ) (before after : OutsideSeen) (status : Status) → Runs end.Receive (Receives from session layers store) before after status → NamesWhatItStores session layers store before after status
+names_stored : (from : Way) (session layers store : List ℕ) (before after : OutsideSeen) (status : Status)
+    → Runs end.Receive (Receives from session layers store) before after status
+    → NamesWhatItStores session layers store before after status
 names_stored from session layers store before after status runs is =
     let said = silent (status_of_receive runs.end) runs.between after status runs.tells in
     still_stored session layers store before runs.between after said.1.place
-    (stored_at session layers store before runs.between runs.end (names_what_it_stores from session layers store before runs.between runs.end runs.did.ends)
+    (stored_at session layers store before runs.between runs.end
+    (names_what_it_stores from session layers store before runs.between runs.end runs.did.ends)
     (subst (λ (s : Status). (s ≡ Done) ⊎ (s ≡ Incomplete) ⊎ (s ≡ TurnsSpent)) said.0 is))
 
-merge_completes : (first second out : List ℕ) (before after : OutsideSeen) (status : Status) → Runs end.Merge (OnFiles (Merges first second out)) before after status → CompletesMerge first second out before after status
+merge_completes : (first second out : List ℕ) (before after : OutsideSeen) (status : Status)
+    → Runs end.Merge (OnFiles (Merges first second out)) before after status
+    → CompletesMerge first second out before after status
 merge_completes first second out before after status runs = λ s files a b calm given.
     let only = runs.did in
     let all = reading first ∷ reading second ∷ writing out ∷ [] in
-    let said = told (line_of_merge runs.end) (status_of_merge runs.end) runs.between after status runs.tells (λ rose. calm.well.out (subst (λ (n : ℕ). Rose n after.out_faults) only.out_faults rose)) in
-    let merged = completes_merge first second out before.place runs.between.place runs.end only.did s files a b (record {
+    let said = told (line_of_merge runs.end) (status_of_merge runs.end) runs.between after status runs.tells
+    (λ rose. calm.well.out (subst (λ (n : ℕ). Rose n after.out_faults) only.out_faults rose)) in
+    let merged = completes_merge first second out before.place runs.between.place runs.end only.did s files a b
+    (record {
       memory = λ none. calm.memory (said.ended ∙ ap status_of_merge none);
       well = λ had. calm.well.place (subst (λ (now : Seen). Failed all before.place now) (sym said.place) had);
       given = given;
     }) in (
       ap (λ (now : Seen). now.files) said.place ∙ merged.file,
-      done_with end.Merge before runs.between after runs.end status _ only.written said (ap status_of_merge merged.ended) (ap line_of_merge merged.ended),
+      done_with end.Merge before runs.between after runs.end status _ only.written said
+          (ap status_of_merge merged.ended) (ap line_of_merge merged.ended),
     )
 
 -- what `video` completed, and what was told of it
-module _ (store out : List ℕ) (before after : OutsideSeen) (status : Status) (runs : Runs end.Video (OnFiles (Videos store out)) before after status) (p b : List ℕ) (files : Files) (pairs : List Pair)
-    (calm : IsUndisturbed (reading store ∷ writing out ∷ []) before after status) (given : HasStoreOf p b store files pairs before.place) where
+module _ (store out : List ℕ) (before after : OutsideSeen) (status : Status)
+    (runs : Runs end.Video (OnFiles (Videos store out)) before after status) (p b : List ℕ) (files : Files)
+    (pairs : List Pair)
+    (calm : IsUndisturbed (reading store ∷ writing out ∷ []) before after status)
+    (given : HasStoreOf p b store files pairs before.place) where
   video_told : Told (line_of_video runs.end) (status_of_video runs.end) runs.between after status
-  video_told = told (line_of_video runs.end) (status_of_video runs.end) runs.between after status runs.tells (λ rose. calm.well.out (subst (λ (n : ℕ). Rose n after.out_faults) runs.did.out_faults rose))
+  video_told =
+      told (line_of_video runs.end) (status_of_video runs.end) runs.between after status runs.tells
+      (λ rose. calm.well.out (subst (λ (n : ℕ). Rose n after.out_faults) runs.did.out_faults rose))
 
   video_done : VideosSession p b out files pairs runs.between.place runs.end
   video_done = completes_video store out before.place runs.between.place runs.end runs.did.did p b files pairs (record {
     memory = λ none. calm.memory (video_told.ended ∙ ap status_of_video none);
-    well = λ had. calm.well.place (subst (λ (now : Seen). Failed (reading store ∷ writing out ∷ []) before.place now) (sym video_told.place) had);
+    well = λ had. calm.well.place
+        (subst (λ (now : Seen). Failed (reading store ∷ writing out ∷ []) before.place now) (sym video_told.place) had);
     given = given;
   })
 
-  video_shown : (after.place.files ≡ Some (with_file out (stream_video p b pairs) files)) × EndsWith Done (video_text (length (stream_video p b pairs))) before after status
+  video_shown : (after.place.files ≡ Some (with_file out (stream_video p b pairs) files))
+      × EndsWith Done (video_text (length (stream_video p b pairs))) before after status
   video_shown = (
     ap (λ (now : Seen). now.files) video_told.place ∙ video_done.file,
-    done_with end.Video before runs.between after runs.end status _ runs.did.written video_told (ap status_of_video video_done.ended) (ap line_of_video video_done.ended),
+    done_with end.Video before runs.between after runs.end status _ runs.did.written video_told
+        (ap status_of_video video_done.ended) (ap line_of_video video_done.ended),
   )
 
-  video_whole : all_shown (session_of p b) pairs ≡ true → (after.place.files ≡ Some (with_file out b files)) × EndsWith Done (video_text (length b)) before after status
+  video_whole : all_shown (session_of p b) pairs ≡ true
+      → (after.place.files ≡ Some (with_file out b files)) × EndsWith Done (video_text (length b)) before after status
   video_whole all =
       let same = video_done.whole all in (
         video_shown.0 ∙ ap (λ (bytes : List ℕ). Some (with_file out bytes files)) same,
         subst (λ (bytes : List ℕ). EndsWith Done (video_text (length bytes)) before after status) same video_shown.1,
       )
 
-pub completes : (command : Option Command) (before after : OutsideSeen) (status : Status) → Does command before after status → Completes command before after status
+pub completes : (command : Option Command) (before after : OutsideSeen) (status : Status)
+    → Does command before after status → Completes command before after status
 completes None before after status does = tt
-completes (Some (Plan stream priority)) before after status runs = plan_completes stream priority before after status runs
-completes (Some (Check stream priority plan)) before after status runs = check_completes stream priority plan before after status runs
-completes (Some (Send stream priority to)) before after status runs = send_completes stream priority (way_in to) before after status runs
+completes (Some (Plan stream priority)) before after status runs =
+    plan_completes stream priority before after status runs
+completes (Some (Check stream priority plan)) before after status runs =
+    check_completes stream priority plan before after status runs
+completes (Some (Send stream priority to)) before after status runs =
+    send_completes stream priority (way_in to) before after status runs
 completes (Some (Receive from session layers store)) before after status runs =
     let meets = headline (way_in from) session layers store before after status runs in
-    record { headline = meets; of_send = received_sent (way_in from) session layers store before after status meets; named = names_stored (way_in from) session layers store before after status runs }
-completes (Some (Merge first second out)) before after status runs = merge_completes first second out before after status runs
+    record {
+      headline = meets;
+      of_send = received_sent (way_in from) session layers store before after status meets;
+      named = names_stored (way_in from) session layers store before after status runs;
+    }
+completes (Some (Merge first second out)) before after status runs =
+    merge_completes first second out before after status runs
 completes (Some (Video store out)) before after status runs = record {
   shown = video_shown store out before after status runs;
   whole = video_whole store out before after status runs;

@@ -28,11 +28,13 @@ use Rattle.pet_text.specs.declared.status.Status.TheVariants.{Done}
 use Rattle.pet_tool.specs.declared.end.End.{End}
 use Rattle.pet_tool.specs.Does.{Runs}
 use Rattle.pet_tool.specs.Lines.{line_of, line_of_plan, line_of_check, line_of_send, line_of_merge, line_of_video}
-use Rattle.pet_tool.specs.Statuses.{of_place, of_link, status_of, status_of_session, status_of_plan, status_of_check, status_of_send, status_of_receive, status_of_merge, status_of_video}
+use Rattle.pet_tool.specs.Statuses.{of_place, of_link, status_of, status_of_session, status_of_plan, status_of_check}
+use Rattle.pet_tool.specs.Statuses.{status_of_send, status_of_receive, status_of_merge, status_of_video}
 use Rattle.pet_tool.specs.Told.{Tells}
 use Rattle.pet_tool.proofs.Telling.{strikes}
 
--- The status tells of a failure of the place, or of the link, where the end does; and an end that has a line tells of none.
+-- The status tells of a failure of the place, or of the link, where the end does; and an end that has a line tells of
+-- none.
 pub record Agrees (failed_place failed_link : Bool) (line : List ℕ) (status : Status) : Type 0 where
   pub place : of_place status ≡ failed_place
   pub link : of_link status ≡ failed_link
@@ -41,7 +43,8 @@ pub record Agrees (failed_place failed_link : Bool) (line : List ℕ) (status : 
 lined : (line : List ℕ) → Agrees false false line Done
 lined line = record { place = refl; link = refl; lined = λ some. (refl, refl) }
 
-unlined : {failed_place failed_link : Bool} {status : Status} → of_place status ≡ failed_place → of_link status ≡ failed_link → Agrees failed_place failed_link [] status
+unlined : {failed_place failed_link : Bool} {status : Status} → of_place status ≡ failed_place
+    → of_link status ≡ failed_link → Agrees failed_place failed_link [] status
 unlined place link = record { place = place; link = link; lined = λ some. absurd (some refl) }
 
 of_session : (fault : SessionFault) → Agrees false false [] (status_of_session fault)
@@ -108,15 +111,18 @@ receive_agrees receive.Incomplete = unlined refl refl
 receive_agrees receive.TurnsSpent = unlined refl refl
 
 -- a command did this, the first failure ended it, and then the run told of its end
-pub runs_with : {E : Type 0} (of : E → End) (Did : OutsideSeen → OutsideSeen → E → Type 0) (p k : Bool) (before between after : OutsideSeen) (status : Status) (e : E)
-    → Agrees p k (line_of (of e)) (status_of (of e)) → Did before between e → EndsAtOnce p k before between → Tells (line_of (of e)) (status_of (of e)) between after status → Runs of Did before after status
+pub runs_with : {E : Type 0} (of : E → End) (Did : OutsideSeen → OutsideSeen → E → Type 0) (p k : Bool)
+    (before between after : OutsideSeen) (status : Status) (e : E)
+    → Agrees p k (line_of (of e)) (status_of (of e)) → Did before between e → EndsAtOnce p k before between
+    → Tells (line_of (of e)) (status_of (of e)) between after status → Runs of Did before after status
 runs_with of Did p k before between after status e agrees did once tells = record {
   between = between;
   end = e;
   did = did;
   tells = tells;
   once =
-      strikes (line_of (of e)) (status_of (of e)) before between after status tells (λ some. let none = agrees.lined some in (agrees.place ∙ none.0, agrees.link ∙ none.1))
+      strikes (line_of (of e)) (status_of (of e)) before between after status tells
+      (λ some. let none = agrees.lined some in (agrees.place ∙ none.0, agrees.link ∙ none.1))
       (record {
         place = subst (λ (b : Bool). PlaceStops b before.place between.place) (sym agrees.place) once.place;
         link = subst (λ (b : Bool). LinkStops b before.link between.link) (sym agrees.link) once.link;

@@ -21,22 +21,61 @@ use Rattle.pet_tool.proofs.Telling.{strikes}
 
 module _ (before after : OutsideSeen) (status : Status) (tells : Tells [] NoMemory before after status) where
   no_failure : Strikes before after status
-  no_failure = strikes [] NoMemory before before after status tells (λ some. (refl, refl)) (record { place = refl; link = refl })
+  no_failure =
+      strikes [] NoMemory before before after status tells (λ some. (refl, refl)) (record { place = refl; link = refl })
 
   no_memory : (command : Command) → Does (Some command) before after status
-  no_memory (Plan stream priority) = record { between = before; end = plan.NoMemory; did = record { only = record { link = refl; written = refl; out_faults = refl; did = tt }; files = refl; steps = refl }; tells = tells; once = no_failure }
-  no_memory (Check stream priority file) = record { between = before; end = check.NoMemory; did = record { only = record { link = refl; written = refl; out_faults = refl; did = tt }; files = refl; steps = refl }; tells = tells; once = no_failure }
+  no_memory (Plan stream priority) =
+      record {
+        between = before;
+        end = plan.NoMemory;
+        did =
+            record {
+              only = record { link = refl; written = refl; out_faults = refl; did = tt };
+              files = refl;
+              steps = refl;
+            };
+        tells = tells;
+        once = no_failure;
+      }
+  no_memory (Check stream priority file) =
+      record {
+        between = before;
+        end = check.NoMemory;
+        did =
+            record {
+              only = record { link = refl; written = refl; out_faults = refl; did = tt };
+              files = refl;
+              steps = refl;
+            };
+        tells = tells;
+        once = no_failure;
+      }
   no_memory (Send stream priority (File to)) = record {
     between = before;
     end = send.NoMemory;
-    did = record { link = refl; written = refl; out_faults = refl; costs = inl refl; tells = inl (Wrote-nothing before.place before.place refl) };
+    did =
+        record {
+          link = refl;
+          written = refl;
+          out_faults = refl;
+          costs = inl refl;
+          tells = inl (Wrote-nothing before.place before.place refl);
+        };
     tells = tells;
     once = no_failure;
   }
   no_memory (Send stream priority (Udp to)) = record {
     between = before;
     end = send.NoMemory;
-    did = record { link = record { feed = refl; port = refl; bound = refl; later = omega arith }; written = refl; out_faults = refl; costs = inl refl; tells = (inl refl, refl) };
+    did =
+        record {
+          link = record { feed = refl; port = refl; bound = refl; later = omega arith };
+          written = refl;
+          out_faults = refl;
+          costs = inl refl;
+          tells = (inl refl, refl);
+        };
     tells = tells;
     once = no_failure;
   }
@@ -48,9 +87,21 @@ module _ (before after : OutsideSeen) (status : Status) (tells : Tells [] NoMemo
     once = no_failure;
   }
   no_memory (Merge first second out) =
-      record { between = before; end = merge.NoMemory; did = record { link = refl; written = refl; out_faults = refl; did = refl }; tells = tells; once = no_failure }
+      record {
+        between = before;
+        end = merge.NoMemory;
+        did = record { link = refl; written = refl; out_faults = refl; did = refl };
+        tells = tells;
+        once = no_failure;
+      }
   no_memory (Video store out) =
-      record { between = before; end = video.NoMemory; did = record { link = refl; written = refl; out_faults = refl; did = inl refl }; tells = tells; once = no_failure }
+      record {
+        between = before;
+        end = video.NoMemory;
+        did = record { link = refl; written = refl; out_faults = refl; did = inl refl };
+        tells = tells;
+        once = no_failure;
+      }
 
   pub does_no_memory : (command : Option Command) → (command ≡ None → ⊥) → Does command before after status
   does_no_memory None some = absurd (some refl)

@@ -1,5 +1,6 @@
 -- What was printed of an end, and that it changes nothing else.
-use Rattle.std.proofs.Common.{◌≡◌, ◌≢◌, ◌⊎◌, ◌↔◌, ℕ, Bool, false, List, [], ◌++◌, Option, refl, sym, ap, subst, ◌∙◌, arith, inl, inr}
+use Rattle.std.proofs.Common.{◌≡◌, ◌≢◌, ◌⊎◌, ◌↔◌, ℕ, Bool, false, List, [], ◌++◌, Option, refl, sym, ap, subst, ◌∙◌}
+use Rattle.std.proofs.Common.{arith, inl, inr}
 use Rattle.std.specs.Io.KnownBytes.{append_known}
 use Rattle.pet_base.specs.Causes.{Rose}
 use Rattle.pet_base.specs.OutsideSeen.{OutsideSeen}
@@ -18,17 +19,27 @@ use Rattle.pet_tool.specs.Lines.{line_of}
 use Rattle.pet_tool.specs.Statuses.{status_of, of_place, of_link}
 use Rattle.pet_tool.specs.Told.{PrintedWhole, PrintedShort, Tells}
 
-same_seen : (a b : OutsideSeen) → b.place ≡ a.place → b.link ≡ a.link → b.written ≡ a.written → b.out_faults ≡ a.out_faults → b.steps ≡ a.steps → b ≡ a
-same_seen a b place link written faults steps = λ i. record { place = place i; link = link i; written = written i; out_faults = faults i; steps = steps i }
+same_seen : (a b : OutsideSeen) → b.place ≡ a.place → b.link ≡ a.link → b.written ≡ a.written
+    → b.out_faults ≡ a.out_faults → b.steps ≡ a.steps → b ≡ a
+same_seen a b place link written faults steps = λ i. record {
+  place = place i;
+  link = link i;
+  written = written i;
+  out_faults = faults i;
+  steps = steps i;
+}
 
 -- where the end has no line, the line of the status is all that was printed
-pub silent : (of_end : Status) (between after : OutsideSeen) (status : Status) → Tells [] of_end between after status → (status ≡ of_end) × PrintsLine (fault_text status) between after
+pub silent : (of_end : Status) (between after : OutsideSeen) (status : Status) → Tells [] of_end between after status
+    → (status ≡ of_end) × PrintsLine (fault_text status) between after
 silent of_end between after status tells = by tells.line
   where
-    by : PrintedWhole [] of_end between tells.lined status ⊎ PrintedShort [] between tells.lined status → (status ≡ of_end) × PrintsLine (fault_text status) between after
+    by : PrintedWhole [] of_end between tells.lined status ⊎ PrintedShort [] between tells.lined status
+        → (status ≡ of_end) × PrintsLine (fault_text status) between after
     by (inl whole) =
         let o = tells.only in
-        let same = same_seen between tells.lined o.place o.link (whole.printed ∙ append_known-nil between.written) whole.faults o.steps in
+        let same = same_seen between tells.lined o.place o.link
+        (whole.printed ∙ append_known-nil between.written) whole.faults o.steps in
         (whole.ended, subst (λ (s : OutsideSeen). PrintsLine (fault_text status) s after) same tells.fault)
     by (inr short) = absurd (short.some refl)
 
@@ -39,10 +50,13 @@ pub record Told (line : List ℕ) (of_end : Status) (between after : OutsideSeen
   pub place : after.place ≡ between.place
   pub link : after.link ≡ between.link
 
-pub told : (line : List ℕ) (of_end : Status) (between after : OutsideSeen) (status : Status) → Tells line of_end between after status → (Rose between.out_faults after.out_faults → ⊥) → Told line of_end between after status
+pub told : (line : List ℕ) (of_end : Status) (between after : OutsideSeen) (status : Status)
+    → Tells line of_end between after status → (Rose between.out_faults after.out_faults → ⊥)
+    → Told line of_end between after status
 told line of_end between after status tells well = by tells.line
   where
-    by : PrintedWhole line of_end between tells.lined status ⊎ PrintedShort line between tells.lined status → Told line of_end between after status
+    by : PrintedWhole line of_end between tells.lined status ⊎ PrintedShort line between tells.lined status
+        → Told line of_end between after status
     by (inl whole) = record {
       ended = whole.ended;
       printed =
@@ -52,11 +66,14 @@ told line of_end between after status tells well = by tells.line
       place = tells.fault.place ∙ tells.only.place;
       link = tells.fault.link ∙ tells.only.link;
     }
-    by (inr short) = let rose = short.front.rose in let later = tells.fault.later in absurd (well (omega (arith, rose, later)))
+    by (inr short) =
+        let rose = short.front.rose in let later = tells.fault.later in absurd (well (omega (arith, rose, later)))
 
 -- the first failure ended the run, by what the end tells: an end that has a line tells of none
-pub strikes : (line : List ℕ) (of_end : Status) (before between after : OutsideSeen) (status : Status) → Tells line of_end between after status
-    → (line ≢ [] → (of_place of_end ≡ false) × (of_link of_end ≡ false)) → EndsAtOnce (of_place of_end) (of_link of_end) before between → Strikes before after status
+pub strikes : (line : List ℕ) (of_end : Status) (before between after : OutsideSeen) (status : Status)
+    → Tells line of_end between after status
+    → (line ≢ [] → (of_place of_end ≡ false) × (of_link of_end ≡ false))
+    → EndsAtOnce (of_place of_end) (of_link of_end) before between → Strikes before after status
 strikes line of_end before between after status tells lined once = by tells.line
   where
     place : after.place ≡ between.place
@@ -71,17 +88,26 @@ strikes line of_end before between after status tells lined once = by tells.line
       link = subst (λ (l : LinkSeen). LinkStops k before.link l) (sym link) ends.link;
     }
 
-    by : PrintedWhole line of_end between tells.lined status ⊎ PrintedShort line between tells.lined status → Strikes before after status
-    by (inl whole) = subst (λ (s : Status). Strikes before after s) (sym whole.ended) (moved (of_place of_end) (of_link of_end) once)
+    by : PrintedWhole line of_end between tells.lined status ⊎ PrintedShort line between tells.lined status
+        → Strikes before after status
+    by (inl whole) =
+        subst (λ (s : Status). Strikes before after s) (sym whole.ended) (moved (of_place of_end) (of_link of_end) once)
     by (inr short) =
         let none = lined short.some in
         subst (λ (s : Status). Strikes before after s) (sym short.ended)
-        (moved false false (subst (λ (p : Bool). EndsAtOnce p false before between) none.0 (subst (λ (k : Bool). EndsAtOnce (of_place of_end) k before between) none.1 once)))
+        (moved false false (subst (λ (p : Bool). EndsAtOnce p false before between) none.0
+        (subst (λ (k : Bool). EndsAtOnce (of_place of_end) k before between) none.1 once)))
 
 -- only words of no form end as usage
-pub usage_told : (e : End) (status : Status) (before after : OutsideSeen) → PrintedWhole (line_of e) (status_of e) before after status ⊎ PrintedShort (line_of e) before after status → (e ≢ end.Usage → status ≢ Usage)
+pub usage_told : (e : End) (status : Status) (before after : OutsideSeen)
+    → PrintedWhole (line_of e) (status_of e) before after status ⊎ PrintedShort (line_of e) before after status
+    → (e ≢ end.Usage → status ≢ Usage)
     → (status ≡ Usage) ↔ (e ≡ end.Usage)
-usage_told e status before after line known = (to e known, λ is. from (subst (λ (e : End). PrintedWhole (line_of e) (status_of e) before after status ⊎ PrintedShort (line_of e) before after status) is line))
+usage_told e status before after line known = (
+  to e known,
+  λ is. from (subst (λ (e : End). PrintedWhole (line_of e) (status_of e) before after status
+      ⊎ PrintedShort (line_of e) before after status) is line),
+)
   where
     to : (e : End) → (e ≢ end.Usage → status ≢ Usage) → status ≡ Usage → e ≡ end.Usage
     to end.Usage known is = refl
@@ -98,7 +124,8 @@ usage_told e status before after line known = (to e known, λ is. from (subst (�
     from (inr short) = absurd (short.some refl)
 
 -- and then nothing but the line of usage is printed
-pub refuses : (before after : OutsideSeen) (status : Status) → Tells [] Usage before after status → Refuses before after status
+pub refuses : (before after : OutsideSeen) (status : Status) → Tells [] Usage before after status
+    → Refuses before after status
 refuses before after status tells =
     let said = silent Usage before after status tells in
     record { ended = said.0; line = subst (λ (s : Status). PrintsLine (fault_text s) before after) said.0 said.1 }

@@ -10,18 +10,23 @@ use Rattle.pet_text.specs.Ends.{way_in}
 use Rattle.pet_text.specs.Words.{command_of}
 use Rattle.pet_text.specs.laws.WordLaws.{send_differs}
 
-other_file : (stream priority : List ℕ) (end : End) (words : List (List ℕ)) → command_of words ≡ Some (Send stream priority end) → IsOther (way_in end) stream
+other_file : (stream priority : List ℕ) (end : End) (words : List (List ℕ))
+    → command_of words ≡ Some (Send stream priority end) → IsOther (way_in end) stream
 other_file stream priority (File to) words is = send_differs stream priority to words is
 other_file stream priority (Udp address) words is = tt
 
 -- a file TO of `send` is another than the stream
-pub differs_in : (words : List (List ℕ)) (command : Command) (stream priority name : List ℕ) (way : Way) (end : End) → command_of words ≡ Some command → command ≡ Send stream priority end → name ≡ stream → way ≡ way_in end
+pub differs_in : (words : List (List ℕ)) (command : Command) (stream priority name : List ℕ) (way : Way) (end : End)
+    → command_of words ≡ Some command → command ≡ Send stream priority end → name ≡ stream → way ≡ way_in end
     → IsOther way name
 differs_in words command stream priority name way end words_are is name_is way_is =
     let sent : command_of words ≡ Some (Send stream priority end) = words_are ∙ ap (λ (c : Command). Some c) is in
-    subst (λ (w : Way). IsOther w name) (sym way_is) (subst (λ (s : List ℕ). IsOther (way_in end) s) (sym name_is) (other_file stream priority end words sent))
+    subst (λ (w : Way). IsOther w name) (sym way_is)
+    (subst (λ (s : List ℕ). IsOther (way_in end) s) (sym name_is) (other_file stream priority end words sent))
 
 -- the command, by the words that are handed to `check`
-pub check_words : (command : Command) (stream priority file s p f : List ℕ) → command ≡ Check stream priority file → s ≡ stream → p ≡ priority → f ≡ file → command ≡ Check s p f
+pub check_words : (command : Command) (stream priority file s p f : List ℕ) → command ≡ Check stream priority file
+    → s ≡ stream → p ≡ priority → f ≡ file → command ≡ Check s p f
 check_words command stream priority file s p f is s_is p_is f_is =
-    is ∙ ap (λ (x : List ℕ). Check x priority file) (sym s_is) ∙ ap (λ (x : List ℕ). Check s x file) (sym p_is) ∙ ap (λ (x : List ℕ). Check s p x) (sym f_is)
+    is ∙ ap (λ (x : List ℕ). Check x priority file) (sym s_is) ∙ ap (λ (x : List ℕ). Check s x file) (sym p_is)
+    ∙ ap (λ (x : List ℕ). Check s p x) (sym f_is)

@@ -30,7 +30,8 @@ use Rattle.pet_tool.specs.Undisturbed.{IsUndisturbed, IsUndisturbedOn, EndsWith}
 -- two files that are told and an accepted session are planned
 abbrev pub CompletesPlan : List ℕ → List ℕ → OutsideSeen → OutsideSeen → Status → Type 0
 CompletesPlan stream priority before after status =
-    (p b : List ℕ) → IsUndisturbed (reading stream ∷ reading priority ∷ []) before after status → IsGiven before.place stream priority p b
+    (p b : List ℕ) → IsUndisturbed (reading stream ∷ reading priority ∷ []) before after status
+    → IsGiven before.place stream priority p b
     → EndsWith Done (session_plan p b) before after status
 
 -- and the plan that is printed of them is checked
@@ -43,26 +44,36 @@ CompletesCheck stream priority plan before after status =
 -- and their packets are sent, where the link had no fault either
 abbrev pub CompletesSend : List ℕ → List ℕ → Way → OutsideSeen → OutsideSeen → Status → Type 0
 CompletesSend stream priority to before after status =
-    (p b : List ℕ) → IsUndisturbedOn (AimedFailed to) (uses stream priority to) before after status → IsGiven before.place stream priority p b
+    (p b : List ℕ) → IsUndisturbedOn (AimedFailed to) (uses stream priority to) before after status
+    → IsGiven before.place stream priority p b
     → SendsAll to p b before after × EndsWith Done (sent_line_text p b) before after status
 
 -- two stores of one session are merged into the store of the packets that the one or the other has
 abbrev pub CompletesMerge : List ℕ → List ℕ → List ℕ → OutsideSeen → OutsideSeen → Status → Type 0
 CompletesMerge first second out before after status =
-    (s : Session) (files : Files) (a b : List Pair) → IsUndisturbed (reading first ∷ reading second ∷ writing out ∷ []) before after status → HasStoresOf s first second files a b before.place
-    → (after.place.files ≡ Some (with_file out (pairs_store s (a ++ b)) files)) × EndsWith Done (merged_text (length (met_frames s (a ++ b)))) before after status
+    (s : Session) (files : Files) (a b : List Pair)
+    → IsUndisturbed (reading first ∷ reading second ∷ writing out ∷ []) before after status
+    → HasStoresOf s first second files a b before.place
+    → (after.place.files ≡ Some (with_file out (pairs_store s (a ++ b)) files))
+    × EndsWith Done (merged_text (length (met_frames s (a ++ b)))) before after status
 
 -- of a store of a session of a stream the bytes of the stream are written that are shown
 abbrev pub ShowsStream : List ℕ → List ℕ → OutsideSeen → OutsideSeen → Status → Type 0
 ShowsStream store out before after status =
-    (p b : List ℕ) (files : Files) (pairs : List Pair) → IsUndisturbed (reading store ∷ writing out ∷ []) before after status → HasStoreOf p b store files pairs before.place
-    → (after.place.files ≡ Some (with_file out (stream_video p b pairs) files)) × EndsWith Done (video_text (length (stream_video p b pairs))) before after status
+    (p b : List ℕ) (files : Files) (pairs : List Pair)
+    → IsUndisturbed (reading store ∷ writing out ∷ []) before after status
+    → HasStoreOf p b store files pairs before.place
+    → (after.place.files ≡ Some (with_file out (stream_video p b pairs) files))
+    × EndsWith Done (video_text (length (stream_video p b pairs))) before after status
 
 -- and where every layer of every group is shown, as after a `receive` that was Done, the stream itself
 abbrev pub GivesStream : List ℕ → List ℕ → OutsideSeen → OutsideSeen → Status → Type 0
 GivesStream store out before after status =
-    (p b : List ℕ) (files : Files) (pairs : List Pair) → IsUndisturbed (reading store ∷ writing out ∷ []) before after status → HasStoreOf p b store files pairs before.place
-    → all_shown (session_of p b) pairs ≡ true → (after.place.files ≡ Some (with_file out b files)) × EndsWith Done (video_text (length b)) before after status
+    (p b : List ℕ) (files : Files) (pairs : List Pair)
+    → IsUndisturbed (reading store ∷ writing out ∷ []) before after status
+    → HasStoreOf p b store files pairs before.place
+    → all_shown (session_of p b) pairs ≡ true
+    → (after.place.files ≡ Some (with_file out b files)) × EndsWith Done (video_text (length b)) before after status
 
 -- both
 pub record CompletesVideo (store out : List ℕ) (before after : OutsideSeen) (status : Status) : Type 0 where
@@ -73,8 +84,11 @@ pub record CompletesVideo (store out : List ℕ) (before after : OutsideSeen) (s
 abbrev pub Completes : Option Command → OutsideSeen → OutsideSeen → Status → Type 0
 Completes None before after status = Unit {0}
 Completes (Some (Plan stream priority)) before after status = CompletesPlan stream priority before after status
-Completes (Some (Check stream priority plan)) before after status = CompletesCheck stream priority plan before after status
-Completes (Some (Send stream priority to)) before after status = CompletesSend stream priority (way_in to) before after status
-Completes (Some (Receive from session layers store)) before after status = MeetsHeadline (way_in from) session layers store before after status
+Completes (Some (Check stream priority plan)) before after status =
+    CompletesCheck stream priority plan before after status
+Completes (Some (Send stream priority to)) before after status =
+    CompletesSend stream priority (way_in to) before after status
+Completes (Some (Receive from session layers store)) before after status =
+    MeetsHeadline (way_in from) session layers store before after status
 Completes (Some (Merge first second out)) before after status = CompletesMerge first second out before after status
 Completes (Some (Video store out)) before after status = CompletesVideo store out before after status

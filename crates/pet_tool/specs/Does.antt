@@ -27,14 +27,16 @@ abbrev pub Strikes : OutsideSeen → OutsideSeen → Status → Type 0
 Strikes before after status = EndsAtOnce (of_place status) (of_link status) before after
 
 -- A command did what it does at one of its ends, and then the run told of that end; the first failure ended it.
-pub record Runs {E : Type 0} (of : E → End) (Did : OutsideSeen → OutsideSeen → E → Type 0) (before after : OutsideSeen) (status : Status) : Type 0 where
+pub record Runs {E : Type 0} (of : E → End) (Did : OutsideSeen → OutsideSeen → E → Type 0) (before after : OutsideSeen)
+    (status : Status) : Type 0 where
   pub between : OutsideSeen
   pub end : E
   pub did : Did before between end
   pub tells : Tells (line_of (of end)) (status_of (of end)) between after status
   pub once : Strikes before after status
 
--- a command that uses files alone: it sends nothing and prints nothing; one that reads them alone changes none, and counts no step
+-- a command that uses files alone: it sends nothing and prints nothing; one that reads them alone changes none, and
+-- counts no step
 pub record OnFiles {E : Type 0} (Did : Seen → Seen → E → Type 0) (before after : OutsideSeen) (end : E) : Type 0 where
   pub link : after.link ≡ before.link
   pub written : after.written ≡ before.written
@@ -54,9 +56,14 @@ pub record Refuses (before after : OutsideSeen) (status : Status) : Type 0 where
 -- a case for each form of words
 abbrev pub Does : Option Command → OutsideSeen → OutsideSeen → Status → Type 0
 Does None before after status = Refuses before after status
-Does (Some (Plan stream priority)) before after status = Runs end.Plan (OnRead (PlanEnds stream priority)) before after status
-Does (Some (Check stream priority plan)) before after status = Runs end.Check (OnRead (λ old new. Checks old new stream priority plan)) before after status
-Does (Some (Send stream priority to)) before after status = Runs end.Send (Sends stream priority (way_in to)) before after status
-Does (Some (Receive from session layers store)) before after status = Runs end.Receive (Receives (way_in from) session layers store) before after status
-Does (Some (Merge first second out)) before after status = Runs end.Merge (OnFiles (Merges first second out)) before after status
+Does (Some (Plan stream priority)) before after status =
+    Runs end.Plan (OnRead (PlanEnds stream priority)) before after status
+Does (Some (Check stream priority plan)) before after status =
+    Runs end.Check (OnRead (λ old new. Checks old new stream priority plan)) before after status
+Does (Some (Send stream priority to)) before after status =
+    Runs end.Send (Sends stream priority (way_in to)) before after status
+Does (Some (Receive from session layers store)) before after status =
+    Runs end.Receive (Receives (way_in from) session layers store) before after status
+Does (Some (Merge first second out)) before after status =
+    Runs end.Merge (OnFiles (Merges first second out)) before after status
 Does (Some (Video store out)) before after status = Runs end.Video (OnFiles (Videos store out)) before after status

@@ -21,27 +21,38 @@ use Rattle.pet_text.specs.declared.status.Status.{Status}
 use Rattle.pet_text.specs.declared.status.Status.TheVariants.{Done, Incomplete, TurnsSpent}
 use Rattle.pet_tool.specs.Undisturbed.{IsUndisturbedOn, EndsWith}
 
--- LAYERS has each shown layer's exact bytes once, numbered by the arrival at which the group's distinct packets reached the
--- layer's count, STORE is the store of the session's packets that were met, and no other file has changed; the status is Done
--- exactly where every layer of every group is shown, and else Incomplete; the link, where FROM is one, receives at its address; the
--- lines printed are the defined ones; and the packets of each group carry the fewest stripes, of which no layer's count is above
+-- LAYERS has each shown layer's exact bytes once, numbered by the arrival at which the group's distinct packets reached
+-- the
+-- layer's count, STORE is the store of the session's packets that were met, and no other file has changed; the status
+-- is Done
+-- exactly where every layer of every group is shown, and else Incomplete; the link, where FROM is one, receives at its
+-- address; the
+-- lines printed are the defined ones; and the packets of each group carry the fewest stripes, of which no layer's count
+-- is above
 -- its declared need.
-pub record ReceivesSession (s : Session) (from : Way) (layers store : List ℕ) (files : Files) (ds : List (List ℕ)) (before after : OutsideSeen) (status : Status) : Type 0 where
-  pub written : after.place.files ≡ Some (with_file store (session_store s ds) (with_file layers (layers_text s ds) files))
-  pub ends : EndsWith (if all_shown s (met_in s.number ds) then Done else Incomplete) (port_line from after.link ++ session_numbers s ds) before after status
+pub record ReceivesSession (s : Session) (from : Way) (layers store : List ℕ) (files : Files) (ds : List (List ℕ))
+    (before after : OutsideSeen) (status : Status) : Type 0 where
+  pub written : after.place.files
+      ≡ Some (with_file store (session_store s ds) (with_file layers (layers_text s ds) files))
+  pub ends : EndsWith (if all_shown s (met_in s.number ds) then Done else Incomplete)
+      (port_line from after.link ++ session_numbers s ds) before after status
   pub listens : IsBoundTo from before.link after.link
   pub fewest : All CarriesFewestStripes s.groups
 
--- For every session, and every FROM, a file or a link that tells what is to come, of which each datagram that is a frame of the
+-- For every session, and every FROM, a file or a link that tells what is to come, of which each datagram that is a
+-- frame of the
 -- session's number is one of its packets.
 abbrev pub Headline : Way → List ℕ → List ℕ → List ℕ → OutsideSeen → OutsideSeen → Status → Type 0
 Headline from session layers store before after status =
-    (s : Session) (files : Files) (ds : List (List ℕ)) → session ≡ s.number → IsUndisturbedOn (BoundFailed from) (uses_of from layers store) before after status
+    (s : Session) (files : Files) (ds : List (List ℕ)) → session ≡ s.number
+    → IsUndisturbedOn (BoundFailed from) (uses_of from layers store) before after status
     → HasPacketsOf s from files ds before → ReceivesSession s from layers store files ds before after status
 
--- A priority file and a stream of these bytes are an accepted session, and FROM has fewer than 16,777,216 datagrams, each
+-- A priority file and a stream of these bytes are an accepted session, and FROM has fewer than 16,777,216 datagrams,
+-- each
 -- of which is one that `send` sends of that session: any of them may be lost, repeated, or come in another order.
-pub record HasWhatWasSent (priority stream : List ℕ) (from : Way) (files : Files) (ds : List (List ℕ)) (old : OutsideSeen) : Type 0 where
+pub record HasWhatWasSent (priority stream : List ℕ) (from : Way) (files : Files) (ds : List (List ℕ))
+    (old : OutsideSeen) : Type 0 where
   pub stream_bytes : All (λ b. b < 256) stream
   pub accepted : IsAcceptedSession priority stream
   pub told : old.place.files ≡ Some files
@@ -52,17 +63,21 @@ pub record HasWhatWasSent (priority stream : List ℕ) (from : Way) (files : Fil
 -- then `receive` gives the layers of that stream, and the store of the packets that came
 abbrev pub ReceivesWhatWasSent : Way → List ℕ → List ℕ → List ℕ → OutsideSeen → OutsideSeen → Status → Type 0
 ReceivesWhatWasSent from session layers store before after status =
-    (p b : List ℕ) (files : Files) (ds : List (List ℕ)) → session ≡ session_number p b → IsUndisturbedOn (BoundFailed from) (uses_of from layers store) before after status
-    → HasWhatWasSent p b from files ds before → ReceivesSession (session_of p b) from layers store files ds before after status
+    (p b : List ℕ) (files : Files) (ds : List (List ℕ)) → session ≡ session_number p b
+    → IsUndisturbedOn (BoundFailed from) (uses_of from layers store) before after status
+    → HasWhatWasSent p b from files ds before
+    → ReceivesSession (session_of p b) from layers store files ds before after status
 
--- At each status that comes once both files are written, STORE has a kept set of the session, and LAYERS names exactly the layers whose
+-- At each status that comes once both files are written, STORE has a kept set of the session, and LAYERS names exactly
+-- the layers whose
 -- counts it reaches, each once: of a file and of any link, whether or not it tells what came.
 abbrev pub NamesWhatItStores : List ℕ → List ℕ → List ℕ → OutsideSeen → OutsideSeen → Status → Type 0
 NamesWhatItStores session layers store before after status =
     (status ≡ Done) ⊎ (status ≡ Incomplete) ⊎ (status ≡ TurnsSpent) → NamesStored session layers store before after
 
 -- all three
-pub record MeetsHeadline (from : Way) (session layers store : List ℕ) (before after : OutsideSeen) (status : Status) : Type 0 where
+pub record MeetsHeadline (from : Way) (session layers store : List ℕ) (before after : OutsideSeen)
+    (status : Status) : Type 0 where
   pub headline : Headline from session layers store before after status
   pub of_send : ReceivesWhatWasSent from session layers store before after status
   pub named : NamesWhatItStores session layers store before after status

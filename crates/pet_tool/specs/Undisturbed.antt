@@ -15,7 +15,8 @@ pub record IsUndisturbed (uses : List Blame) (before after : OutsideSeen) (statu
   pub well : IsWell uses before after
 
 -- and the link had no such fault
-pub record IsUndisturbedOn (failed : LinkSeen → LinkSeen → Type 0) (uses : List Blame) (before after : OutsideSeen) (status : Status) : Type 0 where
+pub record IsUndisturbedOn (failed : LinkSeen → LinkSeen → Type 0) (uses : List Blame) (before after : OutsideSeen)
+    (status : Status) : Type 0 where
   pub calm : IsUndisturbed uses before after status
   pub link : failed before.link after.link → ⊥
 

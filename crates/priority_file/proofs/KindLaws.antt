@@ -1,5 +1,7 @@
 -- Lists of classes and their sets.
-use Rattle.std.proofs.Common.{nat_eq, ◌^◌, ◌*◌, ◌+◌, nat_lt, ◌<◌, ◌≡◌, ℕ, Bool, true, false, cond, not, ◌==◌, ◌||◌, bit_and, bit_or, List, [], ◌∷◌, ◌++◌, length, take, get_or, append-nil, refl, ap, sym, ◌∙◌, arith, fold, count_by, flat_map, inl, inr}
+use Rattle.std.proofs.Common.{nat_eq, ◌^◌, ◌*◌, ◌+◌, nat_lt, ◌<◌, ◌≡◌, ℕ, Bool, true, false, cond, not, ◌==◌, ◌||◌}
+use Rattle.std.proofs.Common.{bit_and, bit_or, List, [], ◌∷◌, ◌++◌, length, take, get_or, append-nil, refl, ap, sym}
+use Rattle.std.proofs.Common.{◌∙◌, arith, fold, count_by, flat_map, inl, inr}
 use Rattle.std.specs.List.{list_any}
 use Rattle.std.proofs.lemmas.Bool.{cases_Bool}
 use Rattle.std.proofs.lemmas.Bool.Decides.{nat_tests}
@@ -66,7 +68,8 @@ or_assoc : (a b c : Bool) → ((a || b) || c) ≡ (a || (b || c))
 or_assoc true b c = refl
 or_assoc false b c = refl
 
-has_class-fold : (bits : ℕ) (k : ℕ) (ks : List ℕ) → has_class (fold (λ s l. bit_or s (2 ^ l)) bits ks) k ≡ (has_class bits k || lists k ks)
+has_class-fold : (bits : ℕ) (k : ℕ) (ks : List ℕ)
+    → has_class (fold (λ s l. bit_or s (2 ^ l)) bits ks) k ≡ (has_class bits k || lists k ks)
 has_class-fold bits k [] = sym (or_false (has_class bits k) false refl)
 has_class-fold bits k (l ∷ ks) =
     has_class-fold (bit_or bits (2 ^ l)) k ks
@@ -79,7 +82,8 @@ has_class-bits_of k ks =
     let none : has_class 0 k ≡ false = ap (λ n. not (n == 0)) (and_zero_l (2 ^ k)) in
     has_class-fold 0 k ks ∙ ap (λ b. b || lists k ks) none
 
-pub list_any-append : {A : Type 0} (p : A → Bool) (xs ys : List A) → list_any p (xs ++ ys) ≡ (list_any p xs || list_any p ys)
+pub list_any-append : {A : Type 0} (p : A → Bool) (xs ys : List A)
+    → list_any p (xs ++ ys) ≡ (list_any p xs || list_any p ys)
 list_any-append p [] ys = refl
 list_any-append p (x ∷ xs) ys =
     ap (λ b. p x || b) (list_any-append p xs ys) ∙ sym (or_assoc (p x) (list_any p xs) (list_any p ys))
@@ -88,7 +92,8 @@ pub or_parts : (a b : Bool) → (a || b) ≡ false → (a ≡ false) × (b ≡ f
 or_parts true b h = absurd (cc)
 or_parts false b h = (refl, h)
 
-has_repeat-back : {A : Type 0} (same : A → A → Bool) (xs ys : List A) → has_repeat same (xs ++ ys) ≡ false → has_repeat same ys ≡ false
+has_repeat-back : {A : Type 0} (same : A → A → Bool) (xs ys : List A) → has_repeat same (xs ++ ys) ≡ false
+    → has_repeat same ys ≡ false
 has_repeat-back same [] ys h = h
 has_repeat-back same (x ∷ xs) ys h =
     has_repeat-back same xs ys (or_parts (list_any (same x) (xs ++ ys)) (has_repeat same (xs ++ ys)) h).1
@@ -100,7 +105,8 @@ lists-apart k (x ∷ xs) ys h has =
     let parts = or_parts (list_any (nat_eq x) (xs ++ ys)) (has_repeat nat_eq (xs ++ ys)) h in
     elim (cases_Bool (nat_eq k x)) [
       | inl same ↦
-          let both = or_parts (list_any (nat_eq x) xs) (list_any (nat_eq x) ys) (sym (list_any-append (nat_eq x) xs ys) ∙ parts.0) in
+          let both = or_parts (list_any (nat_eq x) xs) (list_any (nat_eq x) ys)
+          (sym (list_any-append (nat_eq x) xs ys) ∙ parts.0) in
           let equal : lists k ys ≡ lists x ys = ap (λ n. list_any (λ y. n == y) ys) (sym (same_index k x same)) in
           equal ∙ both.1
       | inr other ↦
@@ -117,10 +123,12 @@ layers_listing k ls = count_by (λ l. lists k l.kinds) ls
 pub none_lists : (k : ℕ) (ls : List LayerText) → lists k (listed_in ls) ≡ false → layers_listing k ls ≡ 0
 none_lists k [] h = refl
 none_lists k (l ∷ ls) h =
-    let parts = or_parts (lists k l.kinds) (lists k (listed_in ls)) (sym (list_any-append (nat_eq k) l.kinds (listed_in ls)) ∙ h) in
+    let parts = or_parts (lists k l.kinds) (lists k (listed_in ls))
+    (sym (list_any-append (nat_eq k) l.kinds (listed_in ls)) ∙ h) in
     sum_by-cons (λ x. cond (lists k x.kinds) 1 0) l ls ∙ rw (parts.0) (omega (arith, none_lists k ls parts.1))
 
-pub one_lists : (k : ℕ) (ls : List LayerText) → has_repeat nat_eq (listed_in ls) ≡ false → lists k (listed_in ls) ≡ true → layers_listing k ls ≡ 1
+pub one_lists : (k : ℕ) (ls : List LayerText) → has_repeat nat_eq (listed_in ls) ≡ false
+    → lists k (listed_in ls) ≡ true → layers_listing k ls ≡ 1
 one_lists k [] h has = absurd (cc)
 one_lists k (l ∷ ls) h has =
     elim (cases_Bool (lists k l.kinds)) [
@@ -129,12 +137,15 @@ one_lists k (l ∷ ls) h has =
           sum_by-cons (λ x. cond (lists k x.kinds) 1 0) l ls ∙ rw here (omega (arith, rest))
       | inr later ↦
           let more : lists k (listed_in ls) ≡ true =
-          sym (ap (λ b. b || lists k (listed_in ls)) later) ∙ sym (list_any-append (nat_eq k) l.kinds (listed_in ls)) ∙ has in
+          sym (ap (λ b. b || lists k (listed_in ls)) later) ∙ sym (list_any-append (nat_eq k) l.kinds (listed_in ls))
+          ∙ has in
           let rest = one_lists k ls (has_repeat-back nat_eq l.kinds (listed_in ls) h) more in
           sum_by-cons (λ x. cond (lists k x.kinds) 1 0) l ls ∙ rw later (omega (arith, rest))
     ]
 
 -- the lists of one element more
-pub flat_map_more : {X A : Type 0} (f : X → List A) (xs : List X) (i : ℕ) (x : X) → i < length xs → x ≡ get_or xs i x → flat_map f (take (i + 1) xs) ≡ flat_map f (take i xs) ++ f x
+pub flat_map_more : {X A : Type 0} (f : X → List A) (xs : List X) (i : ℕ) (x : X) → i < length xs → x ≡ get_or xs i x
+    → flat_map f (take (i + 1) xs) ≡ flat_map f (take i xs) ++ f x
 flat_map_more f xs i x within is =
-    ap (flat_map f) (take_more xs i x within) ∙ (flat_map-append f (take i xs) (get_or xs i x ∷ []) ∙ rw (← is, flat_map-cons f x [], append-nil (f x)))
+    ap (flat_map f) (take_more xs i x within)
+    ∙ (flat_map-append f (take i xs) (get_or xs i x ∷ []) ∙ rw (← is, flat_map-cons f x [], append-nil (f x)))

@@ -1,6 +1,7 @@
 -- A priority file as it is written, this project's own: the typed values of its members, before a number, a name or a
 -- kind is looked at.
-use Rattle.std.specs.Prelude.{codes, ℕ, ℤ, pos, List, [], ◌∷◌, Option, Some, option_map, option_and_then, unwrap_or, position, if◌then◌else◌, bytes_eq}
+use Rattle.std.specs.Prelude.{codes, ℕ, ℤ, pos, List, [], ◌∷◌, Option, Some, option_map, option_and_then, unwrap_or}
+use Rattle.std.specs.Prelude.{position, if◌then◌else◌, bytes_eq}
 use Rattle.toml.specs.Data.{Data, Items, no_items, item, Members, get_member, as_str, as_integer, as_table}
 use Rattle.priority_file.specs.declared.draft.Need.{Need}
 use Rattle.priority_file.specs.declared.draft.Need.TheVariants.{Packets, Percent}

@@ -1,7 +1,9 @@
 -- The kinds of pieces and the places of P and B pictures, as this project's own sets of bits. What a kind is follows
--- ISO/IEC 11172-2 (start codes and picture_coding_type). A class is a kind, or a place of the P or of the B pictures of a
+-- ISO/IEC 11172-2 (start codes and picture_coding_type). A class is a kind, or a place of the P or of the B pictures of
+-- a
 -- group, which are each numbered from 1 in stream order. It is named by the number of its bit.
-use Rattle.std.specs.Prelude.{ℕ, ◌+◌, ◌^◌, Bool, true, false, not, ◌&&◌, ◌==◌, nat_lt, List, [], ◌∷◌, Option, Some, None, fold, bit_and, bit_or, if◌then◌else◌}
+use Rattle.std.specs.Prelude.{ℕ, ◌+◌, ◌^◌, Bool, true, false, not, ◌&&◌, ◌==◌, nat_lt, List, [], ◌∷◌, Option, Some}
+use Rattle.std.specs.Prelude.{None, fold, bit_and, bit_or, if◌then◌else◌}
 use Rattle.std.specs.List.{list_any}
 use Rattle.pet_base.specs.declared.Kind.{Kind}
 use Rattle.pet_base.specs.declared.Kind.TheVariants.{Head, I, P, B, D}

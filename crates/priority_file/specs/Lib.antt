@@ -4,5 +4,5 @@ pub mod Document
 pub mod Draft
 pub mod Bounds
 pub mod Refusals
-pub mod Stages
+pub mod inside
 pub mod laws

@@ -1,6 +1,8 @@
--- What a priority is, which is this project's own: a number of packets, and layers that each have a name, a set of kinds
+-- What a priority is, which is this project's own: a number of packets, and layers that each have a name, a set of
+-- kinds
 -- and places, and a need, which is the number of packets that show the layer.
-use Rattle.std.specs.Prelude.{◌≡◌, ◌<◌, ℕ, Bool, false, not, ◌&&◌, ◌==◌, nat_lt, List, [], ◌∷◌, length, count_by, slice_get, IsTrue, IfSome, Option, option_and_then, unwrap_or, position}
+use Rattle.std.specs.Prelude.{◌≡◌, ◌<◌, ℕ, Bool, false, not, ◌&&◌, ◌==◌, nat_lt, List, [], ◌∷◌, length, count_by}
+use Rattle.std.specs.Prelude.{slice_get, IsTrue, IfSome, Option, option_and_then, unwrap_or, position}
 use Rattle.std.specs.List.{list_all, list_any, position_or_len, range_with_len}
 use Rattle.pet_base.specs.declared.Kind.{Kind}
 use Rattle.pet_base.specs.declared.Kind.TheVariants.{Head, P, B}

@@ -1,5 +1,6 @@
 -- The refusal of a priority file, this project's own, and what an accepted file stands for.
-use Rattle.std.specs.Prelude.{ℕ, Bool, not, ◌&&◌, nat_lt, List, [], ◌∷◌, ◌++◌, map, length, Option, Some, None, is_none, if◌then◌else◌}
+use Rattle.std.specs.Prelude.{ℕ, Bool, not, ◌&&◌, nat_lt, List, [], ◌∷◌, ◌++◌, map, length, Option, Some, None, is_none}
+use Rattle.std.specs.Prelude.{if◌then◌else◌}
 use Rattle.pet_base.specs.declared.Kind.TheVariants.{I, D}
 use Rattle.pet_base.specs.declared.limits.TheConstants.{MAX_PRIORITY_FILE}
 use Rattle.priority_file.specs.declared.fault.PriorityFault.{PriorityFault}
@@ -8,7 +9,9 @@ use Rattle.priority_file.specs.Kinds.{index_of, lists, bits_of}
 use Rattle.priority_file.specs.Priority.{Rule, Priorities}
 use Rattle.priority_file.specs.Document.{document, members_in, has_unknown_key, misses_key}
 use Rattle.priority_file.specs.Draft.{LayerText, FileText, file_text, text_in}
-use Rattle.priority_file.specs.Bounds.{packets_of, need_in, listed_kinds, packets_out_of_range, need_out_of_range, has_bad_name, lists_kind_twice, misses_kind, head_is_not_first, has_too_many_layers}
+use Rattle.priority_file.specs.Bounds.{packets_of, need_in, listed_kinds, packets_out_of_range, need_out_of_range}
+use Rattle.priority_file.specs.Bounds.{has_bad_name, lists_kind_twice, misses_kind, head_is_not_first}
+use Rattle.priority_file.specs.Bounds.{has_too_many_layers}
 
 -- a test of the whole file, and the fault that it shows
 abbrev pub Row : Type 0

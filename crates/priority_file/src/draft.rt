@@ -3,7 +3,7 @@ ghost use Rattle.std.specs.Prelude.{◌≡◌, codes, option_map, option_and_the
 ghost use Rattle.toml.specs.Data.{get_member};
 ghost use Rattle.toml.specs.View.{view, table_view, array_view, items_view};
 ghost use Rattle.priority_file.specs.Draft.{class_of, each_of, need_of, layer_in, layer_of, file_text};
-ghost use Rattle.priority_file.specs.Stages.{Gives};
+ghost use Rattle.priority_file.specs.inside.Stages.{Gives};
 
 use crate::fault::PriorityFault;
 use crate::kinds::{Class, class_named};

@@ -3,7 +3,7 @@ ghost use Rattle.std.specs.Prelude.{◌≡◌, ◌≢◌, ◌++◌, None, Some, 
 ghost use Rattle.priority_file.specs.Kinds.{index_of, lists};
 ghost use Rattle.priority_file.specs.Bounds.{listed_kinds, packets_of, packets_out_of_range, need_out_of_range, has_bad_name, head_is_not_first};
 ghost use Rattle.priority_file.specs.Refusals.{first_of, number_rows, layer_rows, refusal_of, priorities_of, priorities_of_text};
-ghost use Rattle.priority_file.specs.Stages.{read_draft, read_document, read_members, read_bytes, Reads};
+ghost use Rattle.priority_file.specs.inside.Stages.{read_draft, read_document, read_members, read_bytes, Reads};
 ghost use Rattle.toml.specs.View.{table_view};
 ghost use Rattle.toml.specs.Parse.{parse_document};
 

@@ -1,4 +1,4 @@
 pub mod Video
 pub mod Leading
-pub mod Taking
+pub mod inside
 pub mod laws

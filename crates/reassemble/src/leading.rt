@@ -10,9 +10,9 @@ ghost use Rattle.pet_receive.specs.ShownBytes.{Agrees};
 ghost use Rattle.reassemble.specs.Leading.{AreLeading, AreShownBytes};
 
 use arrayvec::ArrayVec;
+use field_rows::Rows;
 use pet_base::MAX_LAYERS;
 use pet_receive::Receiver;
-use field_rows::Rows;
 
 /// The bytes of a layer that is shown.
 #[derive(Clone, Copy, Default)]

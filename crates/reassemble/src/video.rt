@@ -12,15 +12,15 @@ ghost use Rattle.reassemble.specs.declared.fault.Assemble.{Assemble};
 ghost use Rattle.reassemble.specs.Video.{group_video};
 ghost use Rattle.layer_split.specs.Bytes.{Begins};
 ghost use Rattle.reassemble.specs.Leading.{AreLeading, IsAssembled, IsUnfit, lengths_in};
-ghost use Rattle.reassemble.specs.Taking.{CanAppend, bytes_each, first_of};
+ghost use Rattle.reassemble.specs.inside.Taking.{CanAppend, bytes_each, first_of};
 
 use crate::fault::Assemble;
 use crate::leading::{ShownLayer, leading_layers};
 use arrayvec::ArrayVec;
+use field_rows::Rows;
 use layer_split::{NamedRun, read_run_table};
 use pet_base::{MAX_LAYERS, NoMemory};
 use pet_receive::Receiver;
-use field_rows::Rows;
 use stripe_plan::LayerSize;
 
 /// The bytes of a run table before its first entry.

@@ -1,6 +1,7 @@
 -- The store in a file, by what was read of it.
 use Rattle.std.specs.Prelude.{nat_lt, if◌then◌else◌, IfSome}
-use Rattle.std.proofs.Common.{◌≡◌, ◌≢◌, ℕ, ◌<◌, ◌≤◌, Bool, List, [], ◌++◌, length, Option, None, Some, Result, Err, sym, ap, ◌∙◌, arith, inl, inr}
+use Rattle.std.proofs.Common.{◌≡◌, ◌≢◌, ℕ, ◌<◌, ◌≤◌, Bool, List, [], ◌++◌, length, Option, None, Some, Result, Err, sym}
+use Rattle.std.proofs.Common.{ap, ◌∙◌, arith, inl, inr}
 use Rattle.std.proofs.lemmas.Bool.{cases_lt}
 use Rattle.std.proofs.lemmas.List.{append-nil, length-append}
 use Rattle.pet_base.specs.declared.limits.TheConstants.{MAX_SESSION, MAX_STORE}
@@ -22,7 +23,9 @@ abbrev read_to : ℕ → List ℕ → Result KeptSet BadStore
 read_to limit bytes = if nat_lt limit (length bytes) then Err (At limit Cut) else read_text MAX_SESSION bytes
 
 long_to : (limit : ℕ) (bytes : List ℕ) → limit < length bytes → read_to limit bytes ≡ Err (At limit Cut)
-long_to limit bytes long = ap (λ (b : Bool). if b then Err (At limit Cut) else read_text MAX_SESSION bytes) (short_by limit (length bytes) long)
+long_to limit bytes long =
+    ap (λ (b : Bool). if b then Err (At limit Cut) else read_text MAX_SESSION bytes)
+    (short_by limit (length bytes) long)
 
 longer : (limit : ℕ) (bytes more : List ℕ) → limit < length bytes → limit < length (bytes ++ more)
 longer limit bytes more long = omega (arith, long, length-append bytes more)
@@ -33,7 +36,8 @@ unfolding store_in
 store_long bytes long = long_to MAX_STORE bytes long
 
 -- what was read of a file tells what all of it is
-same_to : (limit : ℕ) (bytes more : List ℕ) → (length bytes ≤ limit → more ≡ []) → read_to limit (bytes ++ more) ≡ read_to limit bytes
+same_to : (limit : ℕ) (bytes more : List ℕ) → (length bytes ≤ limit → more ≡ [])
+    → read_to limit (bytes ++ more) ≡ read_to limit bytes
 same_to limit bytes more whole =
     elim (cases_lt limit (length bytes)) [
       | inl long ↦ long_to limit (bytes ++ more) (longer limit bytes more long) ∙ sym (long_to limit bytes long)
@@ -44,22 +48,28 @@ same_store : (bytes more : List ℕ) → (length bytes ≤ MAX_STORE → more �
 unfolding store_in
 same_store bytes more whole = same_to MAX_STORE bytes more whole
 
-store_at : (files : Option Files) (name bytes more : List ℕ) (result : Result KeptSet BadStore) → IfSome files (λ f. f name ≡ Some (bytes ++ more)) → store_in (bytes ++ more) ≡ result
+store_at : (files : Option Files) (name bytes more : List ℕ) (result : Result KeptSet BadStore)
+    → IfSome files (λ f. f name ≡ Some (bytes ++ more)) → store_in (bytes ++ more) ≡ result
     → HasFile files name (λ bytes. store_in bytes ≡ result)
 store_at None name bytes more result file is = tt
 store_at (Some f) name bytes more result file is = (bytes ++ more, file, is)
 
-pub store_of_file : (files : Option Files) (name slice bytes : List ℕ) (result : Result KeptSet BadStore) → slice ≡ bytes → IsFrontOf MAX_STORE bytes files name → store_in slice ≡ result
+pub store_of_file : (files : Option Files) (name slice bytes : List ℕ) (result : Result KeptSet BadStore)
+    → slice ≡ bytes → IsFrontOf MAX_STORE bytes files name → store_in slice ≡ result
     → HasFile files name (λ bytes. store_in bytes ≡ result)
 store_of_file files name slice bytes result lent front is =
-    store_at files name bytes front.more result front.told (same_store bytes front.more front.whole ∙ sym (ap store_in lent) ∙ is)
+    store_at files name bytes front.more result front.told
+    (same_store bytes front.more front.whole ∙ sym (ap store_in lent) ∙ is)
 
 -- why the file was not read, and why it has no store
-pub stop_read : (old new : Seen) (name : List ℕ) (stop : Stop) → Licensed (HadFault old new (IsRead name)) stop → IsStop old new name (stop_of_place stop)
+pub stop_read : (old new : Seen) (name : List ℕ) (stop : Stop) → Licensed (HadFault old new (IsRead name)) stop
+    → IsStop old new name (stop_of_place stop)
 stop_read old new name place.NoMemory had = tt
 stop_read old new name place.Failed had = had
 
-pub stop_refused : (old new : Seen) (name slice bytes : List ℕ) (fault : BadStore) → slice ≡ bytes → IsFrontOf MAX_STORE bytes old.files name → (fault ≢ NoMemory → store_in slice ≡ Err fault)
+pub stop_refused : (old new : Seen) (name slice bytes : List ℕ) (fault : BadStore) → slice ≡ bytes
+    → IsFrontOf MAX_STORE bytes old.files name → (fault ≢ NoMemory → store_in slice ≡ Err fault)
     → IsStop old new name (stop_of_store fault)
 stop_refused old new name slice bytes NoMemory lent front is = tt
-stop_refused old new name slice bytes (At at kind) lent front is = store_of_file old.files name slice bytes (Err (At at kind)) lent front (is (λ e. cc))
+stop_refused old new name slice bytes (At at kind) lent front is =
+    store_of_file old.files name slice bytes (Err (At at kind)) lent front (is (λ e. cc))

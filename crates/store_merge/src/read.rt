@@ -12,7 +12,8 @@ ghost use Rattle.store_merge.specs.Reading.{store_steps};
 ghost use Rattle.store_text.specs.Store.{store_text};
 ghost use Rattle.store_text.specs.Refusals.{read_text, read_entries, is_whole, datagram_in, entry_length, tag_at};
 ghost use Rattle.store_text.specs.declared.format.TheConstants.{MARK, HEAD_LENGTH};
-ghost use Rattle.store_merge.specs.Reading.{frame_of, fault_of, fault_by, is_next, pairs_in, IsReadTo};
+ghost use Rattle.store_merge.specs.Reading.{pairs_in};
+ghost use Rattle.store_merge.specs.inside.Reading.{frame_of, fault_of, fault_by, is_next, IsReadTo};
 
 use field_rows::Rows;
 use packet_verdicts::{Verdict, group_of, number_of};

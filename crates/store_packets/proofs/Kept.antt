@@ -1,6 +1,7 @@
 -- A store of the first version with the packets that a receiver may keep today.
 use Rattle.std.specs.Prelude.{if◌then◌else◌}
-use Rattle.std.proofs.Common.{◌≡◌, ℕ, ◌+◌, ◌≤◌, suc, false, nat_lt, List, [], ◌∷◌, length, take, All, None, Some, Ok, refl, ap, ◌∙◌, arith, sum_by}
+use Rattle.std.proofs.Common.{◌≡◌, ℕ, ◌+◌, ◌≤◌, suc, false, nat_lt, List, [], ◌∷◌, length, take, All, None, Some, Ok}
+use Rattle.std.proofs.Common.{refl, ap, ◌∙◌, arith, sum_by}
 use Rattle.std.specs.Str.{bytes_eq}
 use Rattle.std.proofs.Math.Nat.{mul-le-mul_left}
 use Rattle.std.proofs.lemmas.Bool.{le-ltb}
@@ -47,36 +48,51 @@ are_old f is =
 -- a group cost less in the first version
 cheaper : (p : Packets) → cost_in_form OLD_STORE_FORM p ≤ cost_in p
 cheaper p =
-    let less : length_by p.word OLD_STORE_FORM.frames.bounds.bare p.header.table.layers ≤ length_by p.word BOUNDS.bare p.header.table.layers = omega arith in
+    let less : length_by p.word OLD_STORE_FORM.frames.bounds.bare p.header.table.layers
+    ≤ length_by p.word BOUNDS.bare p.header.table.layers = omega arith in
     mul-le-mul_left p.header.table.packets less
 
-all_cheaper : (es : List (ℕ × Packets)) → sum_by (λ e. cost_in_form OLD_STORE_FORM e.1) es ≤ sum_by (λ e. cost_in e.1) es
+all_cheaper : (es : List (ℕ × Packets))
+    → sum_by (λ e. cost_in_form OLD_STORE_FORM e.1) es ≤ sum_by (λ e. cost_in e.1) es
 all_cheaper [] = omega arith
 all_cheaper (e ∷ es) =
-    omega (arith, cheaper e.1, all_cheaper es, sum_by-cons (λ (d : ℕ × Packets). cost_in_form OLD_STORE_FORM d.1) e es, sum_by-cons (λ (d : ℕ × Packets). cost_in d.1) e es)
+    omega (
+      arith,
+      cheaper e.1,
+      all_cheaper es,
+      sum_by-cons (λ (d : ℕ × Packets). cost_in_form OLD_STORE_FORM d.1) e es,
+      sum_by-cons (λ (d : ℕ × Packets). cost_in d.1) e es,
+    )
 
 -- a kept set has no fault today
-no_fault : (session : List ℕ) (es : List (ℕ × Packets)) (limit spent : ℕ) → All (λ e. IsKeptGroup session e.0 e.1) es → spent + sum_by (λ e. cost_in e.1) es ≤ limit
+no_fault : (session : List ℕ) (es : List (ℕ × Packets)) (limit spent : ℕ) → All (λ e. IsKeptGroup session e.0 e.1) es
+    → spent + sum_by (λ e. cost_in e.1) es ≤ limit
     → then_wide (first_wide es) (then_full (first_over limit spent es)) ≡ None
 no_fault session [] limit spent kept fits = ap then_full (over_none limit spent)
 no_fault session (e ∷ es) limit spent kept fits =
     let group = kept 0 e (omega arith) in
     let cost = cost_of e.1.header.table.packets (layers_of e.1) in
     let is : cost_in e.1 ≡ cost = ap (λ w. cost_by w e.1.header.table.packets e.1.header.table.layers) group.word_is in
-    let short : datagram_length_of (layers_of e.1) ≤ MAX_DATAGRAM = (group_frame session e.0 e.1 group).frame.table.narrow in
+    let short : datagram_length_of (layers_of e.1) ≤ MAX_DATAGRAM =
+    (group_frame session e.0 e.1 group).frame.table.narrow in
     let narrow : is_wide (layers_of e.1) ≡ false = le-ltb MAX_DATAGRAM (datagram_length_of (layers_of e.1)) short in
     let sums = sum_by-cons (λ (d : ℕ × Packets). cost_in d.1) e es in
     let within : nat_lt limit (spent + cost) ≡ false = le-ltb limit (spent + cost) (omega (arith, fits, is, sums)) in
     wide_step e es (then_full (first_over limit spent (e ∷ es)))
-    ∙ ap (λ b. if b then Some (TooWide e.0) else then_wide (first_wide es) (then_full (first_over limit spent (e ∷ es)))) narrow
-    ∙ ap (λ o. then_wide (first_wide es) (then_full o)) (over_step limit spent e es ∙ ap (λ b. if b then Some e.0 else first_over limit (spent + cost) es) within)
-    ∙ no_fault session es limit (spent + cost) (λ i d lt. kept (suc i) d (omega (arith, lt))) (omega (arith, fits, is, sums))
+    ∙ ap (λ b. if b then Some (TooWide e.0) else then_wide (first_wide es)
+    (then_full (first_over limit spent (e ∷ es)))) narrow
+    ∙ ap (λ o. then_wide (first_wide es) (then_full o))
+    (over_step limit spent e es ∙ ap (λ b. if b then Some e.0 else first_over limit (spent + cost) es) within)
+    ∙ no_fault session es limit (spent + cost) (λ i d lt. kept (suc i) d (omega (arith, lt)))
+    (omega (arith, fits, is, sums))
 
-other_mark : (session : List ℕ) (frames : List Fields) → bytes_eq (take 4 (store_of_in OLD_STORE_FORM session frames)) STORE_FORM.mark ≡ false
+other_mark : (session : List ℕ) (frames : List Fields)
+    → bytes_eq (take 4 (store_of_in OLD_STORE_FORM session frames)) STORE_FORM.mark ≡ false
 unfolding store_of_in
 other_mark session frames = refl
 
-pub kept_law : (limit : ℕ) (bytes : List ℕ) (set : KeptSet) → IsKeptSet set → length set.session ≡ 8 → cost_kept set ≤ limit → bytes ≡ old_store_text set → migrated limit bytes ≡ Ok (record set { limit = limit })
+pub kept_law : (limit : ℕ) (bytes : List ℕ) (set : KeptSet) → IsKeptSet set → length set.session ≡ 8
+    → cost_kept set ≤ limit → bytes ≡ old_store_text set → migrated limit bytes ≡ Ok (record set { limit = limit })
 kept_law limit bytes set sound eight fits is =
     let costs : costs_in OLD_STORE_FORM set ≤ limit = omega (arith, all_cheaper set.groups, fits) in
     let read = written_is_read_in OLD_STORE_FORM old_store_form_is are_old set limit sound eight costs in

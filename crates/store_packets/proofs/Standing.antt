@@ -28,7 +28,7 @@ use Rattle.store_text.specs.declared.fault.StoreKind.TheVariants.{Session, Order
 use Rattle.store_text.specs.Form.{IsStoreForm}
 use Rattle.store_text.specs.Refusals.{is_above, cost_in_form, costs_in, cost_of_frame, is_past, frame_fault_in}
 use Rattle.store_text.specs.laws.Leading.{pair_of}
-use Rattle.store_packets.specs.Reading.{last_of, differs, next_fault, opens_behind, left_behind}
+use Rattle.store_packets.specs.inside.Reading.{last_of, differs, next_fault, opens_behind, left_behind}
 
 -- an entry that tells another number of groups
 abbrev other_count : ℕ → ℕ × Packets → Bool

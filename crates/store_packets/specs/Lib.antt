@@ -1,3 +1,2 @@
-pub mod Reading
-pub mod Listed
 pub mod Migrated
+pub mod inside

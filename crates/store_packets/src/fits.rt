@@ -7,8 +7,8 @@ ghost use Rattle.store_text.specs.Refusals.{is_whole, datagram_in, entry_length}
 ghost use Rattle.store_text.specs.declared.format.TheConstants.{OLD_STORE_FORM};
 ghost use Rattle.packet_verdicts.specs.KeptSet.{header_of};
 ghost use Rattle.store_packets.specs.Migrated.{is_wide};
-ghost use Rattle.store_packets.specs.Reading.{frame_of};
-ghost use Rattle.store_packets.specs.Listed.{AreListed, frames_at, is_other, tables_from, left_by, full_by, fault_from};
+ghost use Rattle.store_packets.specs.inside.Reading.{frame_of};
+ghost use Rattle.store_packets.specs.inside.Listed.{AreListed, frames_at, is_other, tables_from, left_by, full_by, fault_from};
 
 use crate::fault::MigrateFault;
 use crate::next::next_entry;

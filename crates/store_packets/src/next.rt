@@ -7,7 +7,7 @@ ghost use Rattle.store_text.specs.Form.{IsStoreForm};
 ghost use Rattle.store_text.specs.Refusals.{is_whole, datagram_in, entry_length, is_above, cost_of_frame};
 ghost use Rattle.packet_verdicts.specs.KeptSet.{header_of};
 ghost use Rattle.store_text.specs.laws.Leading.{pair_of};
-ghost use Rattle.store_packets.specs.Reading.{frame_of, fields_as, before_as, differs, fault_behind, next_fault, judged, left_behind};
+ghost use Rattle.store_packets.specs.inside.Reading.{frame_of, fields_as, before_as, differs, fault_behind, next_fault, judged, left_behind};
 
 use packet_frame::{Parts, read_text};
 use store_text::{StoreForm, StoreKind};

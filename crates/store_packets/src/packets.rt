@@ -4,7 +4,7 @@ ghost use Rattle.std.specs.Str.{bytes_eq};
 ghost use Rattle.packet_verdicts.specs.KeptSet.{KeptSet, empty_set};
 ghost use Rattle.store_text.specs.Form.{IsStoreForm};
 ghost use Rattle.store_text.specs.Refusals.{read_text_in, read_entries_in, session_of, many_of, entries_of, ends_in_store_tag};
-ghost use Rattle.store_packets.specs.Reading.{before_as};
+ghost use Rattle.store_packets.specs.inside.Reading.{before_as};
 
 use crate::next::{Walk, next_entry, next_walk};
 use sha2::{Digest, Sha256};

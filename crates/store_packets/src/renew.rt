@@ -7,8 +7,8 @@ ghost use Rattle.packet_frame.specs.declared.format.TheConstants.{OLD_FORMAT};
 ghost use Rattle.store_text.specs.Form.{store_tag};
 ghost use Rattle.store_text.specs.Store.{store_of, head_in, entries_in};
 ghost use Rattle.store_text.specs.declared.format.TheConstants.{STORE_FORM, OLD_STORE_FORM};
-ghost use Rattle.store_packets.specs.Reading.{frame_of};
-ghost use Rattle.store_packets.specs.Listed.{AreListed, frames_at};
+ghost use Rattle.store_packets.specs.inside.Reading.{frame_of};
+ghost use Rattle.store_packets.specs.inside.Listed.{AreListed, frames_at};
 
 use crate::fits::{LONGER, first_entry};
 use crate::packets::StorePackets;

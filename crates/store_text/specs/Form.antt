@@ -1,4 +1,5 @@
--- The forms of stores. A form is a mark of four bytes, the bytes of a tag, and the format of its frames. This project's own.
+-- The forms of stores. A form is a mark of four bytes, the bytes of a tag, and the format of its frames. This project's
+-- own.
 use Rattle.std.specs.Prelude.{◌≡◌, ℕ, ◌≤◌, false, List, length, take}
 use Rattle.sha2.specs.Sha256.{sha256}
 use Rattle.packet_frame.specs.Format.{IsFormat}

@@ -1,6 +1,7 @@
 -- What is read of the bytes of a store, and why bytes are none: from the front to the end, the first refusal. This
 -- project's own format. A store is of a form; names that tell none are of the stores that are written today.
-use Rattle.std.specs.Prelude.{ℕ, ◌+◌, ◌-◌, ◌*◌, Bool, true, not, ◌&&◌, ◌||◌, ◌==◌, nat_lt, if◌then◌else◌, zero, suc, List, [], ◌∷◌, length, take, drop, sum_by, Option, None, Some, is_some, Result, Ok, Err}
+use Rattle.std.specs.Prelude.{ℕ, ◌+◌, ◌-◌, ◌*◌, Bool, true, not, ◌&&◌, ◌||◌, ◌==◌, nat_lt, if◌then◌else◌, zero, suc}
+use Rattle.std.specs.Prelude.{List, [], ◌∷◌, length, take, drop, sum_by, Option, None, Some, is_some, Result, Ok, Err}
 use Rattle.std.specs.Int.{w16, w32}
 use Rattle.std.specs.Str.{bytes_eq}
 use Rattle.stripe_plan.specs.Sizes.{length_by}
@@ -13,7 +14,8 @@ use Rattle.store_text.specs.declared.format.StoreForm.{StoreForm}
 use Rattle.store_text.specs.declared.format.TheConstants.{STORE_FORM, HEAD_LENGTH}
 use Rattle.store_text.specs.Form.{store_tag}
 use Rattle.store_text.specs.declared.fault.StoreKind.{StoreKind}
-use Rattle.store_text.specs.declared.fault.StoreKind.TheVariants.{Cut, Magic, Frame, Session, Order, Clash, Full, Rest, Tag}
+use Rattle.store_text.specs.declared.fault.StoreKind.TheVariants.{Cut, Magic, Frame, Session, Order, Clash, Full, Rest}
+use Rattle.store_text.specs.declared.fault.StoreKind.TheVariants.{Tag}
 use Rattle.store_text.specs.declared.fault.BadStore.{BadStore}
 use Rattle.store_text.specs.declared.fault.BadStore.TheVariants.{At}
 

@@ -1,5 +1,6 @@
 -- The text of a store: all frames that are kept of one session. Numbers are big-endian, and the tag is the front of the
--- SHA-256 digest (FIPS 180-4) of all bytes before it. This project's own format. A store is of a form; names that tell none
+-- SHA-256 digest (FIPS 180-4) of all bytes before it. This project's own format. A store is of a form; names that tell
+-- none
 -- are of the stores that are written today.
 use Rattle.std.specs.Prelude.{ℕ, List, ◌++◌, length}
 use Rattle.std.specs.Int.{w32, to_be_bytes}

@@ -14,9 +14,11 @@ front_held n size len held least whole =
       | inr ge ↦ take_all len held (omega arith) ∙ sym (take_all n held ge)
     ]
 
-pub rest_held : (n size len : ℕ) (held known rest : List ℕ) → known ≡ held → rest ≡ take (length known - len) (drop len known) → len ≡ min n size → size ≡ length held → rest ≡ drop n held
+pub rest_held : (n size len : ℕ) (held known rest : List ℕ) → known ≡ held
+    → rest ≡ take (length known - len) (drop len known) → len ≡ min n size → size ≡ length held → rest ≡ drop n held
 rest_held n size len held known rest same is least whole =
-    let here : rest ≡ drop len held = (rw same at is) ∙ take_all (length held - len) (drop len held) (omega (arith, length-drop len held)) in
+    let here : rest ≡ drop len held = (rw same at is)
+    ∙ take_all (length held - len) (drop len held) (omega (arith, length-drop len held)) in
     here ∙ elim (cases_lt n (length held)) [
       | inl lt ↦ ap (λ k. drop k held) (omega arith)
       | inr ge ↦ drop_all len held (omega arith) ∙ sym (drop_all n held ge)
@@ -26,5 +28,7 @@ abbrev pub group_of : Cut → List ℕ → CutGroup
 group_of cut bytes = record { cut = cut; bytes = bytes }
 
 -- the group of a cut that was counted anew, and these bytes
-pub taken_is : (from : ℕ) (cut counted : Cut) (bytes front : List ℕ) → counted ≡ record { runs = map (rebased from) cut.runs; lengths = cut.lengths } → bytes ≡ front → group_of counted bytes ≡ group_from from cut front
+pub taken_is : (from : ℕ) (cut counted : Cut) (bytes front : List ℕ)
+    → counted ≡ record { runs = map (rebased from) cut.runs; lengths = cut.lengths } → bytes ≡ front
+    → group_of counted bytes ≡ group_from from cut front
 taken_is from cut counted bytes front is same = ap (λ (k : Cut). group_of k bytes) is ∙ ap (group_from from cut) same

@@ -1,6 +1,7 @@
 -- The groups of a stream with their bytes, and where a cutter stands that has read a stream, however that came in
 -- portions. This project's own.
-use Rattle.std.specs.Prelude.{◌≡◌, ◌≢◌, ℕ, ◌+◌, ◌-◌, ◌<◌, ◌≤◌, false, List, [], ◌∷◌, ◌++◌, length, map, take, drop, Option, None, Some, MatchOption, All}
+use Rattle.std.specs.Prelude.{◌≡◌, ◌≢◌, ℕ, ◌+◌, ◌-◌, ◌<◌, ◌≤◌, false, List, [], ◌∷◌, ◌++◌, length, map, take, drop}
+use Rattle.std.specs.Prelude.{Option, None, Some, MatchOption, All}
 use Rattle.std.specs.List.{flat_map}
 use Rattle.pet_base.specs.declared.limits.TheConstants.{MAX_GROUPS}
 use Rattle.mpeg_scan.specs.declared.piece.Piece.{Piece}
@@ -31,12 +32,14 @@ first_at (piece ∷ later) = piece.at
 
 -- a cut whose runs are counted from this byte, with its bytes
 abbrev pub group_from : ℕ → Cut → List ℕ → CutGroup
-group_from from cut bytes = record { cut = record { runs = map (rebased from) cut.runs; lengths = cut.lengths }; bytes = bytes }
+group_from from cut bytes =
+    record { cut = record { runs = map (rebased from) cut.runs; lengths = cut.lengths }; bytes = bytes }
 
 -- a group of the stream, counted from its first byte
 abbrev pub cut_group : Priorities → List ℕ → List Piece → CutGroup
 cut_group priority stream group =
-    group_from (first_at group) (cut_of (layer_of priority) (length priority.layers) group) (bytes_of_pieces stream group)
+    group_from (first_at group) (cut_of (layer_of priority) (length priority.layers) group)
+    (bytes_of_pieces stream group)
 
 -- all groups of the stream
 abbrev pub cut_groups : Priorities → List ℕ → List CutGroup
@@ -58,7 +61,8 @@ IsCuttable priority stream = IsAccepted stream × (groups_fault priority stream 
 -- its groups. Want of memory says nothing.
 abbrev pub IsCutFault : Priorities → List ℕ → CutFault → Type 0
 IsCutFault priority stream (Stream scan) = IsRefusal stream scan
-IsCutFault priority stream (Groups fault) = IsAccepted stream × (fault ≢ split.NoMemory) × (groups_fault priority stream ≡ Some fault)
+IsCutFault priority stream (Groups fault) =
+    IsAccepted stream × (fault ≢ split.NoMemory) × (groups_fault priority stream ≡ Some fault)
 IsCutFault priority stream NoMemory = Unit {0}
 
 -- these are all groups of the stream, of which nothing is refused
@@ -80,7 +84,8 @@ pieces_left cutter = length cutter.pieces.items - cutter.looked
 
 -- The cutter has looked at these pieces but for those that are pending, has given the groups that ended, and holds what
 -- was seen of the stream from the first byte of the current group on.
-pub record HasLooked (cutter : GroupCutter) (priority : Priorities) (seen : List ℕ) (pieces : List Piece) (given : List CutGroup) : Type 0 where
+pub record HasLooked (cutter : GroupCutter) (priority : Priorities) (seen : List ℕ) (pieces : List Piece)
+    (given : List CutGroup) : Type 0 where
   pub looked : List Piece
   pub cuts : List Cut
   pub whole : pieces ≡ looked ++ pending cutter
@@ -93,14 +98,16 @@ pub record HasLooked (cutter : GroupCutter) (priority : Priorities) (seen : List
   pub held : cutter.held.items ≡ drop cutter.from seen
 
 -- nothing is refused so far
-pub record IsLive (cutter : GroupCutter) (priority : Priorities) (stream : List ℕ) (given : List CutGroup) : Type 0 where
+pub record IsLive (cutter : GroupCutter) (priority : Priorities) (stream : List ℕ)
+    (given : List CutGroup) : Type 0 where
   pub pieces : List Piece
   pub read : HasRead cutter.scanner stream pieces
   pub front : IsFrontOf stream pieces
   pub looked : HasLooked cutter priority stream pieces given
 
 -- a front of the stream was seen, by which the stream is refused so, and its pieces are looked at
-pub record IsSeen (cutter : GroupCutter) (priority : Priorities) (stream : List ℕ) (given : List CutGroup) (scan : Scan) : Type 0 where
+pub record IsSeen (cutter : GroupCutter) (priority : Priorities) (stream : List ℕ) (given : List CutGroup)
+    (scan : Scan) : Type 0 where
   pub seen : List ℕ
   pub unseen : List ℕ
   pub parts : stream ≡ seen ++ unseen
@@ -110,7 +117,8 @@ pub record IsSeen (cutter : GroupCutter) (priority : Priorities) (stream : List 
   pub stopped : HasStopped seen scan pieces
   pub looked : HasLooked cutter priority seen pieces given
 
--- These groups are the first of the stream, and ended before it or its groups were refused: in a front of it by which nothing
+-- These groups are the first of the stream, and ended before it or its groups were refused: in a front of it by which
+-- nothing
 -- is refused, and before a group that is too long or one too many.
 pub record HaveEnded (priority : Priorities) (stream : List ℕ) (groups : List CutGroup) : Type 0 where
   pub front : List ℕ
@@ -138,11 +146,13 @@ pub record HasMetLimit (priority : Priorities) (pieces : List Piece) (given : Li
   pub limit : IsOneTooMany priority before piece
 
 -- these are the first groups of the stream, however it goes on
-abbrev pub AreFirst : Priorities → List ℕ → List CutGroup → Type 0
-AreFirst priority stream groups = (rest : List ℕ) → (later : List CutGroup) × (cut_groups priority (stream ++ rest) ≡ groups ++ later)
+abbrev pub AreFirstGroups : Priorities → List ℕ → List CutGroup → Type 0
+AreFirstGroups priority stream groups =
+    (rest : List ℕ) → (later : List CutGroup) × (cut_groups priority (stream ++ rest) ≡ groups ++ later)
 
 -- the groups are refused so, however the stream goes on, and of those that had ended before none is left
-pub record IsStopped (cutter : GroupCutter) (priority : Priorities) (stream : List ℕ) (given : List CutGroup) (fault : SplitFault) : Type 0 where
+pub record IsStopped (cutter : GroupCutter) (priority : Priorities) (stream : List ℕ) (given : List CutGroup)
+    (fault : SplitFault) : Type 0 where
   pub told : fault ≢ split.NoMemory
   pub refuses : (rest : List ℕ) → groups_fault priority (stream ++ rest) ≡ Some fault
   pub none_left : pieces_left cutter ≡ 0
@@ -153,7 +163,8 @@ pub record IsStopped (cutter : GroupCutter) (priority : Priorities) (stream : Li
 -- groups are refused.
 abbrev pub HasScanned : GroupCutter → List ℕ → Type 0
 HasScanned cutter stream =
-    MatchOption cutter.scan ((pieces : List Piece) × HasRead cutter.scanner stream pieces) (λ scan. (rest : List ℕ) → Refuses (stream ++ rest) scan)
+    MatchOption cutter.scan ((pieces : List Piece) × HasRead cutter.scanner stream pieces)
+    (λ scan. (rest : List ℕ) → Refuses (stream ++ rest) scan)
 
 -- the groups are not refused so far
 abbrev pub IsCutting : GroupCutter → Priorities → List ℕ → List CutGroup → Type 0
@@ -161,12 +172,15 @@ IsCutting cutter priority stream given =
     MatchOption cutter.scan (IsLive cutter priority stream given) (λ scan. IsSeen cutter priority stream given scan)
 
 -- The cutter for this priority has read the stream, and has given these groups.
-pub record HasCut (cutter : GroupCutter) (priority : Priorities) (stream : List ℕ) (given : List CutGroup) : Type 0 where
+pub record HasCut (cutter : GroupCutter) (priority : Priorities) (stream : List ℕ)
+    (given : List CutGroup) : Type 0 where
   pub scanned : HasScanned cutter stream
-  pub state : MatchOption cutter.fault (IsCutting cutter priority stream given) (λ fault. IsStopped cutter priority stream given fault)
+  pub state : MatchOption cutter.fault (IsCutting cutter priority stream given)
+      (λ fault. IsStopped cutter priority stream given fault)
 
 -- the stream has ended with these pieces, of which nothing is refused
-pub record HasEnded (cutter : GroupCutter) (priority : Priorities) (stream : List ℕ) (given : List CutGroup) : Type 0 where
+pub record HasEnded (cutter : GroupCutter) (priority : Priorities) (stream : List ℕ)
+    (given : List CutGroup) : Type 0 where
   pub standing : StandOnEnd 0 (pieces_of stream) (length stream)
   pub bounded : length stream ≤ max_stream
   pub looked : HasLooked cutter priority stream (pieces_of stream) given
@@ -180,12 +194,16 @@ pub record KeepsHeld (old new : GroupCutter) : Type 0 where
   pub fault : new.fault ≡ old.fault
   pub grows : HasGrown old.pieces.items new.pieces.items
 
--- The scanner, which had given these pieces of the stream, has read the portion too, and appended further pieces to those
+-- The scanner, which had given these pieces of the stream, has read the portion too, and appended further pieces to
+-- those
 -- that the cutter had before; or the portion refuses the stream.
-pub record ScansOn (before : List Piece) (cutter : GroupCutter) (stream portion : List ℕ) (pieces : List Piece) : Type 0 where
+pub record ScansOn (before : List Piece) (cutter : GroupCutter) (stream portion : List ℕ)
+    (pieces : List Piece) : Type 0 where
   pub front : IsFrontOf (stream ++ portion) (pieces ++ added before cutter.pieces.items)
-  pub scanned : MatchOption cutter.scan (HasRead cutter.scanner (stream ++ portion) (pieces ++ added before cutter.pieces.items))
-      (λ scan. ((rest : List ℕ) → Refuses (stream ++ portion ++ rest) scan) × HasStopped (stream ++ portion) scan (pieces ++ added before cutter.pieces.items))
+  pub scanned : MatchOption cutter.scan
+      (HasRead cutter.scanner (stream ++ portion) (pieces ++ added before cutter.pieces.items))
+      (λ scan. ((rest : List ℕ) → Refuses (stream ++ portion ++ rest) scan)
+      × HasStopped (stream ++ portion) scan (pieces ++ added before cutter.pieces.items))
 
 -- what letting go of pieces leaves alone
 pub record KeepsPending (old new : GroupCutter) : Type 0 where
@@ -212,4 +230,5 @@ abbrev pub Ends : GroupCutter → GroupCutter → Option Cut → ℕ → Option 
 Ends old new None end group = (group ≡ None) × (new ≡ old)
 Ends old new (Some cut) end group =
     (new.held.items ≡ drop (end - old.from) old.held.items) × (new.from ≡ end)
-    × (All (λ run. old.from ≤ run.at) cut.runs → group ≡ Some (group_from old.from cut (take (end - old.from) old.held.items)))
+    × (All (λ run. old.from ≤ run.at) cut.runs
+    → group ≡ Some (group_from old.from cut (take (end - old.from) old.held.items)))

@@ -1,5 +1,6 @@
 -- One portion more in a pass.
-use Rattle.std.proofs.Common.{◌≡◌, ℕ, ◌<◌, arith, true, false, List, [], ◌++◌, length, Option, None, Some, refl, sym, ap, subst, ◌∙◌, append_assoc}
+use Rattle.std.proofs.Common.{◌≡◌, ℕ, ◌<◌, arith, true, false, List, [], ◌++◌, length, Option, None, Some, refl, sym}
+use Rattle.std.proofs.Common.{ap, subst, ◌∙◌, append_assoc}
 use Rattle.std.proofs.lemmas.List.{append-nil}
 use Rattle.std.specs.Prelude.{MatchOption, is_some, Result, Ok, Err, IfOk, IfErr}
 use Rattle.std.specs.Int.{w32, to_be_bytes}
@@ -23,7 +24,8 @@ pub stays_refused : (o : Option Scan) (A B : Type 0) (stream portion : List ℕ)
     → MatchOption o A (λ scan. (rest : List ℕ) → Refuses (stream ++ rest) scan)
     → MatchOption o B (λ scan. (rest : List ℕ) → Refuses (stream ++ portion ++ rest) scan)
 stays_refused None A B stream portion is passed = absurd cc
-stays_refused (Some scan) A B stream portion is passed = λ rest. subst (λ (s : List ℕ). Refuses s scan) (sym (append_assoc stream portion rest)) (passed (portion ++ rest))
+stays_refused (Some scan) A B stream portion is passed = λ rest. subst (λ (s : List ℕ). Refuses s scan)
+    (sym (append_assoc stream portion rest)) (passed (portion ++ rest))
 
 -- what was live
 pub was_live : (o : Option Scan) (A : Type 0) (P : Scan → Type 0) → is_some o ≡ false → MatchOption o A P → A
@@ -38,34 +40,48 @@ added_to_none : (old new : List Piece) → old ≡ [] → added old new ≡ new
 added_to_none old new e = ap (λ (xs : List Piece). added xs new) e
 
 -- its pieces went to the planner, and its bytes to the hasher
-pub live_more : (pass again : Pass) (priority : Priorities) (file stream portion : List ℕ) (pieces : List Piece) → IsLive pass priority file stream
-    → ((s : List ℕ) (given : List Piece) → HasRead pass.scanner s given → HasRead again.scanner (s ++ portion) (given ++ added pass.pieces.items pieces))
-    → ((p : Priorities) (given : List Piece) → HasPlanned pass.planner p given → HasPlanned again.planner p (given ++ pieces))
+pub live_more : (pass again : Pass) (priority : Priorities) (file stream portion : List ℕ) (pieces : List Piece)
+    → IsLive pass priority file stream
+    → ((s : List ℕ) (given : List Piece) → HasRead pass.scanner s given
+    → HasRead again.scanner (s ++ portion) (given ++ added pass.pieces.items pieces))
+    → ((p : Priorities) (given : List Piece) → HasPlanned pass.planner p given
+    → HasPlanned again.planner p (given ++ pieces))
     → ((m : List ℕ) → Holds256 pass.hasher m → Holds256 again.hasher (m ++ portion)) → again.pieces.items ≡ []
     → IsLive again priority file (stream ++ portion)
 live_more pass again priority file stream portion pieces live scanned planned hashes empty = record {
   given = live.given ++ pieces;
-  scanned = subst (λ (a : List Piece). HasRead again.scanner (stream ++ portion) (live.given ++ a)) (added_to_none pass.pieces.items pieces live.empty) (scanned stream live.given live.scanned);
+  scanned =
+      subst (λ (a : List Piece). HasRead again.scanner (stream ++ portion) (live.given ++ a))
+      (added_to_none pass.pieces.items pieces live.empty) (scanned stream live.given live.scanned);
   planned = planned priority live.given live.planned;
-  hashed = subst (λ (m : List ℕ). Holds256 again.hasher m) (append_assoc (to_be_bytes w32 (length file) ++ file) stream portion) (hashes (hashed file stream) live.hashed);
+  hashed =
+      subst (λ (m : List ℕ). Holds256 again.hasher m)
+      (append_assoc (to_be_bytes w32 (length file) ++ file) stream portion) (hashes (hashed file stream) live.hashed);
   empty = empty;
 }
 
 -- the pass has read one portion more, which refuses nothing
-pub passed_more : (pass again : Pass) (priority : Priorities) (file stream portion : List ℕ) (pieces handed : List Piece) → is_some pass.refused ≡ false → again.refused ≡ pass.refused
+pub passed_more : (pass again : Pass) (priority : Priorities) (file stream portion : List ℕ)
+    (pieces handed : List Piece) → is_some pass.refused ≡ false → again.refused ≡ pass.refused
     → handed ≡ pieces → HasPassed pass priority file stream
-    → ((s : List ℕ) (given : List Piece) → HasRead pass.scanner s given → HasRead again.scanner (s ++ portion) (given ++ added pass.pieces.items pieces))
-    → ((p : Priorities) (given : List Piece) → HasPlanned pass.planner p given → HasPlanned again.planner p (given ++ handed))
+    → ((s : List ℕ) (given : List Piece) → HasRead pass.scanner s given
+    → HasRead again.scanner (s ++ portion) (given ++ added pass.pieces.items pieces))
+    → ((p : Priorities) (given : List Piece) → HasPlanned pass.planner p given
+    → HasPlanned again.planner p (given ++ handed))
     → ((m : List ℕ) → Holds256 pass.hasher m → Holds256 again.hasher (m ++ portion)) → again.pieces.items ≡ []
     → HasPassed again priority file (stream ++ portion)
 passed_more pass again priority file stream portion pieces handed is same all passed scanned planned hashes empty =
     let live = was_live pass.refused (IsLive pass priority file stream) _ is passed in
-    let given = λ (p : Priorities) (g : List Piece) (h : HasPlanned pass.planner p g). subst (λ (xs : List Piece). HasPlanned again.planner p (g ++ xs)) all (planned p g h) in
-    stays_live again.refused (IsLive again priority file (stream ++ portion)) _ (ap is_some same ∙ is) (live_more pass again priority file stream portion pieces live scanned given hashes empty)
+    let given = λ (p : Priorities) (g : List Piece) (h : HasPlanned pass.planner p g). subst
+    (λ (xs : List Piece). HasPlanned again.planner p (g ++ xs)) all (planned p g h) in
+    stays_live again.refused (IsLive again priority file (stream ++ portion)) _ (ap is_some same ∙ is)
+    (live_more pass again priority file stream portion pieces live scanned given hashes empty)
 
 -- the refusal that a portion decides
-pub passed_refusing : (pass : Pass) (scan : Scan) (priority : Priorities) (file stream portion : List ℕ) → is_some pass.refused ≡ false → HasPassed pass priority file stream
-    → ((s : List ℕ) (given : List Piece) → HasRead pass.scanner s given → (rest : List ℕ) → Refuses (s ++ portion ++ rest) scan)
+pub passed_refusing : (pass : Pass) (scan : Scan) (priority : Priorities) (file stream portion : List ℕ)
+    → is_some pass.refused ≡ false → HasPassed pass priority file stream
+    → ((s : List ℕ) (given : List Piece) → HasRead pass.scanner s given → (rest : List ℕ)
+    → Refuses (s ++ portion ++ rest) scan)
     → (rest : List ℕ) → Refuses (stream ++ portion ++ rest) scan
 passed_refusing pass scan priority file stream portion is passed refuses rest =
     let live = was_live pass.refused (IsLive pass priority file stream) _ is passed in
@@ -74,24 +90,29 @@ passed_refusing pass scan priority file stream portion is passed refuses rest =
 some_same : {A : Type 0} (x y : A) → Some x ≡ Some y → x ≡ y
 some_same x y e = cc
 
-refused_at : (o : Option Scan) (scan : Scan) (A : Type 0) (stream : List ℕ) → o ≡ Some scan → MatchOption o A (λ s. (rest : List ℕ) → Refuses (stream ++ rest) s)
+refused_at : (o : Option Scan) (scan : Scan) (A : Type 0) (stream : List ℕ) → o ≡ Some scan
+    → MatchOption o A (λ s. (rest : List ℕ) → Refuses (stream ++ rest) s)
     → (rest : List ℕ) → Refuses (stream ++ rest) scan
 refused_at None scan A stream e passed = absurd cc
-refused_at (Some other) scan A stream e passed = λ rest. subst (λ (s : Scan). Refuses (stream ++ rest) s) (some_same other scan e) (passed rest)
+refused_at (Some other) scan A stream e passed = λ rest. subst (λ (s : Scan). Refuses (stream ++ rest) s)
+    (some_same other scan e) (passed rest)
 
 -- a stream that was refused before its end
-pub finish_refused : (pass : Pass) (scan : Scan) (priority : Priorities) (file stream : List ℕ) → pass.refused ≡ Some scan → HasPassed pass priority file stream
+pub finish_refused : (pass : Pass) (scan : Scan) (priority : Priorities) (file stream : List ℕ)
+    → pass.refused ≡ Some scan → HasPassed pass priority file stream
     → Refuses stream scan × (max_stream < length stream → (rest : List ℕ) → Refuses (stream ++ rest) scan)
 finish_refused pass scan priority file stream e passed =
     let all = refused_at pass.refused scan (IsLive pass priority file stream) stream e passed in
     (subst (λ (s : List ℕ). Refuses s scan) (append-nil stream) (all []), λ _. all)
 
-live_at : (o : Option Scan) (A : Type 0) (P : Scan → Type 0) → ((scan : Scan) → o ≡ Some scan → ⊥) → MatchOption o A P → A
+live_at : (o : Option Scan) (A : Type 0) (P : Scan → Type 0) → ((scan : Scan) → o ≡ Some scan → ⊥) → MatchOption o A P
+    → A
 live_at None A P none passed = passed
 live_at (Some scan) A P none passed = absurd (none scan refl)
 
 -- a stream that its end refuses, which is not too long
-pub end_refused : (pass : Pass) (scan : Scan) → ((scan : Scan) → pass.refused ≡ Some scan → ⊥) → ((stream : List ℕ) (given : List Piece) → HasRead pass.scanner stream given → Refuses stream scan)
+pub end_refused : (pass : Pass) (scan : Scan) → ((scan : Scan) → pass.refused ≡ Some scan → ⊥)
+    → ((stream : List ℕ) (given : List Piece) → HasRead pass.scanner stream given → Refuses stream scan)
     → (priority : Priorities) (file stream : List ℕ) → HasPassed pass priority file stream → IsRefusal stream scan
 end_refused pass scan none refuses priority file stream passed =
     let live = live_at pass.refused (IsLive pass priority file stream) _ none passed in
@@ -99,36 +120,53 @@ end_refused pass scan none refuses priority file stream passed =
     (refuses stream live.given live.scanned, λ lt. absurd (omega (arith, lt)))
 
 -- the plan of all pieces is that of the stream
-plan_of_stream : (pass : Pass) (plan : SessionPlan) (priority : Priorities) (file stream : List ℕ) (pieces last : List Piece) (live : IsLive pass priority file stream) → last ≡ pieces
+plan_of_stream : (pass : Pass) (plan : SessionPlan) (priority : Priorities) (file stream : List ℕ)
+    (pieces last : List Piece) (live : IsLive pass priority file stream) → last ≡ pieces
     → IsAccepted stream × (live.given ++ added pass.pieces.items pieces ≡ pieces_of stream)
     → IsPlanBy plan priority (live.given ++ last) (hashed file stream) → IsPlanOf plan priority file stream
 unfolding session_number
 plan_of_stream pass plan priority file stream pieces last live same accepted by =
-    let e : live.given ++ last ≡ pieces_of stream = ap (λ (xs : List Piece). live.given ++ xs) (same ∙ sym (added_to_none pass.pieces.items pieces live.empty)) ∙ accepted.1 in
+    let e : live.given ++ last ≡ pieces_of stream =
+    ap (λ (xs : List Piece). live.given ++ xs) (same ∙ sym (added_to_none pass.pieces.items pieces live.empty))
+    ∙ accepted.1 in
     let of = subst (λ (xs : List Piece). IsPlanBy plan priority xs (hashed file stream)) e by in
     record { accepted = accepted.0; fits = of.fits; number = of.number; tables = of.tables }
 
-pub finish_plan : (pass : Pass) (result : Result SessionPlan StreamFault) (pieces last : List Piece) → ((scan : Scan) → pass.refused ≡ Some scan → ⊥) → last ≡ pieces
-    → ((stream : List ℕ) (given : List Piece) → HasRead pass.scanner stream given → IsAccepted stream × (given ++ added pass.pieces.items pieces ≡ pieces_of stream))
-    → IfOk result (λ plan. (priority : Priorities) (given : List Piece) (message : List ℕ) → HasPlanned pass.planner priority given → Holds256 pass.hasher message → IsPlanBy plan priority (given ++ last) message)
-    → IfOk result (λ plan. (priority : Priorities) (file stream : List ℕ) → HasPassed pass priority file stream → IsPlanOf plan priority file stream)
+pub finish_plan : (pass : Pass) (result : Result SessionPlan StreamFault) (pieces last : List Piece)
+    → ((scan : Scan) → pass.refused ≡ Some scan → ⊥) → last ≡ pieces
+    → ((stream : List ℕ) (given : List Piece) → HasRead pass.scanner stream given
+    → IsAccepted stream × (given ++ added pass.pieces.items pieces ≡ pieces_of stream))
+    → IfOk result (λ plan. (priority : Priorities) (given : List Piece) (message : List ℕ)
+    → HasPlanned pass.planner priority given → Holds256 pass.hasher message
+    → IsPlanBy plan priority (given ++ last) message)
+    → IfOk result (λ plan. (priority : Priorities) (file stream : List ℕ) → HasPassed pass priority file stream
+    → IsPlanOf plan priority file stream)
 finish_plan pass (Err fault) pieces last none same accepted by = tt
 finish_plan pass (Ok plan) pieces last none same accepted by = λ priority file stream passed.
     let live = live_at pass.refused (IsLive pass priority file stream) _ none passed in
-    plan_of_stream pass plan priority file stream pieces last live same (accepted stream live.given live.scanned) (by priority live.given (hashed file stream) live.planned live.hashed)
+    plan_of_stream pass plan priority file stream pieces last live same (accepted stream live.given live.scanned)
+    (by priority live.given (hashed file stream) live.planned live.hashed)
 
-fault_of_stream : (priority : Priorities) (stream : List ℕ) (fault : StreamFault) → IsAccepted stream → IsPlanFault priority (pieces_of stream) fault → IsStreamFault priority stream fault
+fault_of_stream : (priority : Priorities) (stream : List ℕ) (fault : StreamFault) → IsAccepted stream
+    → IsPlanFault priority (pieces_of stream) fault → IsStreamFault priority stream fault
 fault_of_stream priority stream (Stream scan) accepted why = absurd why
 fault_of_stream priority stream (Plan fault) accepted why = (accepted, why.0, why.1)
 fault_of_stream priority stream NoMemory accepted why = tt
 
-pub finish_fault : (pass : Pass) (result : Result SessionPlan StreamFault) (pieces last : List Piece) → ((scan : Scan) → pass.refused ≡ Some scan → ⊥) → last ≡ pieces
-    → ((stream : List ℕ) (given : List Piece) → HasRead pass.scanner stream given → IsAccepted stream × (given ++ added pass.pieces.items pieces ≡ pieces_of stream))
-    → IfErr result (λ fault. (priority : Priorities) (given : List Piece) → HasPlanned pass.planner priority given → IsPlanFault priority (given ++ last) fault)
-    → IfErr result (λ fault. (priority : Priorities) (file stream : List ℕ) → HasPassed pass priority file stream → IsStreamFault priority stream fault)
+pub finish_fault : (pass : Pass) (result : Result SessionPlan StreamFault) (pieces last : List Piece)
+    → ((scan : Scan) → pass.refused ≡ Some scan → ⊥) → last ≡ pieces
+    → ((stream : List ℕ) (given : List Piece) → HasRead pass.scanner stream given
+    → IsAccepted stream × (given ++ added pass.pieces.items pieces ≡ pieces_of stream))
+    → IfErr result (λ fault. (priority : Priorities) (given : List Piece) → HasPlanned pass.planner priority given
+    → IsPlanFault priority (given ++ last) fault)
+    → IfErr result (λ fault. (priority : Priorities) (file stream : List ℕ) → HasPassed pass priority file stream
+    → IsStreamFault priority stream fault)
 finish_fault pass (Ok plan) pieces last none same accepted why = tt
 finish_fault pass (Err fault) pieces last none same accepted why = λ priority file stream passed.
     let live = live_at pass.refused (IsLive pass priority file stream) _ none passed in
     let all = accepted stream live.given live.scanned in
-    let e : live.given ++ last ≡ pieces_of stream = ap (λ (xs : List Piece). live.given ++ xs) (same ∙ sym (added_to_none pass.pieces.items pieces live.empty)) ∙ all.1 in
-    fault_of_stream priority stream fault all.0 (subst (λ (xs : List Piece). IsPlanFault priority xs fault) e (why priority live.given live.planned))
+    let e : live.given ++ last ≡ pieces_of stream =
+    ap (λ (xs : List Piece). live.given ++ xs) (same ∙ sym (added_to_none pass.pieces.items pieces live.empty))
+    ∙ all.1 in
+    fault_of_stream priority stream fault all.0
+    (subst (λ (xs : List Piece). IsPlanFault priority xs fault) e (why priority live.given live.planned))

@@ -1,5 +1,6 @@
 -- From the tables that are kept to what the pieces have.
-use Rattle.std.proofs.Common.{◌≡◌, ◌≢◌, ℕ, suc, ◌<◌, true, false, List, [], ◌∷◌, ◌++◌, length, map, Option, Some, None, is_some, refl, sym, ◌∙◌, ap, subst, arith, inl, inr, append-nil, append_assoc}
+use Rattle.std.proofs.Common.{◌≡◌, ◌≢◌, ℕ, suc, ◌<◌, true, false, List, [], ◌∷◌, ◌++◌, length, map, Option, Some, None}
+use Rattle.std.proofs.Common.{is_some, refl, sym, ◌∙◌, ap, subst, arith, inl, inr, append-nil, append_assoc}
 use Rattle.std.specs.Prelude.{All}
 use Rattle.std.proofs.lemmas.Bool.{both_ways}
 use Rattle.pet_base.specs.declared.limits.TheConstants.{MAX_GROUPS, MAX_SESSION}
@@ -15,9 +16,11 @@ use Rattle.stream_session.specs.declared.fault.SessionFault.{SessionFault}
 use Rattle.stream_session.specs.declared.group_tables.GroupTables.{GroupTables}
 use Rattle.stream_session.specs.declared.planner.Planner.{Planner}
 use Rattle.stream_session.specs.Tables.{tables_of, IsFit}
-use Rattle.stream_session.specs.Refusals.{cost_in, first_above, large_fault, size_fault, fault_after, fault_of_cuts, session_fault}
+use Rattle.stream_session.specs.Refusals.{cost_in, first_above, large_fault, size_fault, fault_after, fault_of_cuts}
+use Rattle.stream_session.specs.Refusals.{session_fault}
 use Rattle.stream_session.specs.laws.FitLaws.{all_fit, all_short}
-use Rattle.stream_session.specs.Planning.{HasPlanned, HasTables, HasRefused, KeepsRest, IsLive, table_cost}
+use Rattle.stream_session.specs.Planning.{HasPlanned, HasTables, IsLive}
+use Rattle.stream_session.specs.inside.Planning.{HasRefused, KeepsRest, table_cost}
 
 some_not_none : {A : Type 0} (x : A) → Some x ≡ None → ⊥
 some_not_none x e = cc
@@ -30,52 +33,77 @@ pub behind : {A : Type 0} (Fact : A → Type 0) (front rest : List A) → All Fa
 behind Fact [] rest h = h
 behind Fact (x ∷ front) rest h = behind Fact front rest (λ k d lt. h (suc k) d (omega arith))
 
-last_fits : (priority : Priorities) (cuts more : List Cut) (groups : List (List Piece)) → cuts ++ more ≡ cuts_of priority groups → All (IsShort priority) groups → All (IsFit priority) more
-last_fits priority cuts more groups e h = behind (IsFit priority) cuts more (subst (All (IsFit priority)) (sym e) (all_fit priority groups h))
+last_fits : (priority : Priorities) (cuts more : List Cut) (groups : List (List Piece))
+    → cuts ++ more ≡ cuts_of priority groups → All (IsShort priority) groups → All (IsFit priority) more
+last_fits priority cuts more groups e h =
+    behind (IsFit priority) cuts more (subst (All (IsFit priority)) (sym e) (all_fit priority groups h))
 
 cuts_length : (priority : Priorities) (groups : List (List Piece)) → length (cuts_of priority groups) ≡ length groups
 cuts_length priority [] = refl
 cuts_length priority (group ∷ groups) = ap suc (cuts_length priority groups)
 
-few_cuts : (splitter : Splitter) (priority : Priorities) (pieces : List Piece) (cuts : List Cut) → HasAdded splitter priority pieces cuts → length cuts < MAX_GROUPS
+few_cuts : (splitter : Splitter) (priority : Priorities) (pieces : List Piece) (cuts : List Cut)
+    → HasAdded splitter priority pieces cuts → length cuts < MAX_GROUPS
 few_cuts splitter priority pieces cuts h =
     let count : length cuts ≡ length h.gone = ap length h.cut ∙ cuts_length priority h.gone in
     let few = h.few in
     omega arith
 
 -- the costs of the tables are those of the cuts
-costs_same : (priority : Priorities) (cuts : List Cut) → map table_cost (tables_of priority cuts) ≡ map (cost_in priority) cuts
+costs_same : (priority : Priorities) (cuts : List Cut)
+    → map table_cost (tables_of priority cuts) ≡ map (cost_in priority) cuts
 costs_same priority [] = refl
 costs_same priority (cut ∷ cuts) = ap (λ ns. cost_in priority cut ∷ ns) (costs_same priority cuts)
 
-pub judged_large : (kept : GroupTables) (priority : Priorities) (cuts : List Cut) (large : Option ℕ) → kept.wide ≡ None → large ≡ first_above MAX_SESSION 0 (map table_cost kept.tables.items) → HasTables kept priority cuts → fault_of_cuts priority cuts ≡ large_fault large
+pub judged_large : (kept : GroupTables) (priority : Priorities) (cuts : List Cut) (large : Option ℕ) → kept.wide ≡ None
+    → large ≡ first_above MAX_SESSION 0 (map table_cost kept.tables.items) → HasTables kept priority cuts
+    → fault_of_cuts priority cuts ≡ large_fault large
 judged_large kept priority cuts large none is h =
     ap (λ o. size_fault o (first_above MAX_SESSION 0 (map (cost_in priority) cuts))) (sym h.wide ∙ none)
-    ∙ sym (ap large_fault (is ∙ ap (first_above MAX_SESSION 0) (ap (map table_cost) (h.tables none) ∙ costs_same priority cuts)))
+    ∙ sym (ap large_fault
+    (is ∙ ap (first_above MAX_SESSION 0) (ap (map table_cost) (h.tables none) ∙ costs_same priority cuts)))
 
 -- what the groups and the cuts say of the pieces
-pub fault_refused : (priority : Priorities) (pieces : List Piece) (fault : SplitFault) (o : Option SessionFault) → fault_of (layer_of priority) (length priority.layers) (groups_of pieces) ≡ Some fault → ((later : Option SessionFault) → fault_after (Some fault) later ≡ o) → session_fault priority pieces ≡ o
+pub fault_refused : (priority : Priorities) (pieces : List Piece) (fault : SplitFault) (o : Option SessionFault)
+    → fault_of (layer_of priority) (length priority.layers) (groups_of pieces) ≡ Some fault
+    → ((later : Option SessionFault) → fault_after (Some fault) later ≡ o) → session_fault priority pieces ≡ o
 unfolding session_fault
 fault_refused priority pieces fault o is after =
-    ap (λ f. fault_after f (fault_of_cuts priority (cuts_of priority (groups_of pieces)))) is ∙ after (fault_of_cuts priority (cuts_of priority (groups_of pieces)))
+    ap (λ f. fault_after f (fault_of_cuts priority (cuts_of priority (groups_of pieces)))) is
+    ∙ after (fault_of_cuts priority (cuts_of priority (groups_of pieces)))
 
-pub fault_judged : (priority : Priorities) (pieces : List Piece) (cuts : List Cut) (o : Option SessionFault) → fault_of (layer_of priority) (length priority.layers) (groups_of pieces) ≡ None → cuts ≡ cuts_of priority (groups_of pieces) → fault_of_cuts priority cuts ≡ o → session_fault priority pieces ≡ o
+pub fault_judged : (priority : Priorities) (pieces : List Piece) (cuts : List Cut) (o : Option SessionFault)
+    → fault_of (layer_of priority) (length priority.layers) (groups_of pieces) ≡ None
+    → cuts ≡ cuts_of priority (groups_of pieces) → fault_of_cuts priority cuts ≡ o → session_fault priority pieces ≡ o
 unfolding session_fault
 fault_judged priority pieces cuts o none is judged =
-    ap (λ f. fault_after f (fault_of_cuts priority (cuts_of priority (groups_of pieces)))) none ∙ (ap (fault_of_cuts priority) (sym is) ∙ judged)
+    ap (λ f. fault_after f (fault_of_cuts priority (cuts_of priority (groups_of pieces)))) none
+    ∙ (ap (fault_of_cuts priority) (sym is) ∙ judged)
 
 -- a piece more
 abbrev Adds : Splitter → Splitter → Piece → Option Cut → Type 0
-Adds old new piece cut = (priority : Priorities) (pieces : List Piece) (cuts : List Cut) → HasAdded old priority pieces cuts → HasAdded new priority (pieces ++ piece ∷ []) (cuts ++ cuts_in cut)
+Adds old new piece cut =
+    (priority : Priorities) (pieces : List Piece) (cuts : List Cut) → HasAdded old priority pieces cuts
+    → HasAdded new priority (pieces ++ piece ∷ []) (cuts ++ cuts_in cut)
 
 abbrev Keeps : GroupTables → GroupTables → Option Cut → Type 0
-Keeps old new cut = (priority : Priorities) (cuts : List Cut) → length cuts < MAX_GROUPS → All (IsFit priority) (cuts_in cut) → HasTables old priority cuts → HasTables new priority (cuts ++ cuts_in cut)
+Keeps old new cut =
+    (priority : Priorities) (cuts : List Cut) → length cuts < MAX_GROUPS → All (IsFit priority) (cuts_in cut)
+    → HasTables old priority cuts → HasTables new priority (cuts ++ cuts_in cut)
 
-pub keeps_some : (old new : GroupTables) (told : Option Cut) (cut : Cut) → told ≡ Some cut → ((priority : Priorities) (cuts : List Cut) → length cuts < MAX_GROUPS → IsFit priority cut → HasTables old priority cuts → HasTables new priority (cuts ++ cut ∷ [])) → Keeps old new told
-keeps_some old new told cut is one = subst (Keeps old new) (sym is) (λ priority cuts few fit h. one priority cuts few (fit 0 cut (omega arith)) h)
+pub keeps_some : (old new : GroupTables) (told : Option Cut) (cut : Cut) → told ≡ Some cut
+    → ((priority : Priorities) (cuts : List Cut) → length cuts < MAX_GROUPS → IsFit priority cut
+    → HasTables old priority cuts → HasTables new priority (cuts ++ cut ∷ [])) → Keeps old new told
+keeps_some old new told cut is one =
+    subst (Keeps old new) (sym is) (λ priority cuts few fit h. one priority cuts few (fit 0 cut (omega arith)) h)
 
-pub stays_live : (old new : Planner) (splitter : Splitter) (piece : Piece) (cut : Option Cut) → is_some old.refused ≡ false → Adds old.splitter splitter piece cut → KeepsRest (record old { splitter = splitter }) new → Keeps old.tables new.tables cut → (priority : Priorities) (pieces : List Piece) → HasPlanned old priority pieces → HasPlanned new priority (pieces ++ piece ∷ [])
-stays_live old new splitter piece cut live adds rest keeps priority pieces (inr h) = absurd (both_ways (is_some old.refused) live h.some)
+pub stays_live : (old new : Planner) (splitter : Splitter) (piece : Piece) (cut : Option Cut)
+    → is_some old.refused ≡ false → Adds old.splitter splitter piece cut
+    → KeepsRest (record old { splitter = splitter }) new → Keeps old.tables new.tables cut
+    → (priority : Priorities) (pieces : List Piece) → HasPlanned old priority pieces
+    → HasPlanned new priority (pieces ++ piece ∷ [])
+stays_live old new splitter piece cut live adds rest keeps priority pieces (inr h) =
+    absurd (both_ways (is_some old.refused) live h.some)
 stays_live old new splitter piece cut live adds rest keeps priority pieces (inl h) =
     let added = adds priority pieces h.cuts h.added in
     let fit = last_fits priority h.cuts (cuts_in cut) added.gone added.cut added.fit in
@@ -86,22 +114,35 @@ stays_live old new splitter piece cut live adds rest keeps priority pieces (inl 
       kept = keeps priority h.cuts (few_cuts old.splitter priority pieces h.cuts h.added) fit h.kept;
     })
 
-pub becomes_refused : (old new : Planner) (piece : Piece) (fault : SplitFault) → is_some old.refused ≡ false → HasRefused new fault → ((priority : Priorities) (pieces : List Piece) (cuts : List Cut) → HasAdded old.splitter priority pieces cuts → (later : List Piece) → fault_of (layer_of priority) (length priority.layers) (groups_of (pieces ++ piece ∷ later)) ≡ Some fault) → (priority : Priorities) (pieces : List Piece) → HasPlanned old priority pieces → HasPlanned new priority (pieces ++ piece ∷ [])
-becomes_refused old new piece fault live refused is priority pieces (inr h) = absurd (both_ways (is_some old.refused) live h.some)
+pub becomes_refused : (old new : Planner) (piece : Piece) (fault : SplitFault) → is_some old.refused ≡ false
+    → HasRefused new fault
+    → ((priority : Priorities) (pieces : List Piece) (cuts : List Cut) → HasAdded old.splitter priority pieces cuts
+    → (later : List Piece)
+    → fault_of (layer_of priority) (length priority.layers) (groups_of (pieces ++ piece ∷ later)) ≡ Some fault)
+    → (priority : Priorities) (pieces : List Piece) → HasPlanned old priority pieces
+    → HasPlanned new priority (pieces ++ piece ∷ [])
+becomes_refused old new piece fault live refused is priority pieces (inr h) =
+    absurd (both_ways (is_some old.refused) live h.some)
 becomes_refused old new piece fault live refused is priority pieces (inl h) =
     inr (record {
       some = refused.some;
       fault = λ later.
           ap (session_fault priority) (append_assoc pieces (piece ∷ []) later)
-          ∙ fault_refused priority (pieces ++ piece ∷ later) fault new.refused (is priority pieces h.cuts h.added later) refused.after;
+          ∙ fault_refused priority (pieces ++ piece ∷ later) fault new.refused
+          (is priority pieces h.cuts h.added later) refused.after;
     })
 
 -- the end
-pub ends_refused : (planner : Planner) (fault : SessionFault) → planner.refused ≡ Some fault → (priority : Priorities) (pieces : List Piece) → HasPlanned planner priority pieces → session_fault priority pieces ≡ Some fault
+pub ends_refused : (planner : Planner) (fault : SessionFault) → planner.refused ≡ Some fault
+    → (priority : Priorities) (pieces : List Piece) → HasPlanned planner priority pieces
+    → session_fault priority pieces ≡ Some fault
 ends_refused planner fault is priority pieces (inl h) = absurd (some_not_none fault (sym is ∙ h.none))
-ends_refused planner fault is priority pieces (inr h) = ap (session_fault priority) (sym (append-nil pieces)) ∙ (h.fault [] ∙ is)
+ends_refused planner fault is priority pieces (inr h) =
+    ap (session_fault priority) (sym (append-nil pieces)) ∙ (h.fault [] ∙ is)
 
-pub live_of : (planner : Planner) (priority : Priorities) (pieces : List Piece) → ((fault : SessionFault) → planner.refused ≢ Some fault) → HasPlanned planner priority pieces → IsLive planner priority pieces
+pub live_of : (planner : Planner) (priority : Priorities) (pieces : List Piece)
+    → ((fault : SessionFault) → planner.refused ≢ Some fault) → HasPlanned planner priority pieces
+    → IsLive planner priority pieces
 live_of planner priority pieces none (inl h) = h
 live_of planner priority pieces none (inr h) = absurd (told planner.refused none h.some)
   where
@@ -118,7 +159,11 @@ pub record AtEnd (planner : Planner) (cut : Option Cut) (priority : Priorities) 
   pub none : fault_of (layer_of priority) (length priority.layers) (groups_of pieces) ≡ None
   pub all : cuts ++ cuts_in cut ≡ cuts_of priority (groups_of pieces)
 
-pub at_end : (planner : Planner) (cut : Option Cut) (priority : Priorities) (pieces : List Piece) → ((priority : Priorities) (pieces : List Piece) (cuts : List Cut) → HasAdded planner.splitter priority pieces cuts → (cuts ++ cuts_in cut ≡ cuts_of priority (groups_of pieces)) × (fault_of (layer_of priority) (length priority.layers) (groups_of pieces) ≡ None)) → IsLive planner priority pieces → AtEnd planner cut priority pieces
+pub at_end : (planner : Planner) (cut : Option Cut) (priority : Priorities) (pieces : List Piece)
+    → ((priority : Priorities) (pieces : List Piece) (cuts : List Cut) → HasAdded planner.splitter priority pieces cuts
+    → (cuts ++ cuts_in cut ≡ cuts_of priority (groups_of pieces))
+    × (fault_of (layer_of priority) (length priority.layers) (groups_of pieces) ≡ None))
+    → IsLive planner priority pieces → AtEnd planner cut priority pieces
 at_end planner cut priority pieces ends h =
     let (all, none) = ends priority pieces h.cuts h.added in
     record {

@@ -6,6 +6,6 @@ pub mod Planning
 pub mod Passing
 pub mod Sources
 pub mod Marks
-pub mod Marking
 pub mod Sessions
+pub mod inside
 pub mod laws

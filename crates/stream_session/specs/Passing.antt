@@ -31,7 +31,8 @@ pub record IsLive (pass : Pass) (priority : Priorities) (file stream : List ℕ)
 -- however it goes on.
 abbrev pub HasPassed : Pass → Priorities → List ℕ → List ℕ → Type 0
 HasPassed pass priority file stream =
-    MatchOption pass.refused (IsLive pass priority file stream) (λ scan. (rest : List ℕ) → Refuses (stream ++ rest) scan)
+    MatchOption pass.refused (IsLive pass priority file stream)
+    (λ scan. (rest : List ℕ) → Refuses (stream ++ rest) scan)
 
 -- the number and the tables of the session that the stream is
 pub record IsPlanOf (plan : SessionPlan) (priority : Priorities) (file stream : List ℕ) : Type 0 where

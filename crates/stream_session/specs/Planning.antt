@@ -1,23 +1,15 @@
 -- Where a planner stands to the pieces that were added. This project's own.
-use Rattle.std.specs.Prelude.{◌≡◌, ◌≢◌, ◌≤◌, ◌⊎◌, ◌+◌, nat_lt, if◌then◌else◌, ℕ, List, [], ◌∷◌, ◌++◌, length, map, Option, Some, None, position, is_some, true}
+use Rattle.std.specs.Prelude.{◌≡◌, ◌≤◌, ◌⊎◌, List, ◌++◌, length, map, None, position, is_some, true}
 use Rattle.pet_base.specs.declared.limits.TheConstants.{MAX_LAYERS}
 use Rattle.mpeg_scan.specs.declared.piece.Piece.{Piece}
-use Rattle.stripe_plan.specs.Sizes.{Sizes, cost_of}
 use Rattle.priority_file.specs.Priority.{Priorities, is_priority}
-use Rattle.layer_split.specs.declared.fault.SplitFault.{SplitFault}
-use Rattle.layer_split.specs.declared.fault.SplitFault.TheVariants.{NoMemory}
 use Rattle.layer_split.specs.Layers.{Cut}
 use Rattle.layer_split.specs.Splitting.{HasAdded}
-use Rattle.stream_session.specs.declared.fault.SessionFault.{SessionFault}
 use Rattle.stream_session.specs.declared.group_tables.GroupTables.{GroupTables}
 use Rattle.stream_session.specs.declared.needs.LayerNeeds.{LayerNeeds}
 use Rattle.stream_session.specs.declared.planner.Planner.{Planner}
 use Rattle.stream_session.specs.Tables.{tables_of}
-use Rattle.stream_session.specs.Refusals.{is_wide, session_fault, fault_after}
-
--- the packets of a table times its datagram length
-abbrev pub table_cost : Sizes → ℕ
-table_cost table = cost_of table.packets table.layers
+use Rattle.stream_session.specs.Refusals.{is_wide, session_fault}
 
 -- these are the packets and the needs of the priority
 pub record AreOf (held : LayerNeeds) (priority : Priorities) : Type 0 where
@@ -31,17 +23,6 @@ pub record HasTables (kept : GroupTables) (priority : Priorities) (cuts : List C
   pub needs : AreOf kept.needs priority
   pub wide : kept.wide ≡ position (is_wide priority) cuts
   pub tables : kept.wide ≡ None → kept.tables.items ≡ tables_of priority cuts
-
--- what keeping a table leaves alone
-pub record KeepsRest (old new : Planner) : Type 0 where
-  pub splitter : new.splitter ≡ old.splitter
-  pub refused : new.refused ≡ old.refused
-
--- the planner keeps this fault of the groups
-pub record HasRefused (planner : Planner) (fault : SplitFault) : Type 0 where
-  pub told : fault ≢ NoMemory
-  pub some : is_some planner.refused ≡ true
-  pub after : (later : Option SessionFault) → fault_after (Some fault) later ≡ planner.refused
 
 -- the splitter has refused nothing, and of the cuts that it has answered the tables are kept
 pub record IsLive (planner : Planner) (priority : Priorities) (pieces : List Piece) : Type 0 where
@@ -58,9 +39,3 @@ pub record IsRefused (planner : Planner) (priority : Priorities) (pieces : List 
 -- The planner for this priority was given these pieces.
 abbrev pub HasPlanned : Planner → Priorities → List Piece → Type 0
 HasPlanned planner priority pieces = IsLive planner priority pieces ⊎ IsRefused planner priority pieces
-
--- the same as `first_above`, counted from `at`
-abbrev pub above_from : ℕ → ℕ → ℕ → List ℕ → Option ℕ
-above_from at limit before [] = None
-above_from at limit before (cost ∷ costs) =
-    if nat_lt limit (before + cost) then Some at else above_from (at + 1) limit (before + cost) costs

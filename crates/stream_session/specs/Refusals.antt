@@ -1,5 +1,6 @@
 -- Why a stream that is accepted has no session under a priority: the first cause that holds. This project's own.
-use Rattle.std.specs.Prelude.{ℕ, ◌+◌, nat_lt, Bool, if◌then◌else◌, List, [], ◌∷◌, length, map, Option, None, Some, option_map, position}
+use Rattle.std.specs.Prelude.{ℕ, ◌+◌, nat_lt, Bool, if◌then◌else◌, List, [], ◌∷◌, length, map, Option, None, Some}
+use Rattle.std.specs.Prelude.{option_map, position}
 use Rattle.pet_base.specs.declared.limits.TheConstants.{MAX_DATAGRAM, MAX_SESSION}
 use Rattle.mpeg_scan.specs.declared.piece.Piece.{Piece}
 use Rattle.stripe_plan.specs.Sizes.{datagram_length_of, cost_of}
@@ -11,7 +12,8 @@ use Rattle.layer_split.specs.Layers.{Cut}
 use Rattle.layer_split.specs.Faults.{fault_of}
 use Rattle.layer_split.specs.Splitting.{cuts_of}
 use Rattle.stream_session.specs.declared.fault.SessionFault.{SessionFault}
-use Rattle.stream_session.specs.declared.fault.SessionFault.TheVariants.{GroupTooLong, TooManyGroups, TooWide, TooLarge, NoMemory}
+use Rattle.stream_session.specs.declared.fault.SessionFault.TheVariants.{GroupTooLong, TooManyGroups, TooWide, TooLarge}
+use Rattle.stream_session.specs.declared.fault.SessionFault.TheVariants.{NoMemory}
 use Rattle.stream_session.specs.Tables.{sizes_of}
 
 -- a datagram of the group would be longer than a datagram may be
@@ -53,4 +55,5 @@ fault_of_cuts priority cuts =
 -- why these pieces of an accepted stream have no session, and None where they have one
 unfoldable pub session_fault : Priorities → List Piece → Option SessionFault
 session_fault priority pieces =
-    fault_after (fault_of (layer_of priority) (length priority.layers) (groups_of pieces)) (fault_of_cuts priority (cuts_of priority (groups_of pieces)))
+    fault_after (fault_of (layer_of priority) (length priority.layers) (groups_of pieces))
+    (fault_of_cuts priority (cuts_of priority (groups_of pieces)))

@@ -1,4 +1,5 @@
--- The session that a stream and a priority file in two files are, for the contracts of what reads both. This project's own.
+-- The session that a stream and a priority file in two files are, for the contracts of what reads both. This project's
+-- own.
 use Rattle.std.specs.Prelude.{◌≡◌, ℕ, List, Some}
 use Rattle.pet_base.specs.Seen.{Seen, Files}
 use Rattle.stripe_plan.specs.Sizes.{Sizes}

@@ -57,7 +57,8 @@ pub record BothFiles (files : Option Files) (stream priority : List ℕ) (P : Li
 -- This was at one of the files. The priority file is judged first: the stream is blamed only where that is accepted.
 abbrev pub IsOfSource : Option Files → List ℕ → List ℕ → Blame → Type 0
 IsOfSource files stream priority blame =
-    IsRead priority blame ⊎ (IsRead stream blame × (file : List ℕ) × IsFile files priority file × (refusal_of file ≡ None))
+    IsRead priority blame
+    ⊎ (IsRead stream blame × (file : List ℕ) × IsFile files priority file × (refusal_of file ≡ None))
 
 -- which of these tell of a failure of the place
 abbrev pub has_failed : SourceFault → Bool
@@ -67,14 +68,16 @@ has_failed (Priority fault) = false
 has_failed (Stream scan) = false
 has_failed (Plan fault) = false
 
--- When each fault comes: want of memory at any time, a failure where the place had a fault at one of the files, and else
+-- When each fault comes: want of memory at any time, a failure where the place had a fault at one of the files, and
+-- else
 -- the first refusal, of the priority file, of the stream, or of the plan.
 abbrev pub IsSourceFault : Seen → Seen → List ℕ → List ℕ → SourceFault → Type 0
 IsSourceFault old new stream priority NoMemory = Unit {0}
 IsSourceFault old new stream priority Failed = HadFault old new (IsOfSource old.files stream priority)
 IsSourceFault old new stream priority (Priority fault) =
     (file : List ℕ) × IsFile old.files priority file × (refusal_of file ≡ Some fault)
-IsSourceFault old new stream priority (Stream scan) = BothFiles old.files stream priority (λ file bytes. Refuses bytes scan)
+IsSourceFault old new stream priority (Stream scan) =
+    BothFiles old.files stream priority (λ file bytes. Refuses bytes scan)
 IsSourceFault old new stream priority (Plan fault) =
     BothFiles old.files stream priority (λ file bytes.
     IsAccepted bytes × (fault ≢ session.NoMemory) × (session_fault (priorities_of file) (pieces_of bytes) ≡ Some fault))

@@ -8,18 +8,18 @@ ghost use Rattle.stream_groups.specs.Cutting.{AreAll, IsCutFault};
 ghost use Rattle.stream_session.specs.Tables.{IsFit};
 ghost use Rattle.stream_session.specs.Number.{hashed};
 ghost use Rattle.stream_session.specs.Passing.{IsStreamFault};
-ghost use Rattle.stream_session.specs.Marking.{AreKept, HasKept, HasMarked, IsMarkedPlanOf};
+ghost use Rattle.stream_session.specs.inside.Marking.{AreKept, HasKept, HasMarked, IsMarkedPlanOf};
 
 use crate::group_tables::GroupTables;
 use crate::mark::GroupMark;
 use crate::pass::{SessionPlan, StreamFault, first_eight, hasher_of};
 use crate::planner::refusal_of;
 use crate::reader::StreamReader;
-use stream_groups::{CutFault, Group, GroupCutter};
 use pet_base::NoMemory;
 use priority_file::Priority;
 use sha2::{Digest, Sha256};
 use std::alloc::Global;
+use stream_groups::{CutFault, Group, GroupCutter};
 
 /// The session of a stream, and the marks of its groups.
 #[derive(Drop)]

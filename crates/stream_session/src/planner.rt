@@ -9,7 +9,8 @@ ghost use Rattle.layer_split.specs.Splitting.{cuts_of, cuts_in};
 ghost use Rattle.stream_session.specs.declared.fault.SessionFault.{SessionFault};
 ghost use Rattle.stream_session.specs.Tables.{tables_of, IsFit};
 ghost use Rattle.stream_session.specs.Refusals.{session_fault, fault_after, fault_of_cuts};
-ghost use Rattle.stream_session.specs.Planning.{HasPlanned, HasTables, HasRefused, KeepsRest};
+ghost use Rattle.stream_session.specs.Planning.{HasPlanned, HasTables};
+ghost use Rattle.stream_session.specs.inside.Planning.{HasRefused, KeepsRest};
 
 use crate::fault::SessionFault;
 use crate::group_tables::GroupTables;

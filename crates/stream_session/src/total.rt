@@ -2,10 +2,10 @@
 ghost use Rattle.std.specs.Prelude.{◌≡◌, map};
 ghost use Rattle.pet_base.specs.declared.limits.TheConstants.{MAX_SESSION};
 ghost use Rattle.stream_session.specs.Refusals.{first_above};
-ghost use Rattle.stream_session.specs.Planning.{table_cost};
+ghost use Rattle.stream_session.specs.inside.Planning.{table_cost};
 
-use pet_base::MAX_SESSION;
 use packet_session::group_cost;
+use pet_base::MAX_SESSION;
 use stripe_plan::Table;
 
 /// The first group with which the packets of these tables, times their datagram lengths, pass the bytes of a session.

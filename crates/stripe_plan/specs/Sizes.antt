@@ -1,6 +1,7 @@
 -- What contracts see of a table, and the bounds that each table keeps (this project's own).
 use Rattle.std.specs.Prelude.{◌≡◌, ℕ, ◌+◌, ◌*◌, ◌<◌, ◌≤◌, List, length, map, sum_by, All, if◌then◌else◌}
-use Rattle.pet_base.specs.declared.limits.TheConstants.{LAYER_LENGTH, MAX_LAYERS, MAX_PACKETS, MAX_GROUP_BYTES, MAX_DATAGRAM}
+use Rattle.pet_base.specs.declared.limits.TheConstants.{LAYER_LENGTH, MAX_LAYERS, MAX_PACKETS, MAX_GROUP_BYTES}
+use Rattle.pet_base.specs.declared.limits.TheConstants.{MAX_DATAGRAM}
 use Rattle.stripe_plan.specs.declared.bounds.Bounds.{Bounds}
 use Rattle.stripe_plan.specs.declared.bounds.TheConstants.{BOUNDS, OLD_BOUNDS, BYTE_BOUNDS}
 use Rattle.stripe_plan.specs.declared.layer.LayerSize.{LayerSize}

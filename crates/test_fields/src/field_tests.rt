@@ -1,8 +1,8 @@
 //! Products and inverses of the field of 65,536 elements, and elements as bytes.
 ghost use Rattle.std.specs.Prelude.{◌≡◌, ℕ, ◌<◌, length};
 
-use pet_base::Steps;
 use field_elements::{Field, Gf16Plain};
+use pet_base::Steps;
 use std::marker::Brand;
 use std::sync::ledger::{Blank, Ledger};
 

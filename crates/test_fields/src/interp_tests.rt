@@ -1,10 +1,9 @@
 //! The line through two points, over the field of 65,536 elements, at once and point by point.
 ghost use Rattle.std.specs.Prelude.{◌≡◌, ◌≢◌, ◌<◌};
 
-use pet_interp::interpolate;
-use pet_base::{NoMemory, Steps};
 use field_elements::Gf16Plain;
-use pet_interp::Progress;
+use pet_base::{NoMemory, Steps};
+use pet_interp::{Progress, interpolate};
 use std::alloc::Global;
 use std::marker::Brand;
 use std::sync::ledger::{Blank, Ledger};

@@ -1,8 +1,8 @@
 //! Values and products of polynomials, over the field of 65,536 elements.
 ghost use Rattle.std.specs.Prelude.{◌≡◌, ◌<◌};
 
-use pet_base::Steps;
 use field_elements::Gf16Plain;
+use pet_base::Steps;
 use pet_poly::{eval, times_linear};
 use std::marker::Brand;
 use std::sync::ledger::{Blank, Ledger};

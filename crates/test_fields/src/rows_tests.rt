@@ -3,9 +3,9 @@ ghost use Rattle.std.specs.Prelude.{◌≡◌, ℕ, ◌*◌, ◌<◌, ◌≤◌,
 ghost use Rattle.field_rows.specs.Blocks.{size_of, width_of};
 
 use crate::{digest, words};
-use pet_base::{NoMemory, Steps};
 use field_elements::Gf16Plain;
 use field_rows::{Block, MAX_WIDTH, Rows, block_values, lay_out, push_stripe};
+use pet_base::{NoMemory, Steps};
 use pet_field::Gf16Tables;
 use std::alloc::{AllocError, Global};
 use std::marker::Brand;

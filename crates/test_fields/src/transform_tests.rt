@@ -2,9 +2,9 @@
 ghost use Rattle.std.specs.Prelude.{◌≡◌, ◌+◌, ◌*◌, ◌<◌, ◌≤◌, ◌^◌, length, slice_index, IfOk, ℕ, vec_len};
 
 use crate::digest;
+use field_elements::Gf16Plain;
 use field_transform::{Subspaces, convert, values, values_at_coset};
 use pet_base::Steps;
-use field_elements::Gf16Plain;
 use pet_field::Gf16Tables;
 use std::alloc::{AllocError, Global};
 use std::marker::Brand;

@@ -2,11 +2,11 @@
 ghost use Rattle.std.specs.Prelude.{◌≡◌, ℕ, ◌+◌, ◌*◌, ◌<◌, ◌≤◌, length};
 
 use crate::{digest, words};
-use pet_base::{MAX_PACKETS, NoMemory, Steps};
 use field_elements::Gf16Plain;
 use field_rows::{Block, MAX_WIDTH};
-use pet_field::Gf16Tables;
 use field_values::AllValues;
+use pet_base::{MAX_PACKETS, NoMemory, Steps};
+use pet_field::Gf16Tables;
 use std::alloc::Global;
 use std::marker::Brand;
 use std::sync::ledger::{Blank, Ledger};

@@ -20,8 +20,10 @@ too_many most digits large =
       | inr e ↦ no_digits most digits e
     ]
 
-pub refused_digit : (most : ℕ) (digits : List ℕ) (value d : ℕ) (rest : List ℕ) → list_all is_digit digits ≡ list_all is_digit (d ∷ rest) → value_from 0 digits ≡ value_from value (d ∷ rest)
-    → None ≡ (if is_digit d && nat_le (10 * value + (d - 48)) most then Some (10 * value + (d - 48)) else None) → None ≡ number_up_to most digits
+pub refused_digit : (most : ℕ) (digits : List ℕ) (value d : ℕ) (rest : List ℕ)
+    → list_all is_digit digits ≡ list_all is_digit (d ∷ rest) → value_from 0 digits ≡ value_from value (d ∷ rest)
+    → None ≡ (if is_digit d && nat_le (10 * value + (d - 48)) most then Some (10 * value + (d - 48)) else None)
+    → None ≡ number_up_to most digits
 refused_digit most digits value d rest digit whole refused =
     elim (cases_Bool (is_digit d)) [
       | inl e ↦ (

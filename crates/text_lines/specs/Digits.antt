@@ -13,4 +13,5 @@ value_from value (c ∷ digits) = value_from (10 * value + (c - 48)) digits
 
 -- the number that these bytes are, where they are digits and it is no more than this
 abbrev pub number_up_to : ℕ → List ℕ → Option ℕ
-number_up_to most digits = if list_all is_digit digits && nat_le (value_from 0 digits) most then Some (value_from 0 digits) else None
+number_up_to most digits =
+    if list_all is_digit digits && nat_le (value_from 0 digits) most then Some (value_from 0 digits) else None

@@ -1,12 +1,16 @@
 -- The parts of a plan file: lines, words and numbers.
-use Rattle.std.proofs.Common.{◌≡◌, ◌≢◌, ℕ, ◌+◌, ◌-◌, ◌<◌, List, [], ◌∷◌, ◌++◌, length, take, drop, append_assoc, refl, sym, ap, ◌∙◌, subst, Bool, true, false, inl, inr, arith}
-use Rattle.std.specs.Prelude.{Option, Some, None, Result, Ok, Err, MatchOption, is_some, option_map, ◌==◌, if◌then◌else◌}
+use Rattle.std.proofs.Common.{◌≡◌, ◌≢◌, ℕ, ◌+◌, ◌-◌, ◌<◌, List, [], ◌∷◌, ◌++◌, length, take, drop, append_assoc, refl}
+use Rattle.std.proofs.Common.{sym, ap, ◌∙◌, subst, Bool, true, false, inl, inr, arith}
+use Rattle.std.specs.Prelude.{Option, Some, None, Result, Ok, Err, MatchOption, is_some, option_map, ◌==◌}
+use Rattle.std.specs.Prelude.{if◌then◌else◌}
 use Rattle.std.proofs.lemmas.Bool.{cases_Bool}
 use Rattle.std.proofs.lemmas.List.{take_all, length-drop}
 use Rattle.text_plan.specs.declared.plan_file.Repeat.{Repeat}
 use Rattle.text_plan.specs.declared.plan_file.PlanFault.{PlanFault}
 use Rattle.text_plan.specs.declared.plan_file.PlanFault.TheVariants.{Text, NoMemory}
-use Rattle.text_plan.specs.PlanFile.{split_from, split_at, without_empty_end, lines_of, repeat_in, repeats_in, behind_lengths, repeats_of_line, is_lengths_line, then_lists, with_line, behind_lists, lists_from, lists_of, IsRefused}
+use Rattle.text_plan.specs.PlanFile.{split_from, split_at, without_empty_end, lines_of, repeat_in, repeats_in}
+use Rattle.text_plan.specs.PlanFile.{behind_lengths, repeats_of_line, is_lengths_line, then_lists, with_line}
+use Rattle.text_plan.specs.PlanFile.{behind_lists, lists_from, lists_of, IsRefused}
 
 -- the repeats that were read, and those of the words ahead
 abbrev pub repeats_ahead : List Repeat → Option (List ℕ) → Option (List Repeat)
@@ -18,7 +22,8 @@ size_ahead None = 0
 size_ahead (Some words) = length words + 1
 
 -- there is a first part
-pub parts_some : (mark : ℕ) (part bytes : List ℕ) → (first : List ℕ) × (rest : List (List ℕ)) × (split_from mark part bytes ≡ first ∷ rest)
+pub parts_some : (mark : ℕ) (part bytes : List ℕ)
+    → (first : List ℕ) × (rest : List (List ℕ)) × (split_from mark part bytes ≡ first ∷ rest)
 parts_some mark part [] = (part, [], refl)
 parts_some mark part (b ∷ bytes) =
     elim (cases_Bool (b == mark)) [
@@ -29,23 +34,27 @@ parts_some mark part (b ∷ bytes) =
           )
     ]
 
-line_kept : (line : List ℕ) (parts : List (List ℕ)) (first : List ℕ) (rest : List (List ℕ)) → parts ≡ first ∷ rest → without_empty_end (line ∷ parts) ≡ line ∷ without_empty_end parts
+line_kept : (line : List ℕ) (parts : List (List ℕ)) (first : List ℕ) (rest : List (List ℕ)) → parts ≡ first ∷ rest
+    → without_empty_end (line ∷ parts) ≡ line ∷ without_empty_end parts
 line_kept [] parts first rest is = subst (λ p. without_empty_end ([] ∷ p) ≡ [] ∷ without_empty_end p) (sym is) refl
 line_kept (b ∷ line) parts first rest is = refl
 
 -- a line in front of more
-pub lines_more : (bytes line rest : List ℕ) → split_at 10 bytes ≡ line ∷ split_at 10 rest → lines_of bytes ≡ line ∷ lines_of rest
+pub lines_more : (bytes line rest : List ℕ) → split_at 10 bytes ≡ line ∷ split_at 10 rest
+    → lines_of bytes ≡ line ∷ lines_of rest
 lines_more bytes line rest is =
     let more = parts_some 10 [] rest in
     ap without_empty_end is ∙ line_kept line (split_at 10 rest) more.0 more.1 more.2
 
 -- the last line, which no newline ends
-pub lines_last : (bytes line : List ℕ) → 0 < length bytes → line ≡ bytes → split_at 10 bytes ≡ line ∷ [] → lines_of bytes ≡ line ∷ lines_of []
+pub lines_last : (bytes line : List ℕ) → 0 < length bytes → line ≡ bytes → split_at 10 bytes ≡ line ∷ []
+    → lines_of bytes ≡ line ∷ lines_of []
 lines_last bytes [] some same is = absurd (omega (arith, some, ap length same))
 lines_last bytes (b ∷ line) some same is = ap without_empty_end is
 
 -- a word of three parts or more
-pub three_parts : (word size behind times more : List ℕ) → split_at 120 word ≡ size ∷ split_at 120 behind → split_at 120 behind ≡ times ∷ split_at 120 more → None ≡ repeat_in (split_at 120 word)
+pub three_parts : (word size behind times more : List ℕ) → split_at 120 word ≡ size ∷ split_at 120 behind
+    → split_at 120 behind ≡ times ∷ split_at 120 more → None ≡ repeat_in (split_at 120 word)
 three_parts word size behind times more first second =
     let third = parts_some 120 [] more in
     sym (ap repeat_in (first ∙ ap (λ p. size ∷ p) (second ∙ ap (λ p. times ∷ p) third.2)))
@@ -53,7 +62,8 @@ three_parts word size behind times more first second =
 pub at_some : {A : Type 0} (o : Option A) (x : A) (P : Type 0) (Q : A → Type 0) → o ≡ Some x → MatchOption o P Q → Q x
 at_some o x P Q is so = subst (λ p. MatchOption p P Q) is so
 
-pub of_some : {A : Type 0} (o : Option A) (P : Type 0) (Q : A → Type 0) → is_some o ≡ true → MatchOption o P Q → (x : A) × Q x
+pub of_some : {A : Type 0} (o : Option A) (P : Type 0) (Q : A → Type 0) → is_some o ≡ true → MatchOption o P Q
+    → (x : A) × Q x
 of_some None P Q is so = grind (arith, is)
 of_some (Some x) P Q is so = (x, so)
 
@@ -67,39 +77,55 @@ unfolding lists_of
 lists_begun bytes = behind_none (lists_from 1 (lines_of bytes))
 
 -- a line that lists nothing
-pub line_skipped : (lists : List (List Repeat)) (number : ℕ) (line : List ℕ) (later : Result (List (List Repeat)) ℕ) → is_lengths_line line ≡ false → behind_lists lists (with_line number line later) ≡ behind_lists lists later
-line_skipped lists number line later other = ap (λ (b : Bool). behind_lists lists (if b then then_lists number (repeats_of_line line) later else later)) other
+pub line_skipped : (lists : List (List Repeat)) (number : ℕ) (line : List ℕ) (later : Result (List (List Repeat)) ℕ)
+    → is_lengths_line line ≡ false → behind_lists lists (with_line number line later) ≡ behind_lists lists later
+line_skipped lists number line later other =
+    ap (λ (b : Bool). behind_lists lists (if b then then_lists number (repeats_of_line line) later else later)) other
 
 -- the part of a line that is read
 behind_word : (line : List ℕ) → take (length line - 7) (drop 7 line) ≡ drop 7 line
 behind_word line = take_all (length line - 7) (drop 7 line) (omega (arith, length-drop 7 line))
 
-one_list : (lists : List (List Repeat)) (list : List Repeat) (number : ℕ) (later : Result (List (List Repeat)) ℕ) → behind_lists lists (then_lists number (Some list) later) ≡ behind_lists (lists ++ list ∷ []) later
+one_list : (lists : List (List Repeat)) (list : List Repeat) (number : ℕ) (later : Result (List (List Repeat)) ℕ)
+    → behind_lists lists (then_lists number (Some list) later) ≡ behind_lists (lists ++ list ∷ []) later
 one_list lists list number (Ok later) = ap Ok (sym (append_assoc lists (list ∷ []) later))
 one_list lists list number (Err line) = refl
 
-with_repeats : (number : ℕ) (line : List ℕ) (later : Result (List (List Repeat)) ℕ) (repeats read : Option (List Repeat)) → is_lengths_line line ≡ true → read ≡ behind_lengths (take (length line - 7) (drop 7 line)) → read ≡ repeats
+with_repeats : (number : ℕ) (line : List ℕ) (later : Result (List (List Repeat)) ℕ)
+    (repeats read : Option (List Repeat)) → is_lengths_line line ≡ true
+    → read ≡ behind_lengths (take (length line - 7) (drop 7 line)) → read ≡ repeats
     → with_line number line later ≡ then_lists number repeats later
 with_repeats number line later repeats read starts is same =
     ap (λ (b : Bool). if b then then_lists number (repeats_of_line line) later else later) starts
-    ∙ ap (λ (r : Option (List Repeat)). then_lists number r later) (sym (sym same ∙ (is ∙ ap behind_lengths (behind_word line))))
+    ∙ ap (λ (r : Option (List Repeat)). then_lists number r later)
+    (sym (sym same ∙ (is ∙ ap behind_lengths (behind_word line))))
 
 -- a line whose list was read, and one of another form
-pub line_read : (lists : List (List Repeat)) (number : ℕ) (line : List ℕ) (later : Result (List (List Repeat)) ℕ) (list : List Repeat) (read : Option (List Repeat)) → is_lengths_line line ≡ true
-    → read ≡ behind_lengths (take (length line - 7) (drop 7 line)) → read ≡ Some list → behind_lists lists (with_line number line later) ≡ behind_lists (lists ++ list ∷ []) later
+pub line_read : (lists : List (List Repeat)) (number : ℕ) (line : List ℕ) (later : Result (List (List Repeat)) ℕ)
+    (list : List Repeat) (read : Option (List Repeat)) → is_lengths_line line ≡ true
+    → read ≡ behind_lengths (take (length line - 7) (drop 7 line)) → read ≡ Some list
+    → behind_lists lists (with_line number line later) ≡ behind_lists (lists ++ list ∷ []) later
 line_read lists number line later list read starts is some =
-    ap (behind_lists lists) (with_repeats number line later (Some list) read starts is some) ∙ one_list lists list number later
+    ap (behind_lists lists) (with_repeats number line later (Some list) read starts is some)
+    ∙ one_list lists list number later
 
-pub line_refused : (number : ℕ) (line : List ℕ) (later : Result (List (List Repeat)) ℕ) (read : Option (List Repeat)) → is_lengths_line line ≡ true → read ≡ behind_lengths (take (length line - 7) (drop 7 line)) → read ≡ None
+pub line_refused : (number : ℕ) (line : List ℕ) (later : Result (List (List Repeat)) ℕ) (read : Option (List Repeat))
+    → is_lengths_line line ≡ true → read ≡ behind_lengths (take (length line - 7) (drop 7 line)) → read ≡ None
     → with_line number line later ≡ Err number
 line_refused number line later read starts is none = with_repeats number line later None read starts is none
 
 -- a line of another form
-pub refused_at : (bytes : List ℕ) (lists : List (List Repeat)) (number : ℕ) (line rest behind : List ℕ) (fault : PlanFault)
-    → lists_of bytes ≡ behind_lists lists (lists_from (number + 1) (lines_of rest)) → lines_of rest ≡ line ∷ lines_of behind
-    → (fault ≢ NoMemory → (fault ≡ Text (number + 1)) × ((later : Result (List (List Repeat)) ℕ) → with_line (number + 1) line later ≡ Err (number + 1))) → IsRefused bytes fault
+pub refused_at : (bytes : List ℕ) (lists : List (List Repeat)) (number : ℕ) (line rest behind : List ℕ)
+    (fault : PlanFault)
+    → lists_of bytes ≡ behind_lists lists (lists_from (number + 1) (lines_of rest))
+    → lines_of rest ≡ line ∷ lines_of behind
+    → (fault ≢ NoMemory
+    → (fault ≡ Text (number + 1))
+    × ((later : Result (List (List Repeat)) ℕ) → with_line (number + 1) line later ≡ Err (number + 1)))
+    → IsRefused bytes fault
 refused_at bytes lists number line rest behind NoMemory so is told = tt
 refused_at bytes lists number line rest behind (Text n) so is told =
     let t = told (λ e. absurd cc) in
     let same : n ≡ number + 1 = grind (arith, t.0) in
-    so ∙ ap (λ p. behind_lists lists (lists_from (number + 1) p)) is ∙ ap (behind_lists lists) (t.1 (lists_from (number + 1 + 1) (lines_of behind))) ∙ ap Err (sym same)
+    so ∙ ap (λ p. behind_lists lists (lists_from (number + 1) p)) is
+    ∙ ap (behind_lists lists) (t.1 (lists_from (number + 1 + 1) (lines_of behind))) ∙ ap Err (sym same)

@@ -6,5 +6,6 @@ pub seven : (a b c d e f g : List ℕ)
 seven a b c d e f g = simp append_assoc
 
 pub eleven : (a b c d e f g h i j k : List ℕ)
-    → a ++ (b ++ (c ++ (d ++ (e ++ (f ++ (g ++ (h ++ (i ++ (j ++ k))))))))) ≡ a ++ b ++ c ++ d ++ e ++ f ++ g ++ h ++ i ++ j ++ k
+    → a ++ (b ++ (c ++ (d ++ (e ++ (f ++ (g ++ (h ++ (i ++ (j ++ k)))))))))
+    ≡ a ++ b ++ c ++ d ++ e ++ f ++ g ++ h ++ i ++ j ++ k
 eleven a b c d e f g h i j k = simp append_assoc

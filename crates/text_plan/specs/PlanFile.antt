@@ -1,6 +1,7 @@
 -- The plan file that `check` reads: lines, of which those that begin with `lengths` list stripe lengths. This project's
 -- own format.
-use Rattle.std.specs.Prelude.{◌≡◌, ⊤, ℕ, ◌+◌, ◌==◌, nat_eq, Bool, if◌then◌else◌, List, [], ◌∷◌, ◌++◌, drop, Option, None, Some, option_map, Result, Ok, Err, codes}
+use Rattle.std.specs.Prelude.{◌≡◌, ⊤, ℕ, ◌+◌, ◌==◌, nat_eq, Bool, if◌then◌else◌, List, [], ◌∷◌, ◌++◌, drop, Option}
+use Rattle.std.specs.Prelude.{None, Some, option_map, Result, Ok, Err, codes}
 use Rattle.std.specs.List.{starts_with}
 use Rattle.text_lines.specs.Digits.{number_up_to}
 use Rattle.text_plan.specs.declared.plan_file.Repeat.{Repeat}
@@ -10,7 +11,8 @@ use Rattle.text_plan.specs.declared.plan_file.PlanFault.TheVariants.{Text, NoMem
 -- the parts between the bytes of this value, at least one; the first part has these bytes so far
 abbrev pub split_from : ℕ → List ℕ → List ℕ → List (List ℕ)
 split_from mark part [] = part ∷ []
-split_from mark part (b ∷ bytes) = if b == mark then part ∷ split_from mark [] bytes else split_from mark (part ++ b ∷ []) bytes
+split_from mark part (b ∷ bytes) =
+    if b == mark then part ∷ split_from mark [] bytes else split_from mark (part ++ b ∷ []) bytes
 
 abbrev pub split_at : ℕ → List ℕ → List (List ℕ)
 split_at mark bytes = split_from mark [] bytes
@@ -75,7 +77,8 @@ abbrev pub lists_from : ℕ → List (List ℕ) → Result (List (List Repeat)) 
 lists_from number [] = Ok []
 lists_from number (line ∷ lines) = with_line number line (lists_from (number + 1) lines)
 
--- one list for each line that begins with `lengths`, or the first of those of another form, numbered from 1 over all lines
+-- one list for each line that begins with `lengths`, or the first of those of another form, numbered from 1 over all
+-- lines
 unfoldable pub lists_of : List ℕ → Result (List (List Repeat)) ℕ
 lists_of bytes = lists_from 1 (lines_of bytes)
 

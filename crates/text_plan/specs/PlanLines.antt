@@ -15,12 +15,14 @@ hex_text bytes = flat_map (λ b. hex_digit (b / 16) ∷ hex_digit (b % 16) ∷ [
 -- a session: its number, its groups, and the packets of each
 abbrev pub plan_session_text : List ℕ → ℕ → ℕ → List ℕ
 plan_session_text session groups packets =
-    codes "session " ++ hex_text session ++ codes " groups " ++ decimal groups ++ codes " packets " ++ decimal packets ++ codes "\n"
+    codes "session " ++ hex_text session ++ codes " groups " ++ decimal groups ++ codes " packets " ++ decimal packets
+    ++ codes "\n"
 
 -- a session that was sent: its number, its groups, and the datagrams of all of them
 abbrev pub send_text : List ℕ → ℕ → ℕ → List ℕ
 send_text session groups datagrams =
-    codes "session " ++ hex_text session ++ codes " groups " ++ decimal groups ++ codes " datagrams " ++ decimal datagrams ++ codes "\n"
+    codes "session " ++ hex_text session ++ codes " groups " ++ decimal groups ++ codes " datagrams "
+    ++ decimal datagrams ++ codes "\n"
 
 -- a group: its words, the stripes of its plan and their bound, and the length of its datagrams
 abbrev pub plan_group_text : ℕ → ℕ → ℕ → ℕ → ℕ → List ℕ
@@ -31,7 +33,8 @@ plan_group_text group words stripes bound datagram =
 -- a layer: its name, its bytes and its need, and the count at which it is shown
 abbrev pub plan_layer_text : ℕ → List ℕ → LayerSize → ℕ → List ℕ
 plan_layer_text layer name size count =
-    codes "layer " ++ decimal layer ++ codes " " ++ name ++ codes " bytes " ++ decimal size.length ++ codes " need " ++ decimal size.need
+    codes "layer " ++ decimal layer ++ codes " " ++ name ++ codes " bytes " ++ decimal size.length ++ codes " need "
+    ++ decimal size.need
     ++ codes " count " ++ decimal count ++ codes "\n"
 
 -- one length more in front of rows of equal lengths, each a length and how often it stands

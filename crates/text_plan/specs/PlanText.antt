@@ -5,7 +5,8 @@ use Rattle.stripe_plan.specs.declared.layer.LayerSize.{LayerSize}
 use Rattle.stripe_plan.specs.Layers.{needs_of, plan_ends, bound_of, count_of}
 use Rattle.stripe_plan.specs.Sizes.{Sizes, datagram_length_of}
 use Rattle.text_plan.specs.declared.plan_file.Repeat.{Repeat}
-use Rattle.text_plan.specs.PlanLines.{plan_session_text, plan_group_text, plan_layer_text, lengths_text, plan_lengths, rows_of}
+use Rattle.text_plan.specs.PlanLines.{plan_session_text, plan_group_text, plan_layer_text, lengths_text, plan_lengths}
+use Rattle.text_plan.specs.PlanLines.{rows_of}
 
 -- the layers from this number on, with their rules and their sizes, out of all sizes of the group
 abbrev pub layers_text : ℕ → List Rule → List LayerSize → List LayerSize → List ℕ
@@ -17,7 +18,8 @@ layers_text layer (rule ∷ rules) (size ∷ sizes) all =
 -- a group, its layers, and the lengths of its stripes
 abbrev pub group_text : ℕ → List Rule → List LayerSize → List ℕ
 group_text group rules layers =
-    plan_group_text group (length (needs_of layers)) (length (plan_ends layers)) (bound_of layers) (datagram_length_of layers)
+    plan_group_text group (length (needs_of layers)) (length (plan_ends layers)) (bound_of layers)
+    (datagram_length_of layers)
     ++ layers_text 0 rules layers layers ++ lengths_text (plan_lengths layers)
 
 -- the groups from this number on

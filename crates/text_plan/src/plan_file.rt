@@ -2,9 +2,9 @@
 ghost use Rattle.std.specs.Prelude.{◌≡◌, ◌≢◌, ℕ, ◌+◌, ◌-◌, ◌*◌, ◌^◌, ◌<◌, ◌&&◌, if◌then◌else◌, nat_lt, List, [], ◌∷◌, length, map, Some, None, Ok, Err, Result, MatchOption, IfOk, IfErr, IfSome, OnOk, option_map};
 ghost use Rattle.text_plan.specs.PlanFile.{split_at, lines_of, lists_of, number_of, repeat_in, repeats_in, behind_lengths, with_line, behind_lists, IsRefused};
 
-use text_lines::read_number;
 use pet_base::NoMemory;
 use std::alloc::{AllocFailed, Global};
+use text_lines::read_number;
 
 /// Stripes on end of one length.
 #[derive(Clone, Copy, Debug, PartialEq, Eq)]

@@ -1,6 +1,7 @@
 //! The text of a whole plan.
 ghost use Rattle.std.specs.Prelude.{◌≡◌, ℕ, ◌^◌, ◌<◌, ◌≤◌, ◌++◌, length, take, OnOk, OnErr};
-ghost use Rattle.text_plan.specs.LayerLines.{layer_line, layer_lines, group_lines, AreTablesOf};
+ghost use Rattle.text_plan.specs.LayerLines.{AreTablesOf};
+ghost use Rattle.text_plan.specs.inside.LayerLines.{layer_line, layer_lines, group_lines};
 ghost use Rattle.text_plan.specs.PlanText.{plan_text};
 
 use crate::lengths::lengths_line;

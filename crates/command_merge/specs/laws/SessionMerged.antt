@@ -24,9 +24,11 @@ use Rattle.packet_met.specs.laws.StoreRead.{IsStoreOf, text_is, store_is, read_s
 use Rattle.command_merge.specs.Merges.{HasStores, FailedInTurn, WritesUnion, union_of, Merges}
 use Rattle.command_merge.specs.MergesSession.{HasStoresOf, CanMerge, MergesSession, CompletesMerge}
 use Rattle.command_merge.specs.declared.command.MergeEnd.{MergeEnd}
-use Rattle.command_merge.specs.declared.command.MergeEnd.TheVariants.{Done, NoMemory, PlaceFault, BadFirst, BadSecond, OtherSession, Clash, Full}
+use Rattle.command_merge.specs.declared.command.MergeEnd.TheVariants.{Done, NoMemory, PlaceFault, BadFirst, BadSecond}
+use Rattle.command_merge.specs.declared.command.MergeEnd.TheVariants.{OtherSession, Clash, Full}
 
-wider : (blame : Blame) {P : Blame → Type 0} → ((b : Blame) → b ≡ blame → P b) → (old new : Seen) → Failed (blame ∷ []) old new → HadFault old new P
+wider : (blame : Blame) {P : Blame → Type 0} → ((b : Blame) → b ≡ blame → P b) → (old new : Seen)
+    → Failed (blame ∷ []) old new → HadFault old new P
 wider blame {P} to old new f = record { rose = f.rose; blame = by new.blamed f.blame }
   where
     by : (o : Option Blame) → IfSome o (λ b. b ≡ blame) → IfSome o P
@@ -34,7 +36,8 @@ wider blame {P} to old new f = record { rose = f.rose; blame = by new.blamed f.b
     by (Some b) is = to b is
 
 -- a fault of one of the files in its turn is a fault of the command's
-in_turn : (first second out : List ℕ) (old new : Seen) → FailedInTurn first second out old new → Failed (reading first ∷ reading second ∷ writing out ∷ []) old new
+in_turn : (first second out : List ℕ) (old new : Seen) → FailedInTurn first second out old new
+    → Failed (reading first ∷ reading second ∷ writing out ∷ []) old new
 in_turn first second out old new (inl f) = wider (reading first) (λ b is. inl is) old new f
 in_turn first second out old new (inr (inl f)) = wider (reading second) (λ b is. inr (inl is)) old new f.1
 in_turn first second out old new (inr (inr f)) = wider (writing out) (λ b is. inr (inr is)) old new f.1
@@ -42,7 +45,8 @@ in_turn first second out old new (inr (inr f)) = wider (writing out) (λ b is. i
 none_some : {P : Type 0} (fault : Absorb) → None ≡ Some fault → P
 none_some fault e = cc
 
-module _ (s : Session) (first second out : List ℕ) (files : Files) (a b : List Pair) (old new : Seen) (given : HasStoresOf s first second files a b old) where
+module _ (s : Session) (first second out : List ℕ) (files : Files) (a b : List Pair) (old new : Seen)
+    (given : HasStoresOf s first second files a b old) where
   one : (set : KeptSet) × IsStoreOf s a set
   one = store_is s a given.session given.fits
 
@@ -53,7 +57,8 @@ module _ (s : Session) (first second out : List ℕ) (files : Files) (a b : List
   joined = met_sets_fit gf16_coding s MAX_SESSION MAX_SESSION a b one.0 other.0 one.1.is_met other.1.is_met given.fits
 
   together : IsMetSet gf16_coding s MAX_SESSION (a ++ b) (union one.0 other.0)
-  together = met_sets_join gf16_coding s MAX_SESSION MAX_SESSION a b one.0 other.0 one.1.is_met other.1.is_met given.fits
+  together =
+      met_sets_join gf16_coding s MAX_SESSION MAX_SESSION a b one.0 other.0 one.1.is_met other.1.is_met given.fits
 
   first_so : (st : HasStores first second old) → st.a ≡ one.0
   first_so st = read_so s files old.files first a one.0 st.a given.told given.first_is one.1 st.first_is
@@ -71,31 +76,39 @@ module _ (s : Session) (first second out : List ℕ) (files : Files) (a b : List
   not_joined st fault is = none_some fault (sym (joins st) ∙ is)
 
   -- what was written
-  session_merged : (w : WritesUnion first second out old new) (n : ℕ) → n ≡ kept_in_all (union_of w.joins) → MergesSession s out files (a ++ b) new (Done n)
+  session_merged : (w : WritesUnion first second out old new) (n : ℕ) → n ≡ kept_in_all (union_of w.joins)
+      → MergesSession s out files (a ++ b) new (Done n)
   session_merged w n is =
       let u = union one.0 other.0 in
-      let text : store_text (union_of w.joins) ≡ pairs_store s (a ++ b) = ap store_text (union_so w.joins.stores) ∙ text_is s (a ++ b) u together in
+      let text : store_text (union_of w.joins) ≡ pairs_store s (a ++ b) =
+      ap store_text (union_so w.joins.stores) ∙ text_is s (a ++ b) u together in
       let many : kept_in_all (union_of w.joins) ≡ length (met_frames s (a ++ b)) =
       ap kept_in_all (union_so w.joins.stores) ∙ sym (frames_many u)
       ∙ ap (λ (l : List Fields). length l) (its_frames gf16_coding s MAX_SESSION (a ++ b) u together) in
       record {
         file =
-            w.file ∙ ap (λ (o : Option Files). option_map (with_files (store_file out (union_of w.joins) ∷ [])) o) given.told
+            w.file ∙ ap
+            (λ (o : Option Files). option_map (with_files (store_file out (union_of w.joins) ∷ [])) o) given.told
             ∙ ap (λ (t : List ℕ). Some (with_file out t files)) text;
         ended = ap (λ (k : ℕ). Done k) (is ∙ many);
       }
 
   -- by the end
-  pub ends_merged : (end : MergeEnd) → CanMerge s first second out files a b old new end → Merges first second out old new end → MergesSession s out files (a ++ b) new end
+  pub ends_merged : (end : MergeEnd) → CanMerge s first second out files a b old new end
+      → Merges first second out old new end → MergesSession s out files (a ++ b) new end
   ends_merged (Done n) can merges = session_merged merges.0 n merges.1
   ends_merged NoMemory can merges = absurd (can.memory refl)
   ends_merged PlaceFault can merges = absurd (can.well (in_turn first second out old new merges.0))
-  ends_merged (BadFirst at kind) can merges = not_refused s files old.files first a one.0 (At at kind) given.told given.first_is one.1 merges.0
-  ends_merged (BadSecond at kind) can merges = not_refused s files old.files second b other.0 (At at kind) given.told given.second_is other.1 merges.1
+  ends_merged (BadFirst at kind) can merges =
+      not_refused s files old.files first a one.0 (At at kind) given.told given.first_is one.1 merges.0
+  ends_merged (BadSecond at kind) can merges =
+      not_refused s files old.files second b other.0 (At at kind) given.told given.second_is other.1 merges.1
   ends_merged OtherSession can merges = not_joined merges.0 absorb.OtherSession merges.1
   ends_merged (Clash group number) can merges = not_joined merges.0 (absorb.Clash group number) merges.1
   ends_merged (Full group) can merges = not_joined merges.0 (absorb.Full group) merges.1
 
 -- stores of one session are merged, by what `merge` does
-pub completes_merge : (first second out : List ℕ) (old new : Seen) (end : MergeEnd) → Merges first second out old new end → CompletesMerge first second out old new end
-completes_merge first second out old new end merges = λ s files a b can. ends_merged s first second out files a b old new can.given end can merges
+pub completes_merge : (first second out : List ℕ) (old new : Seen) (end : MergeEnd)
+    → Merges first second out old new end → CompletesMerge first second out old new end
+completes_merge first second out old new end merges = λ s files a b can. ends_merged s first second out files a b old
+    new can.given end can merges

@@ -5,7 +5,8 @@ use Rattle.stream_session.specs.Sources.{IsSourceFault}
 use Rattle.stream_session.specs.declared.source.SourceFault.{SourceFault}
 use Rattle.stream_session.specs.declared.source.SourceFault.TheVariants as source
 use Rattle.command_plan.specs.declared.planning.PlanEnd.{PlanEnd}
-use Rattle.command_plan.specs.declared.planning.PlanEnd.TheVariants.{Done, NoMemory, PlaceFault, BadPriority, BadStream, BadPlan}
+use Rattle.command_plan.specs.declared.planning.PlanEnd.TheVariants.{Done, NoMemory, PlaceFault, BadPriority, BadStream}
+use Rattle.command_plan.specs.declared.planning.PlanEnd.TheVariants.{BadPlan}
 use Rattle.command_plan.specs.Planned.{CanPlan, HasPlanned, PlansSession}
 use Rattle.command_plan.specs.Plans.{PlanEnds, Plans}
 use Rattle.command_plan.specs.SessionPlan.{session_plan}
@@ -16,8 +17,10 @@ module _ (stream priority : List ℕ) (old new : Seen) where
   module _ (p b : List ℕ) (end : PlanEnd) (can : CanPlan stream priority p b old new end) where
     plan_is : (s : HasSession old stream priority) → session_plan s.priority_bytes s.stream_bytes ≡ session_plan p b
     plan_is s =
-        ap (λ (f : List ℕ). session_plan f s.stream_bytes) (priority_is old new stream priority p b can.given s.priority_bytes s.priority_file)
-        ∙ ap (λ (t : List ℕ). session_plan p t) (stream_is old new stream priority p b can.given s.stream_bytes s.stream_file)
+        ap (λ (f : List ℕ). session_plan f s.stream_bytes)
+        (priority_is old new stream priority p b can.given s.priority_bytes s.priority_file)
+        ∙ ap (λ (t : List ℕ). session_plan p t)
+        (stream_is old new stream priority p b can.given s.stream_bytes s.stream_file)
 
     none_is : (fault : SourceFault) → fault ≢ source.NoMemory → IsSourceFault old new stream priority fault → ⊥
     none_is fault memory is = no_fault old new stream priority p b can.given fault memory can.well is

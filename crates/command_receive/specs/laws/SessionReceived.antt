@@ -1,5 +1,6 @@
 -- The headline, from what each end tells.
-use Rattle.std.proofs.Common.{◌≡◌, ℕ, ◌<◌, Bool, true, cond, List, [], ◌∷◌, ◌++◌, length, Option, None, Some, refl, sym, ap, subst, ◌∙◌, arith, inl, inr}
+use Rattle.std.proofs.Common.{◌≡◌, ℕ, ◌<◌, Bool, true, cond, List, [], ◌∷◌, ◌++◌, length, Option, None, Some, refl, sym}
+use Rattle.std.proofs.Common.{ap, subst, ◌∙◌, arith, inl, inr}
 use Rattle.std.specs.Prelude.{All, option_map, IfSome}
 use Rattle.std.specs.Io.KnownBytes.{append_known}
 use Rattle.std.proofs.lemmas.Bool.{false_from_ne_true}
@@ -30,11 +31,14 @@ use Rattle.packet_met.specs.laws.DatagramMore.{made, IsPlain}
 use Rattle.packet_met.specs.laws.FewestStripesLaws.{all_carry_fewest}
 use Rattle.packet_met.specs.laws.KeptIsMet.{Follows}
 use Rattle.command_receive.specs.declared.command.ReceiveEnd.{ReceiveEnd}
-use Rattle.command_receive.specs.declared.command.ReceiveEnd.TheVariants.{Done, NoMemory, PlaceFault, LinkFault, OutFault, Incomplete, TurnsSpent}
+use Rattle.command_receive.specs.declared.command.ReceiveEnd.TheVariants.{Done, NoMemory, PlaceFault, LinkFault}
+use Rattle.command_receive.specs.declared.command.ReceiveEnd.TheVariants.{OutFault, Incomplete, TurnsSpent}
 use Rattle.store_text.specs.Files.{HasFile}
 use Rattle.store_text.specs.Store.{store_of, store_text}
-use Rattle.command_receive.specs.Receives.{AreRead, IsBoundAtEnd, IsRead, IsUseInTurn, layers_file, kept_file, port_line, uses_of, Reads, EndsReceive, Receives, numbers_text}
-use Rattle.command_receive.specs.ReceivesSession.{HasDatagrams, HasPacketsOf, CanReceive, ReceivesSession, CompletesReceive}
+use Rattle.command_receive.specs.Receives.{AreRead, IsBoundAtEnd, IsRead, IsUseInTurn, layers_file, kept_file}
+use Rattle.command_receive.specs.Receives.{port_line, uses_of, Reads, EndsReceive, Receives, numbers_text}
+use Rattle.command_receive.specs.ReceivesSession.{HasDatagrams, HasPacketsOf, CanReceive, ReceivesSession}
+use Rattle.command_receive.specs.ReceivesSession.{CompletesReceive}
 
 same_some : {A : Type 0} (x y : A) → Some x ≡ Some y → x ≡ y
 same_some x y e = cc
@@ -43,35 +47,47 @@ none_some : {A : Type 0} (x : A) → None ≡ Some x → ⊥
 none_some x e = cc
 
 -- the datagrams that are told are those that were read, where these are fewer than the most
-all_of : (read more ds : List (List ℕ)) → length ds < MAX_DATAGRAMS → ds ≡ read ++ more → (length read < MAX_DATAGRAMS → more ≡ []) → (ds ≡ read) × (length read < MAX_DATAGRAMS)
+all_of : (read more ds : List (List ℕ)) → length ds < MAX_DATAGRAMS → ds ≡ read ++ more
+    → (length read < MAX_DATAGRAMS → more ≡ []) → (ds ≡ read) × (length read < MAX_DATAGRAMS)
 all_of read more ds fewer is none =
-    let few : length read < MAX_DATAGRAMS = omega (arith, fewer, ap (λ (l : List (List ℕ)). length l) is, length-append read more) in
+    let few : length read < MAX_DATAGRAMS =
+    omega (arith, fewer, ap (λ (l : List (List ℕ)). length l) is, length-append read more) in
     (is ∙ ap (λ (l : List (List ℕ)). read ++ l) (none few) ∙ append-nil read, few)
 
-left_all : (read ds : List (List ℕ)) (old now : Option (List (List ℕ))) → old ≡ Some ds → length ds < MAX_DATAGRAMS → HaveCome read old now → (length read < MAX_DATAGRAMS → IfSome now (λ more. more ≡ [])) → (ds ≡ read) × (length read < MAX_DATAGRAMS)
+left_all : (read ds : List (List ℕ)) (old now : Option (List (List ℕ))) → old ≡ Some ds → length ds < MAX_DATAGRAMS
+    → HaveCome read old now → (length read < MAX_DATAGRAMS → IfSome now (λ more. more ≡ []))
+    → (ds ≡ read) × (length read < MAX_DATAGRAMS)
 left_all read ds old None told fewer come none = absurd (none_some ds (sym come ∙ told))
 left_all read ds old (Some more) told fewer come none = all_of read more ds fewer (same_some _ _ (sym told ∙ come)) none
 
-all_read : (from : Way) (read ds : List (List ℕ)) (files : Files) (before after : OutsideSeen) → before.place.files ≡ Some files → HasDatagrams from files ds before → length ds < MAX_DATAGRAMS → IsRead from read before after
+all_read : (from : Way) (read ds : List (List ℕ)) (files : Files) (before after : OutsideSeen)
+    → before.place.files ≡ Some files → HasDatagrams from files ds before → length ds < MAX_DATAGRAMS
+    → IsRead from read before after
     → (ds ≡ read) × (length read < MAX_DATAGRAMS)
 all_read (OnFile name) read ds files before after told found fewer input =
     let at = subst (λ (o : Option Files). HasFile o name (AreRead read)) told input in
     let is : AreRead read found.0 = subst (AreRead read) (same_some at.0 found.0 (sym at.1 ∙ found.1)) at.2 in
     all_of read is.0 ds fewer (sym found.2 ∙ is.1) is.2
-all_read (OnLink address) read ds files before after told found fewer input = left_all read ds before.link.feed after.link.feed found fewer input.0 input.1
+all_read (OnLink address) read ds files before after told found fewer input =
+    left_all read ds before.link.feed after.link.feed found fewer input.0 input.1
 
 -- what may be blamed in its turn is one of the files that are used
-is_used : (from : Way) (layers store : List ℕ) (before after : OutsideSeen) (b : Blame) → IsUseInTurn from layers store before after b → IsOneOf (uses_of from layers store) b
+is_used : (from : Way) (layers store : List ℕ) (before after : OutsideSeen) (b : Blame)
+    → IsUseInTurn from layers store before after b → IsOneOf (uses_of from layers store) b
 is_used (OnFile name) layers store before after b (inl (inl is)) = inl is
 is_used (OnFile name) layers store before after b (inl (inr is)) = inr (inl is)
 is_used (OnFile name) layers store before after b (inr is) = inr (inr is.0)
 is_used (OnLink address) layers store before after b (inl is) = inl is
 is_used (OnLink address) layers store before after b (inr is) = inr is.0
 
-in_turn : (from : Way) (layers store : List ℕ) (before after : OutsideSeen) → HadFault before.place after.place (IsUseInTurn from layers store before after) → Failed (uses_of from layers store) before.place after.place
-in_turn from layers store before after had = HadFault-since before.place before.place after.place _ _ (omega arith) (is_used from layers store before after) had
+in_turn : (from : Way) (layers store : List ℕ) (before after : OutsideSeen)
+    → HadFault before.place after.place (IsUseInTurn from layers store before after)
+    → Failed (uses_of from layers store) before.place after.place
+in_turn from layers store before after had =
+    HadFault-since before.place before.place after.place _ _ (omega arith) (is_used from layers store before after) had
 
-module _ (s : Session) (from : Way) (layers store : List ℕ) (files : Files) (ds : List (List ℕ)) (before after : OutsideSeen) (given : HasPacketsOf s from files ds before) where
+module _ (s : Session) (from : Way) (layers store : List ℕ) (files : Files) (ds : List (List ℕ))
+    (before after : OutsideSeen) (given : HasPacketsOf s from files ds before) where
   module _ (r : Reads from s.number layers store before after) where
     read_is : (ds ≡ r.read) × (length r.read < MAX_DATAGRAMS)
     read_is = all_read from r.read ds files before after given.told given.found given.few r.input
@@ -83,32 +99,43 @@ module _ (s : Session) (from : Way) (layers store : List ℕ) (files : Files) (d
     follows = follows_all (λ a. a < 65536) gf16_coding s MAX_SESSION given.session given.fits r.read plain
 
     -- every layer is shown exactly where the session is complete
-    pub shown_where : (IsComplete (kept_of s.number r.read) → all_shown s (met_in s.number r.read) ≡ true) × (all_shown s (met_in s.number r.read) ≡ true → IsComplete (kept_of s.number r.read))
+    pub shown_where : (IsComplete (kept_of s.number r.read) → all_shown s (met_in s.number r.read) ≡ true)
+        × (all_shown s (met_in s.number r.read) ≡ true → IsComplete (kept_of s.number r.read))
     shown_where =
-        let complete = complete_is (made gf16_coding) s MAX_SESSION (met_in s.number r.read) (kept_of s.number r.read) given.session follows in
+        let complete = complete_is (made gf16_coding) s MAX_SESSION (met_in s.number r.read)
+        (kept_of s.number r.read) given.session follows in
         (complete.0, complete.1)
 
     -- what was read and printed is what the session defines
-    pub session_received : (end : ReceiveEnd) → IsBoundTo from before.link after.link → end ≡ cond (all_shown s (met_in s.number r.read)) Done Incomplete → Printed (port_line from after.link ++ numbers_text s.number r.read) before after
+    pub session_received : (end : ReceiveEnd) → IsBoundTo from before.link after.link
+        → end ≡ cond (all_shown s (met_in s.number r.read)) Done Incomplete
+        → Printed (port_line from after.link ++ numbers_text s.number r.read) before after
         → ReceivesSession s from layers store files ds before after end
     session_received end listens ended printed =
         let pairs = met_in s.number r.read in
         let kept = kept_of s.number r.read in
         let stored : store_text kept ≡ session_store s r.read =
-        ap (λ (n : List ℕ). store_of n (frames_in kept)) follows.session ∙ ap (store_of s.number) (kept_frames gf16_coding s (λ a. a < 65536) r.read given.session given.fits plain) in
-        let text : r.text ≡ layers_text s r.read = text_is (λ a. a < 65536) gf16_coding s MAX_SESSION given.session given.fits r.read r.text plain r.is_text in
+        ap (λ (n : List ℕ). store_of n (frames_in kept)) follows.session
+        ∙ ap (store_of s.number) (kept_frames gf16_coding s (λ a. a < 65536) r.read given.session given.fits plain) in
+        let text : r.text ≡ layers_text s r.read =
+        text_is (λ a. a < 65536) gf16_coding s MAX_SESSION given.session given.fits r.read r.text plain r.is_text in
         subst (λ (l : List (List ℕ)). ReceivesSession s from layers store files l before after end) (sym read_is.0)
         (record {
           written =
-              r.files ∙ ap (λ (o : Option Files). option_map (with_files (layers_file layers r.text ∷ kept_file store s.number r.read ∷ [])) o) given.told
+              r.files ∙ ap (λ (o : Option Files). option_map
+              (with_files (layers_file layers r.text ∷ kept_file store s.number r.read ∷ [])) o) given.told
               ∙ ap (λ (t : List ℕ). Some (with_file store (store_text kept) (with_file layers t files))) text
               ∙ ap (λ (t : List ℕ). Some (with_file store t (with_file layers (layers_text s r.read) files))) stored;
           ended = ended;
           listens = listens;
           printed =
               printed
-              ∙ ap (λ (n : ℕ). append_known before.written (port_line from after.link ++ receive_text (length r.read) n (shown_in_all kept))) (kept_is (made gf16_coding) s MAX_SESSION pairs kept given.session follows)
-              ∙ ap (λ (n : ℕ). append_known before.written (port_line from after.link ++ receive_text (length r.read) (count_met s pairs) n)) (shown_is (made gf16_coding) s MAX_SESSION pairs kept given.session follows);
+              ∙ ap (λ (n : ℕ). append_known before.written
+              (port_line from after.link ++ receive_text (length r.read) n (shown_in_all kept)))
+              (kept_is (made gf16_coding) s MAX_SESSION pairs kept given.session follows)
+              ∙ ap (λ (n : ℕ). append_known before.written
+              (port_line from after.link ++ receive_text (length r.read) (count_met s pairs) n))
+              (shown_is (made gf16_coding) s MAX_SESSION pairs kept given.session follows);
           fewest = all_carry_fewest s.groups given.session.groups;
         })
 
@@ -117,14 +144,20 @@ module _ (s : Session) (from : Way) (layers store : List ℕ) (files : Files) (d
   port_well (OnLink address) failed = failed.rose
 
   -- by the end
-  received : (end whole : ReceiveEnd) → whole ≡ end → CanReceive s from layers store files ds before after whole → IsBoundAtEnd from before.link after.link end → EndsReceive from s.number layers store before after end
+  received : (end whole : ReceiveEnd) → whole ≡ end → CanReceive s from layers store files ds before after whole
+      → IsBoundAtEnd from before.link after.link end → EndsReceive from s.number layers store before after end
       → ReceivesSession s from layers store files ds before after end
   received Done whole is can bound ends =
-      session_received ends.0 Done bound (ap (λ (b : Bool). cond b Done Incomplete) (sym ((shown_where ends.0).0 ends.2))) ends.3
+      session_received ends.0 Done bound
+      (ap (λ (b : Bool). cond b Done Incomplete) (sym ((shown_where ends.0).0 ends.2))) ends.3
   received Incomplete whole is can bound ends =
       session_received ends.0 Incomplete bound
-      (ap (λ (b : Bool). cond b Done Incomplete) (sym (false_from_ne_true (all_shown s (met_in s.number ends.0.read)) (λ all. ends.2 ((shown_where ends.0).1 all))))) ends.3
-  received TurnsSpent whole is can bound ends = absurd (let few = (all_read from ends.0.read ds files before after given.told given.found given.few ends.0.input).1 in let many = ends.1 in omega (arith, few, many))
+      (ap (λ (b : Bool). cond b Done Incomplete)
+      (sym (false_from_ne_true (all_shown s (met_in s.number ends.0.read))
+      (λ all. ends.2 ((shown_where ends.0).1 all))))) ends.3
+  received TurnsSpent whole is can bound ends =
+      absurd (let few = (all_read from ends.0.read ds files before after given.told given.found given.few
+      ends.0.input).1 in let many = ends.1 in omega (arith, few, many))
   received OutFault whole is can bound (inl ends) = absurd (can.well.out (port_well from ends.1))
   received OutFault whole is can bound (inr ends) = absurd (can.well.out ends.1.rose)
   received NoMemory whole is can bound ends = absurd (can.memory is)
@@ -132,12 +165,21 @@ module _ (s : Session) (from : Way) (layers store : List ℕ) (files : Files) (d
   received LinkFault whole is can bound ends = absurd (can.link ends.0)
 
 -- the headline follows from what `receive` does
-pub completes_receive : (from : Way) (session layers store : List ℕ) (before after : OutsideSeen) (end : ReceiveEnd) → Receives from session layers store before after end → CompletesReceive from session layers store before after end
+pub completes_receive : (from : Way) (session layers store : List ℕ) (before after : OutsideSeen) (end : ReceiveEnd)
+    → Receives from session layers store before after end → CompletesReceive from session layers store before after end
 completes_receive from session layers store before after end receives s files ds is can =
     received s from layers store files ds before after can.given end end refl can receives.bound
     (subst (λ (n : List ℕ). EndsReceive from n layers store before after end) is receives.ends)
 
 -- a command that has done nothing for want of memory
-pub nothing_received : (from : Way) (session layers store : List ℕ) (before : OutsideSeen) → Receives from session layers store before before NoMemory
-nothing_received (OnFile name) session layers store before = record { link = refl; bound = inl tt; later = omega arith; ends = inl (record { files = refl; feed = tt }, refl) }
-nothing_received (OnLink address) session layers store before = record { link = (refl, refl, omega arith); bound = inl refl; later = omega arith; ends = inl (record { files = refl; feed = refl }, refl) }
+pub nothing_received : (from : Way) (session layers store : List ℕ) (before : OutsideSeen)
+    → Receives from session layers store before before NoMemory
+nothing_received (OnFile name) session layers store before =
+    record { link = refl; bound = inl tt; later = omega arith; ends = inl (record { files = refl; feed = tt }, refl) }
+nothing_received (OnLink address) session layers store before =
+    record {
+      link = (refl, refl, omega arith);
+      bound = inl refl;
+      later = omega arith;
+      ends = inl (record { files = refl; feed = refl }, refl);
+    }

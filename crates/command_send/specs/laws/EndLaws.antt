@@ -8,8 +8,10 @@ use Rattle.outside_files.specs.Uses.{IsOneOf}
 use Rattle.outside_files.specs.Wrote.{File, Wrote}
 use Rattle.command_send.specs.declared.command.SendEnd.{SendEnd}
 use Rattle.command_send.specs.declared.session.Sent.{Sent as SentNumbers}
-use Rattle.command_send.specs.declared.command.SendEnd.TheVariants.{Done, NoMemory, PlaceFault, LinkFault, BadPriority, BadStream, BadPlan, Changed}
-use Rattle.command_send.specs.Sends.{packets_file, packets_in, routes_in, HasPackets, IsSentOf, LinkSentAll, MayBlame, SendTells, Sends}
+use Rattle.command_send.specs.declared.command.SendEnd.TheVariants.{Done, NoMemory, PlaceFault, LinkFault, BadPriority}
+use Rattle.command_send.specs.declared.command.SendEnd.TheVariants.{BadStream, BadPlan, Changed}
+use Rattle.command_send.specs.Sends.{packets_file, packets_in, routes_in, HasPackets, IsSentOf, LinkSentAll, MayBlame}
+use Rattle.command_send.specs.Sends.{SendTells, Sends}
 use Rattle.command_send.specs.SendsSession.{uses, CanSend, SendsAll, HasSent, SendsSession}
 use Rattle.outside_routes.specs.Sending.{Sent}
 use Rattle.outside_routes.specs.Way.{Way, OnFile, OnLink}
@@ -25,7 +27,8 @@ module _ (stream priority : List ℕ) (way : Way) (before after : OutsideSeen) w
     none_some o x p q = cc
 
     -- a file that a failure may be at is one of those that are used
-    used : (w : Way) (blame : Blame) → MayBlame stream priority w before.place blame → IsOneOf (uses stream priority w) blame
+    used : (w : Way) (blame : Blame) → MayBlame stream priority w before.place blame
+        → IsOneOf (uses stream priority w) blame
     used (OnFile to) blame (inl (inl is)) = inr (inl is)
     used (OnFile to) blame (inl (inr is)) = inl is.0
     used (OnFile to) blame (inr is) = inr (inr is.0)
@@ -33,36 +36,52 @@ module _ (stream priority : List ℕ) (way : Way) (before after : OutsideSeen) w
     used (OnLink address) blame (inr is) = inl is.0
 
     -- the two files are the given ones
-    file_of : (to : List ℕ) (s : HasSession before.place stream priority) → packets_file to s.priority_bytes s.stream_bytes ≡ packets_file to p b
+    file_of : (to : List ℕ) (s : HasSession before.place stream priority)
+        → packets_file to s.priority_bytes s.stream_bytes ≡ packets_file to p b
     file_of to s =
-        ap (λ (x : List ℕ). packets_file to x s.stream_bytes) (priority_is before.place after.place stream priority p b can.given s.priority_bytes s.priority_file)
-        ∙ ap (λ (x : List ℕ). packets_file to p x) (stream_is before.place after.place stream priority p b can.given s.stream_bytes s.stream_file)
+        ap (λ (x : List ℕ). packets_file to x s.stream_bytes)
+        (priority_is before.place after.place stream priority p b can.given s.priority_bytes s.priority_file)
+        ∙ ap (λ (x : List ℕ). packets_file to p x)
+        (stream_is before.place after.place stream priority p b can.given s.stream_bytes s.stream_file)
 
-    packets_of : (s : HasSession before.place stream priority) → packets_in s.priority_bytes s.stream_bytes ≡ packets_in p b
+    packets_of : (s : HasSession before.place stream priority)
+        → packets_in s.priority_bytes s.stream_bytes ≡ packets_in p b
     packets_of s =
-        ap (λ (x : List ℕ). packets_in x s.stream_bytes) (priority_is before.place after.place stream priority p b can.given s.priority_bytes s.priority_file)
-        ∙ ap (λ (x : List ℕ). packets_in p x) (stream_is before.place after.place stream priority p b can.given s.stream_bytes s.stream_file)
+        ap (λ (x : List ℕ). packets_in x s.stream_bytes)
+        (priority_is before.place after.place stream priority p b can.given s.priority_bytes s.priority_file)
+        ∙ ap (λ (x : List ℕ). packets_in p x)
+        (stream_is before.place after.place stream priority p b can.given s.stream_bytes s.stream_file)
 
     -- by a link that has sent all, these were sent, since the files are told
-    sent_told : (address : List ℕ) (s : HasSession before.place stream priority) → LinkSentAll address s.priority_bytes s.stream_bytes before.place.files before.link after.link → Sent (packets_in p b) before.link after.link
+    sent_told : (address : List ℕ) (s : HasSession before.place stream priority)
+        → LinkSentAll address s.priority_bytes s.stream_bytes before.place.files before.link after.link
+        → Sent (packets_in p b) before.link after.link
     sent_told address s all =
         let same : all.datagrams ≡ packets_in s.priority_bytes s.stream_bytes =
-        subst (λ (o : Option Files). IfSome o (λ _. all.datagrams ≡ packets_in s.priority_bytes s.stream_bytes)) can.given.told all.told in
+        subst (λ (o : Option Files). IfSome o (λ _. all.datagrams ≡ packets_in s.priority_bytes s.stream_bytes))
+        can.given.told all.told in
         subst (λ (ds : List (List ℕ)). Sent ds before.link after.link) (same ∙ packets_of s) all.sent
 
-    packets_sent : (w : Way) (s : HasSession before.place stream priority) → HasPackets (routes_in before) s w (routes_in after) → SendsAll w p b before after
-    packets_sent (OnFile to) s has = subst (λ (f : File). Wrote (f ∷ []) None before.place after.place) (file_of to s) has
+    packets_sent : (w : Way) (s : HasSession before.place stream priority)
+        → HasPackets (routes_in before) s w (routes_in after) → SendsAll w p b before after
+    packets_sent (OnFile to) s has =
+        subst (λ (f : File). Wrote (f ∷ []) None before.place after.place) (file_of to s) has
     packets_sent (OnLink address) s has = (sent_told address s has.0, has.0.aimed, has.1)
 
-    numbers_of : (s : HasSession before.place stream priority) (sent : SentNumbers) → IsSentOf s.priority_bytes s.stream_bytes sent → IsSentOf p b sent
+    numbers_of : (s : HasSession before.place stream priority) (sent : SentNumbers)
+        → IsSentOf s.priority_bytes s.stream_bytes sent → IsSentOf p b sent
     numbers_of s sent is =
-        subst (λ (x : List ℕ). IsSentOf p x sent) (stream_is before.place after.place stream priority p b can.given s.stream_bytes s.stream_file)
-        (subst (λ (x : List ℕ). IsSentOf x s.stream_bytes sent) (priority_is before.place after.place stream priority p b can.given s.priority_bytes s.priority_file) is)
+        subst (λ (x : List ℕ). IsSentOf p x sent)
+        (stream_is before.place after.place stream priority p b can.given s.stream_bytes s.stream_file)
+        (subst (λ (x : List ℕ). IsSentOf x s.stream_bytes sent)
+        (priority_is before.place after.place stream priority p b can.given s.priority_bytes s.priority_file) is)
 
-    no_refusal : (fault : SourceFault) → fault ≢ source.NoMemory → fault ≢ source.Failed → IsSourceFault before.place after.place stream priority fault → ⊥
+    no_refusal : (fault : SourceFault) → fault ≢ source.NoMemory → fault ≢ source.Failed
+        → IsSourceFault before.place after.place stream priority fault → ⊥
     no_refusal = none_refused before.place after.place stream priority p b can.given
 
-    done : (told : SendEnd) → end ≡ told → SendTells stream priority way before after told → HasSent way p b before after told
+    done : (told : SendEnd) → end ≡ told → SendTells stream priority way before after told
+        → HasSent way p b before after told
     done (Done sent) same tells = record {
       sent = sent;
       ended = refl;
@@ -70,12 +89,15 @@ module _ (stream priority : List ℕ) (way : Way) (before after : OutsideSeen) w
       is = numbers_of tells.0 sent tells.2;
     }
     done NoMemory same tells = absurd (can.memory same)
-    done PlaceFault same tells = absurd (can.well (HadFault-since before.place before.place after.place _ _ (omega arith) (used way) tells.0))
+    done PlaceFault same tells =
+        absurd (can.well (HadFault-since before.place before.place after.place _ _ (omega arith) (used way) tells.0))
     done LinkFault same tells = absurd (can.link tells.0)
     done (BadPriority fault) same tells = absurd (no_refusal (source.Priority fault) (λ is. cc) (λ is. cc) tells.0)
     done (BadStream scan) same tells = absurd (no_refusal (source.Stream scan) (λ is. cc) (λ is. cc) tells.0)
     done (BadPlan fault) same tells = absurd (no_refusal (source.Plan fault) (λ is. cc) (λ is. cc) tells.0)
-    done (Changed change) same tells = absurd (none_some before.place.files can.given.files tells.0.untold can.given.told)
+    done (Changed change) same tells =
+        absurd (none_some before.place.files can.given.files tells.0.untold can.given.told)
 
-  pub sends_session : (end : SendEnd) → Sends stream priority way before after end → SendsSession stream priority way before after end
+  pub sends_session : (end : SendEnd) → Sends stream priority way before after end
+      → SendsSession stream priority way before after end
   sends_session end sends p b can = done p b end can end refl sends.tells

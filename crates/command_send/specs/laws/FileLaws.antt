@@ -8,5 +8,7 @@ use Rattle.packet_session.specs.laws.SentLaws.{sent_are_packets}
 use Rattle.command_send.specs.Sends.{packets_file}
 
 -- Each datagram of the file of an accepted session is accepted, has the session's number, and is one of its packets.
-pub file_has_packets : (to priority stream : List ℕ) → All (λ b. b < 256) stream → IsAcceptedSession priority stream → All (IsItsDatagram (session_of priority stream)) (datagrams (packets_file to priority stream).bytes)
-file_has_packets to priority stream small accepted = sent_are_packets (session_of priority stream) (is_session priority stream small accepted)
+pub file_has_packets : (to priority stream : List ℕ) → All (λ b. b < 256) stream → IsAcceptedSession priority stream
+    → All (IsItsDatagram (session_of priority stream)) (datagrams (packets_file to priority stream).bytes)
+file_has_packets to priority stream small accepted =
+    sent_are_packets (session_of priority stream) (is_session priority stream small accepted)

@@ -1,5 +1,6 @@
 -- The video of a group of the session of a stream: the bytes of the stream of its runs in the layers that lead.
-use Rattle.std.proofs.Common.{◌≡◌, cond, ℕ, zero, suc, ◌<◌, ◌≤◌, ◌^◌, true, false, Bool, List, [], ◌∷◌, length, get_or, map, Some, All, refl, sym, ap, subst, ◌∙◌, arith, inl, inr}
+use Rattle.std.proofs.Common.{◌≡◌, cond, ℕ, zero, suc, ◌<◌, ◌≤◌, ◌^◌, true, false, Bool, List, [], ◌∷◌, length, get_or}
+use Rattle.std.proofs.Common.{map, Some, All, refl, sym, ap, subst, ◌∙◌, arith, inl, inr}
 use Rattle.std.specs.Prelude.{nat_lt, slice_get, option_map}
 use Rattle.std.specs.List.{filter, flat_map, range_with_len}
 use Rattle.std.proofs.lemmas.Bool.{le-ltb}
@@ -48,12 +49,15 @@ nothing_cut stream cut = by cut.runs
     by [] = refl
     by (r ∷ runs) =
         let rest = filter (λ (run : Run). nat_lt run.layer 0) runs in
-        ap (λ (b : Bool). flat_map (bytes_of_run stream) (cond b (r ∷ rest) rest)) (le-ltb r.layer 0 (omega arith)) ∙ by runs
+        ap (λ (b : Bool). flat_map (bytes_of_run stream) (cond b (r ∷ rest) rest)) (le-ltb r.layer 0 (omega arith))
+        ∙ by runs
 
-lengths_with : (lengths : List ℕ) (rules : List Rule) → length lengths ≡ length rules → map (λ (l : LayerSize). l.length) (sizes_with lengths rules) ≡ lengths
+lengths_with : (lengths : List ℕ) (rules : List Rule) → length lengths ≡ length rules
+    → map (λ (l : LayerSize). l.length) (sizes_with lengths rules) ≡ lengths
 lengths_with [] rules same = refl
 lengths_with (n ∷ lengths) [] same = absurd (omega (arith, same))
-lengths_with (n ∷ lengths) (rule ∷ rules) same = ap (λ (l : List ℕ). n ∷ l) (lengths_with lengths rules (omega (arith, same)))
+lengths_with (n ∷ lengths) (rule ∷ rules) same =
+    ap (λ (l : List ℕ). n ∷ l) (lengths_with lengths rules (omega (arith, same)))
 
 short_stream : (stream : List ℕ) → nat_lt max_stream (length stream) ≡ false → length stream < 2 ^ 32
 short_stream stream e = grind (arith, nat_tests)
@@ -63,7 +67,8 @@ get_or_given [] k d below = absurd (omega (arith, below))
 get_or_given (x ∷ xs) zero d below = refl
 get_or_given (x ∷ xs) (suc k) d below = get_or_given xs k d (omega (arith, below))
 
-module _ (priority stream : List ℕ) (small : All (λ b. b < 256) stream) (accepted : IsAcceptedSession priority stream) where
+module _ (priority stream : List ℕ) (small : All (λ b. b < 256) stream)
+    (accepted : IsAcceptedSession priority stream) where
   abbrev p : Priorities
   p = priorities_of priority
 
@@ -89,7 +94,10 @@ module _ (priority stream : List ℕ) (small : All (λ b. b < 256) stream) (acce
           let to = stands.within in
           let long = short_stream stream (accepted.stream_read TooLong) in
           record {
-            named = group_named stream (layer_of p) n stands.from stands.to group (omega (arith, few)) (layer_of-within p (accepted_lawful priority accepted.priority_read)) stands.stand to (omega (arith, to, long));
+            named =
+                group_named stream (layer_of p) n stands.from stands.to group (omega (arith, few))
+                (layer_of-within p (accepted_lawful priority accepted.priority_read)) stands.stand to
+                (omega (arith, to, long));
             lengths = refl;
           }
 
@@ -100,17 +108,21 @@ module _ (priority stream : List ℕ) (small : All (λ b. b < 256) stream) (acce
     of_stream : IsOfStream cut
     of_stream =
         subst IsOfStream (get_or_from_slice_get (cuts_of_stream p stream) i cut cut at)
-        (All-get_or IsOfStream (cuts_of_stream p stream) i cut (slice_get_within (cuts_of_stream p stream) i cut at) cuts_named)
+        (All-get_or IsOfStream (cuts_of_stream p stream) i cut
+        (slice_get_within (cuts_of_stream p stream) i cut at) cuts_named)
 
     there : slice_get s.groups i ≡ Some g
     there = slice_get-map (group_of p stream) (cuts_of_stream p stream) i ∙ ap (option_map (group_of p stream)) at
 
     lengths_are : map (λ (l : LayerSize). l.length) g.layers ≡ lengths_of cut.runs n
     lengths_are =
-        lengths_with cut.lengths p.layers (ap (λ (l : List ℕ). length l) of_stream.lengths ∙ length-map-range_with_len (layer_length cut.runs) 0 n) ∙ of_stream.lengths
+        lengths_with cut.lengths p.layers (ap (λ (l : List ℕ). length l) of_stream.lengths
+        ∙ length-map-range_with_len (layer_length cut.runs) 0 n) ∙ of_stream.lengths
 
     as_many : length g.layers ≡ n
-    as_many = sym (length-map g.layers (λ (l : LayerSize). l.length)) ∙ ap (λ (l : List ℕ). length l) lengths_are ∙ length-map-range_with_len (layer_length cut.runs) 0 n
+    as_many =
+        sym (length-map g.layers (λ (l : LayerSize). l.length)) ∙ ap (λ (l : List ℕ). length l) lengths_are
+        ∙ length-map-range_with_len (layer_length cut.runs) 0 n
 
     module _ (pairs : List Pair) (set : KeptSet) (is : IsMetSet gf16_coding s MAX_SESSION pairs set) where
       session : IsSession 2 s
@@ -118,19 +130,24 @@ module _ (priority stream : List ℕ) (small : All (λ b. b < 256) stream) (acce
 
       -- the bytes of the leading layers by the packets, as the message has them
       layers_told : (packets : Packets) → open_group set i ≡ Some packets → (layers : List (List ℕ)) → length layers ≤ n
-          → AreShownBytes (λ a. a < 65536) gf16_coding packets (numbers_in set i) layers → layers ≡ map (bytes_of_layer 2 g.layers g.message) (range_with_len 0 (length layers))
+          → AreShownBytes (λ a. a < 65536) gf16_coding packets (numbers_in set i) layers
+          → layers ≡ map (bytes_of_layer 2 g.layers g.message) (range_with_len 0 (length layers))
       layers_told packets here layers few shown =
           let f = bytes_of_layer 2 g.layers g.message in
           let many = length layers in
           same_lists layers (map f (range_with_len 0 many)) (sym (length-map-range_with_len f 0 many))
           (λ k d below.
           get_or_given layers k d below
-          ∙ shown_bytes_are s pairs set session is i g there packets here k (get_or layers k []) (omega (arith, below, few, as_many)) (shown k below)
+          ∙ shown_bytes_are s pairs set session is i g there packets here k (get_or layers k [])
+          (omega (arith, below, few, as_many)) (shown k below)
           ∙ sym (get_or-map-range_with_len f 0 many k k d below (omega arith)))
 
       -- the video of the group
-      pub video_is : (video : List ℕ) → IsGroupVideo set i video → video ≡ cut_video stream (leading_shown pairs i g) cut
-      video_is video (inl none) = none.1 ∙ sym (ap (λ (k : ℕ). cut_video stream k cut) (none_leading s pairs set session is i g there none.0) ∙ nothing_cut stream cut)
+      pub video_is : (video : List ℕ) → IsGroupVideo set i video
+          → video ≡ cut_video stream (leading_shown pairs i g) cut
+      video_is video (inl none) =
+          none.1 ∙ sym (ap (λ (k : ℕ). cut_video stream k cut) (none_leading s pairs set session is i g there none.0)
+          ∙ nothing_cut stream cut)
       video_is video (inr has) =
           let a = has.assembled in
           let leading = leading_is s pairs set session is i g there has.many has.shown has.leading in
@@ -147,9 +164,13 @@ module _ (priority stream : List ℕ) (small : All (λ b. b < 256) stream) (acce
       no_bad_table bad =
           let layers = layers_are s pairs set session is i g there bad.packets bad.is_open in
           let inside = (shown_to s pairs set session is i g there 0 bad.shown).0 in
-          let first = shown_bytes_are s pairs set session is i g there bad.packets bad.is_open 0 bad.unfit.first inside bad.unfit.bytes in
-          let fit = message_fits stream cut.runs n g.layers of_stream.named lengths_are (omega (arith, inside, as_many)) in
-          no_truth (sym fit ∙ ap (λ (b : List ℕ). fits b (map (λ (l : LayerSize). l.length) g.layers)) (sym first) ∙ ap (λ (l : List LayerSize). fits bad.unfit.first (map (λ (x : LayerSize). x.length) l)) (sym layers) ∙ bad.unfit.unfit)
+          let first = shown_bytes_are s pairs set session is i g there bad.packets bad.is_open 0 bad.unfit.first inside
+          bad.unfit.bytes in
+          let fit = message_fits stream cut.runs n g.layers of_stream.named lengths_are
+          (omega (arith, inside, as_many)) in
+          no_truth (sym fit ∙ ap (λ (b : List ℕ). fits b (map (λ (l : LayerSize). l.length) g.layers)) (sym first)
+          ∙ ap (λ (l : List LayerSize). fits bad.unfit.first (map (λ (x : LayerSize). x.length) l)) (sym layers)
+          ∙ bad.unfit.unfit)
         where
           no_truth : true ≡ false → ⊥
           no_truth e = cc

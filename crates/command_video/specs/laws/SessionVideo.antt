@@ -24,11 +24,17 @@ use Rattle.command_video.specs.declared.command.VideoEnd.{VideoEnd}
 use Rattle.command_video.specs.declared.command.VideoEnd.TheVariants.{Done, NoMemory, PlaceFault, BadStore, BadTable}
 
 -- a fault of one of the files in its turn is a fault of the command's
-in_turn : (store out : List ℕ) (old new : Seen) → FailedInTurn store out old new → Failed (reading store ∷ writing out ∷ []) old new
-in_turn store out old new (inl f) = HadFault-since old old new (IsOneOf (reading store ∷ [])) (IsOneOf (reading store ∷ writing out ∷ [])) (omega arith) (λ b is. inl is) f
-in_turn store out old new (inr f) = HadFault-since old old new (IsOneOf (writing out ∷ [])) (IsOneOf (reading store ∷ writing out ∷ [])) (omega arith) (λ b is. inr is) f.1
+in_turn : (store out : List ℕ) (old new : Seen) → FailedInTurn store out old new
+    → Failed (reading store ∷ writing out ∷ []) old new
+in_turn store out old new (inl f) =
+    HadFault-since old old new (IsOneOf (reading store ∷ [])) (IsOneOf (reading store ∷ writing out ∷ []))
+    (omega arith) (λ b is. inl is) f
+in_turn store out old new (inr f) =
+    HadFault-since old old new (IsOneOf (writing out ∷ [])) (IsOneOf (reading store ∷ writing out ∷ [])) (omega arith)
+    (λ b is. inr is) f.1
 
-module _ (priority stream store out : List ℕ) (files : Files) (pairs : List Pair) (old new : Seen) (given : HasStoreOf priority stream store files pairs old) where
+module _ (priority stream store out : List ℕ) (files : Files) (pairs : List Pair) (old new : Seen)
+    (given : HasStoreOf priority stream store files pairs old) where
   abbrev s : Session
   s = session_of priority stream
 
@@ -42,9 +48,11 @@ module _ (priority stream store out : List ℕ) (files : Files) (pairs : List Pa
   set_so set is = read_so s files old.files store pairs one.0 set given.told given.store_is one.1 is
 
   -- what was written
-  video_of_session : (w : WritesVideo store out old new) (n : ℕ) → n ≡ length w.video → VideosSession priority stream out files pairs new (Done n)
+  video_of_session : (w : WritesVideo store out old new) (n : ℕ) → n ≡ length w.video
+      → VideosSession priority stream out files pairs new (Done n)
   video_of_session w n is =
-      let videos : AreVideos one.0 (groups_told one.0) w.video = subst (λ (set : KeptSet). AreVideos set (groups_told set) w.video) (set_so w.set w.store_is) w.videos in
+      let videos : AreVideos one.0 (groups_told one.0) w.video =
+      subst (λ (set : KeptSet). AreVideos set (groups_told set) w.video) (set_so w.set w.store_is) w.videos in
       let video = videos_are priority stream given.bytes given.session pairs one.0 one.1.is_met w.video videos in
       record {
         file =
@@ -59,16 +67,21 @@ module _ (priority stream store out : List ℕ) (files : Files) (pairs : List Pa
   no_table group stops =
       let same = set_so stops.set stops.store_is in
       no_table_bad priority stream given.bytes given.session pairs one.0 one.1.is_met group
-      (subst (λ (set : KeptSet). group < groups_told set) same stops.inside) (subst (λ (set : KeptSet). HasBadTable set group) same stops.bad)
+      (subst (λ (set : KeptSet). group < groups_told set) same stops.inside)
+      (subst (λ (set : KeptSet). HasBadTable set group) same stops.bad)
 
   -- by the end
-  pub ends_video : (end : VideoEnd) → CanVideo priority stream store out files pairs old new end → Videos store out old new end → VideosSession priority stream out files pairs new end
+  pub ends_video : (end : VideoEnd) → CanVideo priority stream store out files pairs old new end
+      → Videos store out old new end → VideosSession priority stream out files pairs new end
   ends_video (Done n) can videos = video_of_session videos.0 n videos.1
   ends_video NoMemory can videos = absurd (can.memory refl)
   ends_video PlaceFault can videos = absurd (can.well (in_turn store out old new videos.0))
-  ends_video (BadStore at kind) can videos = not_refused s files old.files store pairs one.0 (At at kind) given.told given.store_is one.1 videos.0
+  ends_video (BadStore at kind) can videos =
+      not_refused s files old.files store pairs one.0 (At at kind) given.told given.store_is one.1 videos.0
   ends_video (BadTable group) can videos = absurd (no_table group videos)
 
 -- the store of a session of a stream gives the bytes that are shown, by what `video` does
-pub completes_video : (store out : List ℕ) (old new : Seen) (end : VideoEnd) → Videos store out old new end → CompletesVideo store out old new end
-completes_video store out old new end videos = λ priority stream files pairs can. ends_video priority stream store out files pairs old new can.given end can videos
+pub completes_video : (store out : List ℕ) (old new : Seen) (end : VideoEnd) → Videos store out old new end
+    → CompletesVideo store out old new end
+completes_video store out old new end videos = λ priority stream files pairs can. ends_video priority stream store out
+    files pairs old new can.given end can videos

@@ -1,6 +1,8 @@
 -- Degrees of polynomials over GF(2): those of products and differences.
-use Rattle.std.proofs.Common.{◌≡◌, ℕ, zero, suc, ◌+◌, ◌-◌, ◌*◌, ◌/◌, ◌%◌, ◌^◌, ◌<◌, ◌≤◌, inl, inr, sym, ap, ap₂, ◌∙◌, arith}
-use native.Mathlib.Nat.{zero-mul, one-mul, mul_comm, mul-le-mul_right, mul-lt-mul_of_pos_right, pow-suc, zero-add, mod-lt, div-eq_of_lt}
+use Rattle.std.proofs.Common.{◌≡◌, ℕ, zero, suc, ◌+◌, ◌-◌, ◌*◌, ◌/◌, ◌%◌, ◌^◌, ◌<◌, ◌≤◌, inl, inr, sym, ap, ap₂, ◌∙◌}
+use Rattle.std.proofs.Common.{arith}
+use native.Mathlib.Nat.{zero-mul, one-mul, mul_comm, mul-le-mul_right, mul-lt-mul_of_pos_right, pow-suc, zero-add}
+use native.Mathlib.Nat.{mod-lt, div-eq_of_lt}
 use lib.Bits.{bit_xor, xor_zero_r, xor_shr, xor_block, xor_lt}
 use lib.Arith.{bin_ind}
 use lib.Pow.{pow_pos, split, high, pow_mono, pow-add}
@@ -20,7 +22,8 @@ keeps_degree k x y lo hi h =
     let q : 1 * 2 ^ k + (x - 2 ^ k) ≡ x = omega arith in
     let top : x / 2 ^ k ≡ 1 = ap (λ n. n / 2 ^ k) (sym q) ∙ high 1 k p in
     let e : bit_xor y x / 2 ^ k ≡ 1 = xor_shr y x k ∙ ap₂ bit_xor (div-eq_of_lt h) top in
-    let s : 1 * 2 ^ k + bit_xor y x % 2 ^ k ≡ bit_xor y x = ap (λ n. n * 2 ^ k + bit_xor y x % 2 ^ k) (sym e) ∙ split (bit_xor y x) k in
+    let s : 1 * 2 ^ k + bit_xor y x % 2 ^ k ≡ bit_xor y x =
+    ap (λ n. n * 2 ^ k + bit_xor y x % 2 ^ k) (sym e) ∙ split (bit_xor y x) k in
     let r : bit_xor y x % 2 ^ k < 2 ^ k = mod-lt (bit_xor y x) (pow_pos k) in
     (omega arith, omega (arith, pow-suc 2 k))
 
@@ -38,7 +41,8 @@ degree_product zero j a b al bl =
 degree_product (suc i) j a b al bl =
     let half : HasDegree (carryless (a / 2) b) (i + j) =
     degree_product i j (a / 2) b (omega (arith, pow-suc 2 i), omega (arith, pow-suc 2 (suc i))) bl in
-    let small : a % 2 * b < 2 ^ suc (i + j) = omega (arith, digit-le (a % 2) b (omega arith), bl, pow_mono {i = suc j} {j = suc (i + j)} (omega arith)) in
+    let small : a % 2 * b < 2 ^ suc (i + j) =
+    omega (arith, digit-le (a % 2) b (omega arith), bl, pow_mono {i = suc j} {j = suc (i + j)} (omega arith)) in
     let e : suc i + j ≡ suc (i + j) = omega arith in
     rw (carryless_step a b, e)
     (keeps_degree (suc (i + j)) (2 * carryless (a / 2) b) (a % 2 * b) (omega (arith, half, pow-suc 2 (i + j)))
@@ -49,7 +53,9 @@ degree_of =
     bin_ind (λ n. 0 < n → (i : ℕ) × HasDegree n i) (λ h. absurd (omega arith))
     (λ n ih h. elim (cases_lt n 2) [
       | inl l ↦ (0, (omega arith, omega arith))
-      | inr g ↦ let at = ih (omega arith) in (suc at.0, (omega (arith, at.1, pow-suc 2 at.0), omega (arith, at.1, pow-suc 2 (suc at.0))))
+      | inr g ↦ let at =
+          ih (omega arith) in
+          (suc at.0, (omega (arith, at.1, pow-suc 2 at.0), omega (arith, at.1, pow-suc 2 (suc at.0))))
     ])
 
 -- two polynomials of degree below d
@@ -87,7 +93,8 @@ same_degree_below e a n da dn =
     let p : a ≡ 1 * 2 ^ e + (a - 2 ^ e) = omega (arith, da) in
     let q : n ≡ 1 * 2 ^ e + (n - 2 ^ e) = omega (arith, dn) in
     let v : bit_xor a n ≡ bit_xor (a - 2 ^ e) (n - 2 ^ e) =
-    ap₂ bit_xor p q ∙ xor_block e 1 1 (a - 2 ^ e) (n - 2 ^ e) r s ∙ ap (λ x. x + bit_xor (a - 2 ^ e) (n - 2 ^ e)) (zero-mul (2 ^ e)) ∙ zero-add (bit_xor (a - 2 ^ e) (n - 2 ^ e)) in
+    ap₂ bit_xor p q ∙ xor_block e 1 1 (a - 2 ^ e) (n - 2 ^ e) r s
+    ∙ ap (λ x. x + bit_xor (a - 2 ^ e) (n - 2 ^ e)) (zero-mul (2 ^ e)) ∙ zero-add (bit_xor (a - 2 ^ e) (n - 2 ^ e)) in
     rw v (xor_lt e (a - 2 ^ e) (n - 2 ^ e) r s)
 
 pub step_below : (e a n : ℕ) → a < 2 ^ suc e → HasDegree n e → bit_xor a (a / 2 ^ e % 2 * n) < 2 ^ e

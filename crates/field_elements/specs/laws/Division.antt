@@ -1,12 +1,15 @@
 -- Multiples, long division, and numbers that are the same modulo a polynomial.
-use Rattle.std.proofs.Common.{◌≡◌, ℕ, zero, suc, ◌+◌, ◌*◌, ◌/◌, ◌%◌, ◌^◌, ◌<◌, inl, inr, sym, ap, ap₂, ◌∙◌, subst, arith}
+use Rattle.std.proofs.Common.{◌≡◌, ℕ, zero, suc, ◌+◌, ◌*◌, ◌/◌, ◌%◌, ◌^◌, ◌<◌, inl, inr, sym, ap, ap₂, ◌∙◌, subst}
+use Rattle.std.proofs.Common.{arith}
 use native.Mathlib.Nat.{zero-mul, one-mul, pow-suc, add-suc, add-zero}
 use lib.Bits.{bit_xor, xor_assoc, xor_comm, xor_zero_r, xor_self, xor_lt}
 use lib.Pow.{pow_mono}
 use Rattle.std.proofs.lemmas.Bool.{cases_lt}
 use Rattle.field_elements.specs.Carryless.{carryless, remainder_of_bits, IsMultiple, HasDegree}
 use Rattle.field_elements.specs.laws.Xor.{xor_swap, xor_left_comm, xor_cancel}
-use Rattle.field_elements.specs.laws.CarrylessLaws.{carryless-zero_l, carryless-one_l, carryless_step, carryless_double_l, carryless_xor_l, carryless_xor_r, carryless_comm, carryless_assoc}
+use Rattle.field_elements.specs.laws.CarrylessLaws.{carryless-zero_l, carryless-one_l, carryless_step}
+use Rattle.field_elements.specs.laws.CarrylessLaws.{carryless_double_l, carryless_xor_l, carryless_xor_r}
+use Rattle.field_elements.specs.laws.CarrylessLaws.{carryless_comm, carryless_assoc}
 use Rattle.field_elements.specs.laws.Degrees.{degree_of, degree_product, step_below, shifted_degree}
 
 -- ---- multiples
@@ -61,14 +64,16 @@ remainder_same (suc k) d m a =
     let e : bit_xor t (bit_xor (bit_xor a t) r) ≡ bit_xor a r =
     ap (bit_xor t) (xor_assoc a t r) ∙ xor_left_comm t a (bit_xor t r) ∙ ap (bit_xor a) (xor_cancel t r) in
     let x : IsMultiple m (bit_xor t (bit_xor (bit_xor a t) r)) =
-    IsMultiple-xor m t (bit_xor (bit_xor a t) r) (digit_multiple (a / 2 ^ (d + k) % 2) k m (omega arith)) (remainder_same k d m (bit_xor a t)) in
+    IsMultiple-xor m t (bit_xor (bit_xor a t) r) (digit_multiple (a / 2 ^ (d + k) % 2) k m (omega arith))
+    (remainder_same k d m (bit_xor a t)) in
     subst (IsMultiple m) e x
 
 -- ---- two numbers are the same modulo m where their difference is a multiple
 
 pub Same-trans : (m a b c : ℕ) → IsMultiple m (bit_xor a b) → IsMultiple m (bit_xor b c) → IsMultiple m (bit_xor a c)
 Same-trans m a b c x y =
-    let e : bit_xor (bit_xor a b) (bit_xor b c) ≡ bit_xor a c = xor_assoc a b (bit_xor b c) ∙ ap (bit_xor a) (xor_cancel b c) in
+    let e : bit_xor (bit_xor a b) (bit_xor b c) ≡ bit_xor a c =
+    xor_assoc a b (bit_xor b c) ∙ ap (bit_xor a) (xor_cancel b c) in
     subst (IsMultiple m) e (IsMultiple-xor m (bit_xor a b) (bit_xor b c) x y)
 
 pub Same-sym : (m a b : ℕ) → IsMultiple m (bit_xor a b) → IsMultiple m (bit_xor b a)
@@ -78,23 +83,27 @@ pub Same-refl : (m a : ℕ) → IsMultiple m (bit_xor a a)
 Same-refl m a = subst (IsMultiple m) (sym (xor_self a)) (IsMultiple-zero m)
 
 pub xor_zero_equal : (a b : ℕ) → bit_xor a b ≡ 0 → a ≡ b
-xor_zero_equal a b e = sym (xor_zero_r a) ∙ ap (bit_xor a) (sym (xor_self b)) ∙ sym (xor_assoc a b b) ∙ ap (λ x. bit_xor x b) e
+xor_zero_equal a b e =
+    sym (xor_zero_r a) ∙ ap (bit_xor a) (sym (xor_self b)) ∙ sym (xor_assoc a b b) ∙ ap (λ x. bit_xor x b) e
 
 -- one number of few bits is the same
 pub same_below : (d m a b : ℕ) → HasDegree m d → IsMultiple m (bit_xor a b) → a < 2 ^ d → b < 2 ^ d → a ≡ b
 same_below d m a b degree x h g = xor_zero_equal a b (small_multiple d m (bit_xor a b) degree x (xor_lt d a b h g))
 
-pub Same-xor : (m a b c d : ℕ) → IsMultiple m (bit_xor a b) → IsMultiple m (bit_xor c d) → IsMultiple m (bit_xor (bit_xor a c) (bit_xor b d))
+pub Same-xor : (m a b c d : ℕ) → IsMultiple m (bit_xor a b) → IsMultiple m (bit_xor c d)
+    → IsMultiple m (bit_xor (bit_xor a c) (bit_xor b d))
 Same-xor m a b c d x y = subst (IsMultiple m) (xor_swap a b c d) (IsMultiple-xor m (bit_xor a b) (bit_xor c d) x y)
 
 pub Same-times : (m c a b : ℕ) → IsMultiple m (bit_xor a b) → IsMultiple m (bit_xor (carryless c a) (carryless c b))
 Same-times m c a b x = subst (IsMultiple m) (carryless_xor_r c a b) (IsMultiple-times m c (bit_xor a b) x)
 
 pub Same-times_l : (m c a b : ℕ) → IsMultiple m (bit_xor a b) → IsMultiple m (bit_xor (carryless a c) (carryless b c))
-Same-times_l m c a b x = subst (λ n. IsMultiple m n) (ap₂ bit_xor (carryless_comm c a) (carryless_comm c b)) (Same-times m c a b x)
+Same-times_l m c a b x =
+    subst (λ n. IsMultiple m n) (ap₂ bit_xor (carryless_comm c a) (carryless_comm c b)) (Same-times m c a b x)
 
 pub Same-double : (m a b : ℕ) → IsMultiple m (bit_xor a b) → IsMultiple m (bit_xor (2 * a) (2 * b))
-Same-double m a b x = subst (IsMultiple m) (ap₂ bit_xor (carryless_power 1 a) (carryless_power 1 b)) (Same-times m 2 a b x)
+Same-double m a b x =
+    subst (IsMultiple m) (ap₂ bit_xor (carryless_power 1 a) (carryless_power 1 b)) (Same-times m 2 a b x)
 
 -- one more bit of a factor, from the highest on
 pub horner : (m n b p t : ℕ) → IsMultiple m (bit_xor (carryless (n / 2) b) p) → IsMultiple m (bit_xor (2 * p) t)

@@ -1,4 +1,5 @@
--- The field of 65,536 elements codes lawfully: it is a commutative field, since its modulus is irreducible (none of the 510
+-- The field of 65,536 elements codes lawfully: it is a commutative field, since its modulus is irreducible (none of the
+-- 510
 -- polynomials of degree 1 to 8 divides it), different numbers have different points, and reading and writing two bytes
 -- invert each other.
 use Rattle.std.proofs.Common.{◌≡◌, ℕ, zero, suc, ◌<◌, inl, inr, true, List, length, get_or, All, eqb, refl, arith}

@@ -1,4 +1,5 @@
--- Modulo an irreducible polynomial each element but zero has an inverse: by long division of the modulus, again and again.
+-- Modulo an irreducible polynomial each element but zero has an inverse: by long division of the modulus, again and
+-- again.
 use Rattle.std.proofs.Common.{◌≡◌, ◌≢◌, ℕ, zero, suc, ◌+◌, ◌-◌, ◌^◌, ◌<◌, ◌≤◌, inl, inr, sym, ap, ◌∙◌, arith}
 use Rattle.std.proofs.lemmas.Bool.{cases_lt}
 use lib.Bits.{bit_xor, xor_lt, xor_comm, xor_zero_r}
@@ -22,8 +23,11 @@ module _ (d m : ℕ) (some : 1 ≤ d) (degree : HasDegree m d) where
   -- dividing the modulus by a is multiplying a by the quotient
   pub times_quotient : (a q r : ℕ) → a < 2 ^ d → q < 2 ^ d → r < 2 ^ d → bit_xor m r ≡ carryless q a → times d m a q ≡ r
   times_quotient a q r ha hq hr e =
-      let p : bit_xor (carryless a q) r ≡ m = ap (λ x. bit_xor x r) (carryless_comm a q ∙ sym e) ∙ xor_comm (bit_xor m r) r ∙ ap (bit_xor r) (xor_comm m r) ∙ xor_cancel r m in
-      R.product_unique d m some degree a q (times d m a q) r (R.times_is d m some degree a q ha hq) (record { below = hr; congruent = (1, p ∙ sym (carryless-one_l m)) })
+      let p : bit_xor (carryless a q) r ≡ m =
+      ap (λ x. bit_xor x r) (carryless_comm a q ∙ sym e) ∙ xor_comm (bit_xor m r) r ∙ ap (bit_xor r) (xor_comm m r)
+      ∙ xor_cancel r m in
+      R.product_unique d m some degree a q (times d m a q) r (R.times_is d m some degree a q ha hq)
+      (record { below = hr; congruent = (1, p ∙ sym (carryless-one_l m)) })
 
   pub quotient_below : (a q r : ℕ) → 2 ≤ a → r < 2 ^ suc d → bit_xor m r ≡ carryless q a → q < 2 ^ d
   quotient_below a q r lo hr e =
@@ -49,8 +53,10 @@ module _ (d m : ℕ) (some : 1 ≤ d) (degree : HasDegree m d) where
               absurd (irreducible q a lo hi (sym (xor_zero_r m) ∙ ap (bit_xor m) (sym z) ∙ e))
         ]
 
-    inverse_through : (a q r b : ℕ) → a < 2 ^ d → q < 2 ^ d → r < 2 ^ d → b < 2 ^ d → times d m a q ≡ r → times d m r b ≡ 1 → times d m a (times d m q b) ≡ 1
-    inverse_through a q r b ha hq hr hb e one = sym (R.times_assoc d m some degree a q b ha hq hb) ∙ ap (λ y. times d m y b) e ∙ one
+    inverse_through : (a q r b : ℕ) → a < 2 ^ d → q < 2 ^ d → r < 2 ^ d → b < 2 ^ d → times d m a q ≡ r
+        → times d m r b ≡ 1 → times d m a (times d m q b) ≡ 1
+    inverse_through a q r b ha hq hr hb e one =
+        sym (R.times_assoc d m some degree a q b ha hq hb) ∙ ap (λ y. times d m y b) e ∙ one
 
     has_inverse_below : (n a : ℕ) → a < n → 0 < a → a < 2 ^ d → (b : ℕ) × (b < 2 ^ d) × (times d m a b ≡ 1)
     has_inverse_below zero a l lo hi = absurd (omega arith)
@@ -64,7 +70,8 @@ module _ (d m : ℕ) (some : 1 ≤ d) (degree : HasDegree m d) where
               let r = x.1 in
               let below : r < a = omega (arith, x.2, e.1) in
               let hr : r < 2 ^ d = omega arith in
-              let hq : q < 2 ^ d = quotient_below a q r two (omega (arith, pow_mono {i = d} {j = suc d} (omega arith))) x.3 in
+              let hq : q < 2 ^ d = quotient_below a q r two
+              (omega (arith, pow_mono {i = d} {j = suc d} (omega arith))) x.3 in
               let ih = has_inverse_below n r (omega arith) (remainder_positive a q r two hi x.3) hr in (
                 times d m q ih.0,
                 R.times_below d m some degree q ih.0 hq ih.1,

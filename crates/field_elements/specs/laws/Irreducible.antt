@@ -1,5 +1,7 @@
--- A finite check that a polynomial is irreducible: it has no factor of degree 1 to h, where h is at least half its degree.
-use Rattle.std.proofs.Common.{◌≡◌, ℕ, zero, suc, ◌+◌, ◌-◌, ◌*◌, ◌^◌, ◌<◌, ◌≤◌, inl, inr, Bool, true, not, ◌&&◌, ◌≢◌, eqb, sym, ap, ◌∙◌, subst, arith}
+-- A finite check that a polynomial is irreducible: it has no factor of degree 1 to h, where h is at least half its
+-- degree.
+use Rattle.std.proofs.Common.{◌≡◌, ℕ, zero, suc, ◌+◌, ◌-◌, ◌*◌, ◌^◌, ◌<◌, ◌≤◌, inl, inr, Bool, true, not, ◌&&◌, ◌≢◌}
+use Rattle.std.proofs.Common.{eqb, sym, ap, ◌∙◌, subst, arith}
 use Rattle.std.proofs.lemmas.Bool.{and_parts, cases_eq, cases_lt, both_ways, not-true, eq-eqb}
 use lib.Bits.{bit_xor}
 use lib.Pow.{pow_pos}
@@ -29,7 +31,8 @@ module _ (d m : ℕ) (degree : HasDegree m d) where
       elim (cases_eq i n) [
         | inl q ↦
             subst (λ j. remainder_of_bits (suc d - e) e (2 ^ e + j) m ≢ 0) (sym q)
-            (λ z. both_ways (eqb (remainder_of_bits (suc d - e) e (2 ^ e + n) m) 0) (not-true (eqb (remainder_of_bits (suc d - e) e (2 ^ e + n) m) 0) p.0)
+            (λ z. both_ways (eqb (remainder_of_bits (suc d - e) e (2 ^ e + n) m) 0)
+            (not-true (eqb (remainder_of_bits (suc d - e) e (2 ^ e + n) m) 0) p.0)
             (eq-eqb (remainder_of_bits (suc d - e) e (2 ^ e + n) m) 0 z))
         | inr q ↦ no_factor_at e n i p.1 (omega arith)
       ]
@@ -49,7 +52,8 @@ module _ (d m : ℕ) (degree : HasDegree m d) where
       let r = remainder_of_bits (suc d - e) e a m in
       let width : e + (suc d - e) ≡ suc d = omega arith in
       let small : r < 2 ^ e = remainder_below (suc d - e) e a m top (rw width degree.1) in
-      let y : IsMultiple a r = subst (IsMultiple a) (xor_cancel m r) (IsMultiple-xor a m (bit_xor m r) x (remainder_same (suc d - e) e a m)) in
+      let y : IsMultiple a r = subst (IsMultiple a) (xor_cancel m r)
+      (IsMultiple-xor a m (bit_xor m r) x (remainder_same (suc d - e) e a m)) in
       let z : r ≡ 0 = small_multiple e a r top y small in
       let i : 2 ^ e + (a - 2 ^ e) ≡ a = omega (arith, top) in
       no_factor_at e (2 ^ e) (a - 2 ^ e) (no_factor_to_at h e c lo hi) (omega (arith, top, pow-suc 2 e)) (rw i z)

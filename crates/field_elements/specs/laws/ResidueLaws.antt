@@ -1,12 +1,15 @@
--- The ring of polynomials over GF(2) of degree below d, modulo one of degree d, from the relation that says what a product is.
+-- The ring of polynomials over GF(2) of degree below d, modulo one of degree d, from the relation that says what a
+-- product is.
 use Rattle.std.proofs.Common.{◌≡◌, ℕ, ◌-◌, ◌^◌, ◌<◌, ◌≤◌, arith}
 use lib.Bits.{bit_xor, xor_lt}
 use lib.Pow.{pow_mono}
 use Rattle.field_elements.specs.Carryless.{carryless, product_of_bits, IsMultiple, HasDegree}
 use Rattle.field_elements.specs.BinaryField.{IsProduct, times}
-use Rattle.field_elements.specs.laws.CarrylessLaws.{carryless_bits, carryless_comm, carryless_assoc, carryless-one_r, carryless_xor_r}
+use Rattle.field_elements.specs.laws.CarrylessLaws.{carryless_bits, carryless_comm, carryless_assoc, carryless-one_r}
+use Rattle.field_elements.specs.laws.CarrylessLaws.{carryless_xor_r}
 use Rattle.field_elements.specs.laws.Degrees.{carryless_below}
-use Rattle.field_elements.specs.laws.Division.{remainder_below, remainder_same, same_below, Same-refl, Same-sym, Same-trans, Same-xor, Same-times, Same-times_l}
+use Rattle.field_elements.specs.laws.Division.{remainder_below, remainder_same, same_below, Same-refl, Same-sym}
+use Rattle.field_elements.specs.laws.Division.{Same-trans, Same-xor, Same-times, Same-times_l}
 
 module _ (d m : ℕ) (some : 1 ≤ d) (degree : HasDegree m d) where
   pub one_below : 1 < 2 ^ d
@@ -25,7 +28,8 @@ module _ (d m : ℕ) (some : 1 ≤ d) (degree : HasDegree m d) where
 
   pub product_unique : (a b c c' : ℕ) → IsProduct d m a b c → IsProduct d m a b c' → c ≡ c'
   product_unique a b c c' x y =
-      same_below d m c c' degree (Same-trans m c (carryless a b) c' (Same-sym m (carryless a b) c x.congruent) y.congruent) x.below y.below
+      same_below d m c c' degree
+      (Same-trans m c (carryless a b) c' (Same-sym m (carryless a b) c x.congruent) y.congruent) x.below y.below
 
   pub times_below : (a b : ℕ) → a < 2 ^ d → b < 2 ^ d → times d m a b < 2 ^ d
   times_below a b h g = (times_is a b h g).below
@@ -40,7 +44,8 @@ module _ (d m : ℕ) (some : 1 ≤ d) (degree : HasDegree m d) where
       product_unique a b (times d m a b) (times d m b a) (times_is a b h g)
       (record { below = times_below b a g h; congruent = rw (carryless_comm a b) (same b a g h) })
 
-  pub times_assoc : (a b c : ℕ) → a < 2 ^ d → b < 2 ^ d → c < 2 ^ d → times d m (times d m a b) c ≡ times d m a (times d m b c)
+  pub times_assoc : (a b c : ℕ) → a < 2 ^ d → b < 2 ^ d → c < 2 ^ d
+      → times d m (times d m a b) c ≡ times d m a (times d m b c)
   times_assoc a b c ha hb hc =
       let ab = times_below a b ha hb in
       let bc = times_below b c hb hc in
@@ -53,15 +58,20 @@ module _ (d m : ℕ) (some : 1 ≤ d) (degree : HasDegree m d) where
       same_below d m (times d m (times d m a b) c) (times d m a (times d m b c)) degree r
       (times_below (times d m a b) c ab hc) (times_below a (times d m b c) ha bc)
 
-  pub times_xor : (a b c : ℕ) → a < 2 ^ d → b < 2 ^ d → c < 2 ^ d → times d m a (bit_xor b c) ≡ bit_xor (times d m a b) (times d m a c)
+  pub times_xor : (a b c : ℕ) → a < 2 ^ d → b < 2 ^ d → c < 2 ^ d
+      → times d m a (bit_xor b c) ≡ bit_xor (times d m a b) (times d m a c)
   times_xor a b c ha hb hc =
       let bc = xor_lt d b c hb hc in
-      product_unique a (bit_xor b c) (times d m a (bit_xor b c)) (bit_xor (times d m a b) (times d m a c)) (times_is a (bit_xor b c) ha bc)
+      product_unique a (bit_xor b c) (times d m a (bit_xor b c)) (bit_xor (times d m a b) (times d m a c))
+      (times_is a (bit_xor b c) ha bc)
       (record {
         below = xor_lt d (times d m a b) (times d m a c) (times_below a b ha hb) (times_below a c ha hc);
-        congruent = rw (carryless_xor_r a b c) (Same-xor m (carryless a b) (times d m a b) (carryless a c) (times d m a c) (same a b ha hb) (same a c ha hc));
+        congruent =
+            rw (carryless_xor_r a b c) (Same-xor m (carryless a b) (times d m a b) (carryless a c) (times d m a c)
+            (same a b ha hb) (same a c ha hc));
       })
 
   pub times-one : (a : ℕ) → a < 2 ^ d → times d m a 1 ≡ a
   times-one a h =
-      product_unique a 1 (times d m a 1) a (times_is a 1 h one_below) (record { below = h; congruent = rw (carryless-one_r a) (Same-refl m a) })
+      product_unique a 1 (times d m a 1) a (times_is a 1 h one_below)
+      (record { below = h; congruent = rw (carryless-one_r a) (Same-refl m a) })

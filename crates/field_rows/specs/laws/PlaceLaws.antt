@@ -1,5 +1,6 @@
 -- Laws of the places of rows, for callers: where a row of a block begins, and a list that is filled from the front.
-use Rattle.std.proofs.Common.{◌≡◌, ℕ, zero, suc, ◌+◌, ◌-◌, ◌*◌, ◌<◌, ◌≤◌, inl, inr, List, length, get_or, set, sym, ap, ◌∙◌, arith}
+use Rattle.std.proofs.Common.{◌≡◌, ℕ, zero, suc, ◌+◌, ◌-◌, ◌*◌, ◌<◌, ◌≤◌, inl, inr, List, length, get_or, set, sym, ap}
+use Rattle.std.proofs.Common.{◌∙◌, arith}
 use Rattle.std.proofs.lemmas.Bool.{cases_lt}
 use Rattle.std.proofs.lemmas.List.{get_or-set_same, get_or-set_other}
 use Rattle.std.proofs.lemmas.Nat.{mul-le}
@@ -14,7 +15,8 @@ pub rows_le : (j k w : ℕ) → j ≤ k → j * w ≤ k * w
 rows_le j k w l = mul-le j w k w l (omega arith)
 
 -- a list that is filled from the front, with one place more
-pub filled : {E : Type 0} (F : ℕ → E) (d : E) (xs : List E) (n : ℕ) (v : E) → n < length xs → ((k : ℕ) → k < n → get_or xs k d ≡ F k) → v ≡ F n
+pub filled : {E : Type 0} (F : ℕ → E) (d : E) (xs : List E) (n : ℕ) (v : E) → n < length xs
+    → ((k : ℕ) → k < n → get_or xs k d ≡ F k) → v ≡ F n
     → (k : ℕ) → k < n + 1 → get_or (set xs n v) k d ≡ F k
 filled F d xs n v l h e k g =
     elim (cases_lt k n) [
@@ -31,4 +33,5 @@ row_place (suc j) w at h e = let q : suc j - 1 ≡ j = omega arith in rw q (omeg
 
 pub row_room : (j w k i : ℕ) → 0 < j → j ≤ k → i < w → (j - 1) * w + i < k * w
 row_room zero w k i h m l = absurd (omega arith)
-row_room (suc j) w k i h m l = let q : suc j - 1 ≡ j = omega arith in rw q (omega (arith, mul-le (suc j) w k w m (omega arith)))
+row_room (suc j) w k i h m l =
+    let q : suc j - 1 ≡ j = omega arith in rw q (omega (arith, mul-le (suc j) w k w m (omega arith)))

@@ -1,4 +1,5 @@
--- The field of 65,536 elements has subspaces: its constants, for up to 2 to the power 15 points, are checked level by level.
+-- The field of 65,536 elements has subspaces: its constants, for up to 2 to the power 15 points, are checked level by
+-- level.
 use Rattle.std.proofs.Common.{◌≡◌, ◌<◌, ◌^◌, ◌&&◌, ℕ, zero, suc, Bool, true, inl, inr, eqb, refl, sym, subst, arith}
 use Rattle.std.proofs.lemmas.Bool.{and_parts, cases_eq, eqb-true, ltb-true}
 use Rattle.std.specs.Prelude.{nat_lt}
@@ -15,14 +16,16 @@ use Rattle.field_transform.specs.Subspaces.{AreFactors, HasSubspaces}
 unfoldable right : ℕ → Bool
 right zero = true
 right (suc n) =
-    (eqb (gf16.times (factor n) (inverse n)) 1 && eqb (hats gf16 inverse (suc n) (2 ^ suc n)) 1) && ((nat_lt (factor n) 65536 && nat_lt (inverse n) 65536) && right n)
+    (eqb (gf16.times (factor n) (inverse n)) 1 && eqb (hats gf16 inverse (suc n) (2 ^ suc n)) 1)
+    && ((nat_lt (factor n) 65536 && nat_lt (inverse n) 65536) && right n)
 
 all_right : right 15 ≡ true
 unfolding right factor inverse times product_of_bits remainder_of_bits
 all_right = refl
 
 right_at : (k n : ℕ) → right k ≡ true → n < k
-    → ((gf16.times (factor n) (inverse n) ≡ 1) × (hats gf16 inverse (suc n) (2 ^ suc n) ≡ 1)) × ((factor n < 65536) × (inverse n < 65536))
+    → ((gf16.times (factor n) (inverse n) ≡ 1) × (hats gf16 inverse (suc n) (2 ^ suc n) ≡ 1))
+    × ((factor n < 65536) × (inverse n < 65536))
 unfolding right
 right_at zero n h l = absurd (omega arith)
 right_at (suc k) n h l =
@@ -33,8 +36,12 @@ right_at (suc k) n h l =
     let d = and_parts (nat_lt (factor k) 65536) (nat_lt (inverse k) 65536) c.0 in
     elim (cases_eq n k) [
       | inl e ↦
-          subst (λ j. ((gf16.times (factor j) (inverse j) ≡ 1) × (hats gf16 inverse (suc j) (2 ^ suc j) ≡ 1)) × ((factor j < 65536) × (inverse j < 65536))) (sym e) (
-            (eqb-true (gf16.times (factor k) (inverse k)) 1 b.0, eqb-true (hats gf16 inverse (suc k) (2 ^ suc k)) 1 b.1),
+          subst (λ j. ((gf16.times (factor j) (inverse j) ≡ 1) × (hats gf16 inverse (suc j) (2 ^ suc j) ≡ 1))
+          × ((factor j < 65536) × (inverse j < 65536))) (sym e) (
+            (
+              eqb-true (gf16.times (factor k) (inverse k)) 1 b.0,
+              eqb-true (hats gf16 inverse (suc k) (2 ^ suc k)) 1 b.1,
+            ),
             (ltb-true (factor k) 65536 d.0, ltb-true (inverse k) 65536 d.1),
           )
       | inr e ↦ right_at k n c.1 (omega arith)

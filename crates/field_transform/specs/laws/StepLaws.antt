@@ -11,7 +11,8 @@ powers_bounded block zero known = omega arith
 powers_bounded block (suc n) known =
     let half = 2 ^ n * block in
     cond_both (nat_le known half) (products_of_powers block n known)
-    (n + 1 + products_of_powers block n half + products_of_powers block n (known - half)) (λ p. p + suc n + 2 ≤ 2 * 2 ^ suc n)
+    (n + 1 + products_of_powers block n half + products_of_powers block n (known - half))
+    (λ p. p + suc n + 2 ≤ 2 * 2 ^ suc n)
     (λ _. omega (arith, powers_bounded block n known, pow-suc 2 n))
     (λ _. omega (arith, powers_bounded block n half, powers_bounded block n (known - half), pow-suc 2 n))
 
@@ -23,7 +24,13 @@ pub conversion_bounded : (block n known : ℕ) → products_of_conversion block 
 unfolding products_of_conversion
 conversion_bounded block zero known = omega arith
 conversion_bounded block (suc n) known =
-    omega (arith, one_level n known, powers_bounded (2 * block) n known, conversion_bounded (2 * block) n known, pow-suc 2 n)
+    omega (
+      arith,
+      one_level n known,
+      powers_bounded (2 * block) n known,
+      conversion_bounded (2 * block) n known,
+      pow-suc 2 n,
+    )
 
 apart : (p b w : ℕ) → (p + 2 * b) * w ≡ p * w + (b * w + b * w)
 apart p b w = grind arith
@@ -37,7 +44,8 @@ values_bounded width (suc n) c k =
     let b = butterflies n in
     let low = products_of_values width n c in
     let high = products_of_values width n (bit_xor c p) (k - p) in
-    let some : cond (nat_lt c p) 0 (p * width) ≤ p * width = cond_both (nat_lt c p) 0 (p * width) (λ q. q ≤ p * width) (λ _. omega arith) (λ _. omega arith) in
+    let some : cond (nat_lt c p) 0 (p * width) ≤ p * width =
+    cond_both (nat_lt c p) 0 (p * width) (λ q. q ≤ p * width) (λ _. omega arith) (λ _. omega arith) in
     let both : cond (nat_le k p) (low k) (low p + high) + 4 * n + 4 ≤ 2 * (b * width) + 2 * 2 ^ suc n =
     cond_both (nat_le k p) (low k) (low p + high) (λ q. q + 4 * n + 4 ≤ 2 * (b * width) + 2 * 2 ^ suc n)
     (λ _. omega (arith, values_bounded width n c k, pow-suc 2 n))

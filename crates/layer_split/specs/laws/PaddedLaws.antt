@@ -1,4 +1,5 @@
--- What callers know of a layer that is filled up to whole words: as many as half its bytes, rounded up. This project's own.
+-- What callers know of a layer that is filled up to whole words: as many as half its bytes, rounded up. This project's
+-- own.
 use Rattle.std.proofs.Common.{◌≡◌, ℕ, ◌*◌, ◌%◌, List, [], ◌∷◌, ◌++◌, length, ap, ◌∙◌, arith, inl, inr}
 use Rattle.std.specs.Prelude.{◌==◌}
 use Rattle.std.specs.Int.{div_ceil}
@@ -11,7 +12,8 @@ pub padded_length : (bytes : List ℕ) → length (padded bytes) ≡ div_ceil (l
 padded_length bytes = elim (cases_Bool (length bytes % 2 == 1)) [
   | inl e ↦
       let odd : length bytes % 2 ≡ 1 = grind (arith, nat_tests) in
-      ap length (cond-true (length bytes % 2 == 1) (bytes ++ 0 ∷ []) bytes e) ∙ length-append bytes (0 ∷ []) ∙ (omega arith)
+      ap length (cond-true (length bytes % 2 == 1) (bytes ++ 0 ∷ []) bytes e) ∙ length-append bytes (0 ∷ [])
+      ∙ (omega arith)
   | inr e ↦
       let even : length bytes % 2 ≡ 0 = grind (arith, nat_tests) in
       ap length (cond-false (length bytes % 2 == 1) (bytes ++ 0 ∷ []) bytes e) ∙ (omega arith)

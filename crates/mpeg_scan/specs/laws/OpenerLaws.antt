@@ -1,9 +1,11 @@
 -- Start codes and openers in a longer stream. This project's own.
-use Rattle.std.proofs.Common.{◌≡◌, ℕ, zero, suc, ◌+◌, ◌-◌, ◌/◌, ◌%◌, ◌<◌, ◌≤◌, true, List, [], ◌∷◌, ◌++◌, length, get_or, refl, sym, ◌∙◌, ap, arith, length-append, inl, inr}
+use Rattle.std.proofs.Common.{◌≡◌, ℕ, zero, suc, ◌+◌, ◌-◌, ◌/◌, ◌%◌, ◌<◌, ◌≤◌, true, List, [], ◌∷◌, ◌++◌, length}
+use Rattle.std.proofs.Common.{get_or, refl, sym, ◌∙◌, ap, arith, length-append, inl, inr}
 use Rattle.std.specs.Prelude.{slice_index, nat_lt, ◌==◌}
 use Rattle.std.specs.List.{filter, range_with_len}
 use Rattle.std.proofs.lemmas.List.{get_or_append_left}
-use Rattle.std.proofs.lemmas.Bool.{cond-true, cond-false, cases_eq, cases_lt, and_parts, and_from, ltb-true, lt-ltb, eqb-true, eq-eqb, ne_eqb, false_from_ne_true}
+use Rattle.std.proofs.lemmas.Bool.{cond-true, cond-false, cases_eq, cases_lt, and_parts, and_from, ltb-true, lt-ltb}
+use Rattle.std.proofs.lemmas.Bool.{eqb-true, eq-eqb, ne_eqb, false_from_ne_true}
 use Rattle.mpeg_scan.specs.StartCodes.{is_start_code, is_opener, is_opener_code, code_at}
 use Rattle.mpeg_scan.specs.Pieces.{kind_at, kind_of_type}
 use Rattle.mpeg_scan.specs.Scanning.{openers_from}
@@ -24,7 +26,8 @@ stands s p h =
 
 pub is_standing : (s : List ℕ) (p : ℕ) → HasStartCode s p → is_start_code s p ≡ true
 is_standing s p h =
-    and_from _ _ (lt-ltb _ _ h.within) (and_from _ _ (eq-eqb _ _ h.zero1) (and_from _ _ (eq-eqb _ _ h.zero2) (eq-eqb _ _ h.one)))
+    and_from _ _ (lt-ltb _ _ h.within)
+    (and_from _ _ (eq-eqb _ _ h.zero1) (and_from _ _ (eq-eqb _ _ h.zero2) (eq-eqb _ _ h.one)))
 
 pub stands_more : (s t : List ℕ) (p : ℕ) → HasStartCode s p → HasStartCode (s ++ t) p
 stands_more s t p h =
@@ -54,8 +57,12 @@ apart s p q h k lt =
     elim (cases_lt q (p + 3)) [
       | inr le ↦ le
       | inl near ↦ elim (cases_lt (p + 1) q) [
-        | inl far ↦ absurd (let e : q ≡ p + 2 = omega arith in let z : slice_index s (p + 2) ≡ 0 = ap (λ i. get_or s i 0) (sym e) ∙ k.zero1 in let o = h.one in omega arith)
-        | inr next ↦ absurd (let e : q + 1 ≡ p + 2 = omega arith in let z : slice_index s (p + 2) ≡ 0 = ap (λ i. get_or s i 0) (sym e) ∙ k.zero2 in let o = h.one in omega arith)
+        | inl far ↦ absurd (let e : q ≡ p + 2 = omega arith in
+            let z : slice_index s (p + 2) ≡ 0 = ap (λ i. get_or s i 0) (sym e) ∙ k.zero1 in let o = h.one in
+            omega arith)
+        | inr next ↦ absurd (let e : q + 1 ≡ p + 2 = omega arith in
+            let z : slice_index s (p + 2) ≡ 0 = ap (λ i. get_or s i 0) (sym e) ∙ k.zero2 in let o = h.one in
+            omega arith)
       ]
     ]
 
@@ -75,7 +82,8 @@ opener_less s t p w h =
 pub opener_within : (s : List ℕ) (p : ℕ) → is_opener s p ≡ true → p + 3 < length s
 opener_within s p h = (stands s p (and_parts (is_start_code s p) _ h).0).within
 
-pub kind_more : (s t : List ℕ) (p : ℕ) → p + 3 < length s → (code_at s p ≡ 0 → p + 5 < length s) → kind_at (s ++ t) p ≡ kind_at s p
+pub kind_more : (s t : List ℕ) (p : ℕ) → p + 3 < length s → (code_at s p ≡ 0 → p + 5 < length s)
+    → kind_at (s ++ t) p ≡ kind_at s p
 kind_more s t p w known =
     let code = code_more s t p w in
     elim (cases_eq (code_at s p) 0) [
@@ -83,14 +91,16 @@ kind_more s t p w known =
           cond-true (code_at (s ++ t) p == 0) _ _ (eq-eqb _ _ (code ∙ picture))
           ∙ (ap kind_of_type (ap (λ y. (y / 8) % 8) (get_or_append_left s t 0 (p + 5) (known picture)))
           ∙ sym (cond-true (code_at s p == 0) _ _ (eq-eqb _ _ picture)))
-      | inr other ↦ cond-false (code_at (s ++ t) p == 0) _ _ (ne_eqb _ _ (λ is. other (sym code ∙ is))) ∙ sym (cond-false (code_at s p == 0) _ _ (ne_eqb _ _ other))
+      | inr other ↦ cond-false (code_at (s ++ t) p == 0) _ _ (ne_eqb _ _ (λ is. other (sym code ∙ is)))
+          ∙ sym (cond-false (code_at s p == 0) _ _ (ne_eqb _ _ other))
     ]
 
 -- no opener stands in the last three bytes
 pub last_openers : (s : List ℕ) (k n : ℕ) → length s ≤ k + 3 → filter (is_opener s) (range_with_len k n) ≡ []
 last_openers s k zero le = refl
 last_openers s k (suc n) le =
-    cond-false (is_opener s k) (k ∷ filter (is_opener s) (range_with_len (k + 1) n)) (filter (is_opener s) (range_with_len (k + 1) n))
+    cond-false (is_opener s k) (k ∷ filter (is_opener s) (range_with_len (k + 1) n))
+    (filter (is_opener s) (range_with_len (k + 1) n))
     (false_from_ne_true _ (λ is. let w = opener_within s k is in omega arith))
     ∙ last_openers s (k + 1) n (omega arith)
 

@@ -3,7 +3,7 @@ ghost use Rattle.std.specs.Prelude.{◌≡◌, ◌<◌, ◌↔◌, List, ℕ, If
 ghost use Rattle.mpeg_scan.specs.Refusals.{max_stream};
 ghost use Rattle.mpeg_scan.specs.declared.piece.Piece.{Piece};
 ghost use Rattle.mpeg_scan.specs.Scanning.{HasRead};
-ghost use Rattle.mpeg_scan.specs.Moves.{Decides, DecidesAtEnd};
+ghost use Rattle.mpeg_scan.specs.inside.Moves.{Decides, DecidesAtEnd};
 
 use super::Scanner;
 use crate::codes::{is_head_code, is_picture_type, is_system_code, type_of};

@@ -3,7 +3,7 @@ ghost use Rattle.std.specs.Prelude.{◌≡◌, ◌≢◌, ◌+◌, ◌<◌, ◌�
 ghost use Rattle.mpeg_scan.specs.declared.piece.Piece.{Piece};
 ghost use Rattle.mpeg_scan.specs.Refusals.{Refuses};
 ghost use Rattle.mpeg_scan.specs.Scanning.{HasRead, HasRefused, HasStopped};
-ghost use Rattle.mpeg_scan.specs.Moves.{Lacks, IsQuiet};
+ghost use Rattle.mpeg_scan.specs.inside.Moves.{Lacks, IsQuiet};
 
 use super::Scanner;
 use crate::refusal::Scan;

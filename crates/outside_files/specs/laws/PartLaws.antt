@@ -17,12 +17,16 @@ part_of_take k bytes old new puts = (take k bytes, (drop k bytes, sym (take-appe
 pub part_within : (a whole : List ℕ) (old new : Seen) → IsPrefix a whole → PutsPart a old new → PutsPart whole old new
 part_within a whole old new within part = (
   part.0,
-  (part.1.0 ++ within.0, within.1 ∙ ap (λ (t : List ℕ). t ++ within.0) part.1.1 ∙ append_assoc part.0 part.1.0 within.0),
+  (
+    part.1.0 ++ within.0,
+    within.1 ∙ ap (λ (t : List ℕ). t ++ within.0) part.1.1 ∙ append_assoc part.0 part.1.0 within.0,
+  ),
   part.2,
 )
 
 -- what was put, and a front of what comes next
-pub part_after : (a b : List ℕ) (first before after : Seen) → before.target ≡ first.target → Puts a first before → PutsPart b before after → PutsPart (a ++ b) first after
+pub part_after : (a b : List ℕ) (first before after : Seen) → before.target ≡ first.target → Puts a first before
+    → PutsPart b before after → PutsPart (a ++ b) first after
 part_after a b first before after same p part = (
   a ++ part.0,
   (part.1.0, ap (λ (t : List ℕ). a ++ t) part.1.1 ∙ sym (append_assoc a part.0 part.1.0)),

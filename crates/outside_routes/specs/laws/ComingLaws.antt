@@ -17,45 +17,56 @@ come_nothing None = refl
 come_nothing (Some ds) = refl
 
 -- some, and then more
-pub come_both : (ds more : List (List ℕ)) (first old new : Option (List (List ℕ))) → HaveCome ds first old → HaveCome more old new → HaveCome (ds ++ more) first new
+pub come_both : (ds more : List (List ℕ)) (first old new : Option (List (List ℕ))) → HaveCome ds first old
+    → HaveCome more old new → HaveCome (ds ++ more) first new
 come_both ds more first None None so_far step = so_far
 come_both ds more first None (Some left) so_far step = absurd (none_some _ step)
 come_both ds more first (Some old) None so_far step = absurd (none_some _ (sym step))
 come_both ds more first (Some old) (Some left) so_far step =
-    so_far ∙ ap (option_map (λ rest. ds ++ rest)) step ∙ ap (λ (l : List (List ℕ)). Some l) (sym (append_assoc ds more left))
+    so_far ∙ ap (option_map (λ rest. ds ++ rest)) step
+    ∙ ap (λ (l : List (List ℕ)). Some l) (sym (append_assoc ds more left))
 
 -- one more datagram
-pub come_more : (ds : List (List ℕ)) (first old new : Option (List (List ℕ))) (d : List ℕ) → HaveCome ds first old → HaveCome (d ∷ []) old new → HaveCome (ds ++ d ∷ []) first new
+pub come_more : (ds : List (List ℕ)) (first old new : Option (List (List ℕ))) (d : List ℕ) → HaveCome ds first old
+    → HaveCome (d ∷ []) old new → HaveCome (ds ++ d ∷ []) first new
 come_more ds first old new d so_far step = come_both ds (d ∷ []) first old new so_far step
 
 some_same : {A : Type 0} (x y : A) → Some x ≡ Some y → x ≡ y
 some_same x y e = cc
 
 -- at the end these are all
-pub come_all : (ds : List (List ℕ)) (first old : Option (List (List ℕ))) → HaveCome ds first old → IfSome old (λ more. more ≡ []) → IfSome first (λ all. all ≡ ds)
+pub come_all : (ds : List (List ℕ)) (first old : Option (List (List ℕ))) → HaveCome ds first old
+    → IfSome old (λ more. more ≡ []) → IfSome first (λ all. all ≡ ds)
 come_all ds None old so_far none = tt
 come_all ds (Some all) None so_far none = absurd (none_some _ (sym so_far))
-come_all ds (Some all) (Some more) so_far none = some_same _ _ so_far ∙ ap (λ (l : List (List ℕ)). ds ++ l) none ∙ append-nil ds
+come_all ds (Some all) (Some more) so_far none =
+    some_same _ _ so_far ∙ ap (λ (l : List (List ℕ)). ds ++ l) none ∙ append-nil ds
 
 -- what came stands at the front of all
-pub come_front : (ds : List (List ℕ)) (first now : Option (List (List ℕ))) → HaveCome ds first now → IfSome first (λ all. (more : List (List ℕ)) × (all ≡ ds ++ more))
+pub come_front : (ds : List (List ℕ)) (first now : Option (List (List ℕ))) → HaveCome ds first now
+    → IfSome first (λ all. (more : List (List ℕ)) × (all ≡ ds ++ more))
 come_front ds None now so_far = tt
 come_front ds (Some all) None so_far = absurd (none_some _ (sym so_far))
 come_front ds (Some all) (Some more) so_far = (more, some_same _ _ so_far)
 
-none_left : (old : Option (List ℕ)) → IfSome old (λ bytes. bytes ≡ []) → IfSome (option_map datagrams old) (λ more. more ≡ [])
+none_left : (old : Option (List ℕ)) → IfSome old (λ bytes. bytes ≡ [])
+    → IfSome (option_map datagrams old) (λ more. more ≡ [])
 none_left None none = tt
 none_left (Some bytes) none = datagrams_none bytes (ap first_entry none)
 
 -- an entry of a file is a datagram of it
-pub entry_comes : (e : Entry) (into : List ℕ) (old new : Option (List ℕ)) → TakesEntry old e into new → TakesDatagram (option_map datagrams old) e into (option_map datagrams new)
+pub entry_comes : (e : Entry) (into : List ℕ) (old new : Option (List ℕ)) → TakesEntry old e into new
+    → TakesDatagram (option_map datagrams old) e into (option_map datagrams new)
 entry_comes (Datagram n) into None None takes = refl
 entry_comes (Datagram n) into None (Some rest) takes = absurd (none_some _ takes)
 entry_comes (Datagram n) into (Some bytes) None takes = absurd (none_some _ (sym takes))
-entry_comes (Datagram n) into (Some bytes) (Some rest) takes = ap (λ (l : List (List ℕ)). Some l) (datagrams_first bytes (take n into) rest (some_same _ _ takes))
+entry_comes (Datagram n) into (Some bytes) (Some rest) takes =
+    ap (λ (l : List (List ℕ)). Some l) (datagrams_first bytes (take n into) rest (some_same _ _ takes))
 entry_comes End into old new takes = (ap (option_map datagrams) takes.0, none_left old takes.1)
 
 -- also where there may be none
-pub entry_answers : {E : Type 0} (r : Result Entry E) (into : List ℕ) (old new : Option (List ℕ)) → IfOk r (λ e. TakesEntry old e into new) → IfOk r (λ e. TakesDatagram (option_map datagrams old) e into (option_map datagrams new))
+pub entry_answers : {E : Type 0} (r : Result Entry E) (into : List ℕ) (old new : Option (List ℕ))
+    → IfOk r (λ e. TakesEntry old e into new)
+    → IfOk r (λ e. TakesDatagram (option_map datagrams old) e into (option_map datagrams new))
 entry_answers (Ok e) into old new takes = entry_comes e into old new takes
 entry_answers (Err e) into old new takes = tt

@@ -26,7 +26,8 @@ pub texts_are_read : (f : Fields) → IsFrame f → ReadsAs (text f) f
 texts_are_read f is = texts_are_read_in FORMAT format_is f is
 
 -- what is read is a frame
-pub reads_frames_in : (t : Format) → IsFormat t → (bytes : List ℕ) → first_fault_in t bytes ≡ None → IsFrameIn t (fields_in t bytes)
+pub reads_frames_in : (t : Format) → IsFormat t → (bytes : List ℕ) → first_fault_in t bytes ≡ None
+    → IsFrameIn t (fields_in t bytes)
 reads_frames_in t format bytes h = is_frame t format bytes h
 
 pub reads_frames : (bytes : List ℕ) → first_fault bytes ≡ None → IsFrame (fields_of bytes)
@@ -45,21 +46,26 @@ at_each bytes fits i =
     ]
 
 -- and its bytes are the text of that frame
-pub reads_texts_in : (t : Format) → IsFormat t → (bytes : List ℕ) → All (λ byte. byte < 256) bytes → first_fault_in t bytes ≡ None → bytes ≡ text_in t (fields_in t bytes)
+pub reads_texts_in : (t : Format) → IsFormat t → (bytes : List ℕ) → All (λ byte. byte < 256) bytes
+    → first_fault_in t bytes ≡ None → bytes ≡ text_in t (fields_in t bytes)
 reads_texts_in t format bytes fits h = is_text t bytes (at_each bytes fits) h
 
-pub reads_texts : (bytes : List ℕ) → All (λ byte. byte < 256) bytes → first_fault bytes ≡ None → bytes ≡ text (fields_of bytes)
+pub reads_texts : (bytes : List ℕ) → All (λ byte. byte < 256) bytes → first_fault bytes ≡ None
+    → bytes ≡ text (fields_of bytes)
 reads_texts bytes fits h = reads_texts_in FORMAT format_is bytes fits h
 
 -- two frames of one text are equal
-pub texts_tell_in : (t : Format) → IsFormat t → (f g : Fields) → IsFrameIn t f → IsFrameIn t g → text_in t f ≡ text_in t g → f ≡ g
-texts_tell_in t format f g is_f is_g same = sym (is_read t format f is_f).1 ∙ ap (fields_in t) same ∙ (is_read t format g is_g).1
+pub texts_tell_in : (t : Format) → IsFormat t → (f g : Fields) → IsFrameIn t f → IsFrameIn t g
+    → text_in t f ≡ text_in t g → f ≡ g
+texts_tell_in t format f g is_f is_g same =
+    sym (is_read t format f is_f).1 ∙ ap (fields_in t) same ∙ (is_read t format g is_g).1
 
 pub texts_tell : (f g : Fields) → IsFrame f → IsFrame g → text f ≡ text g → f ≡ g
 texts_tell f g is_f is_g same = texts_tell_in FORMAT format_is f g is_f is_g same
 
 -- the text of a frame has the length that its layers ask for, and that of the datagrams of its table
-pub texts_have_length_in : (t : Format) → IsFormat t → (f : Fields) → IsFrameIn t f → length (text_in t f) ≡ frame_length_in t f.layers
+pub texts_have_length_in : (t : Format) → IsFormat t → (f : Fields) → IsFrameIn t f
+    → length (text_in t f) ≡ frame_length_in t f.layers
 texts_have_length_in t format f is = length-text t format f is
 
 pub texts_have_length : (f : Fields) → IsFrame f → length (text f) ≡ datagram_length_of f.layers

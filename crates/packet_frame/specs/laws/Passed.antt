@@ -1,5 +1,6 @@
 -- What holds of bytes and fields at which no row of the table of refusals holds, and back.
-use Rattle.std.proofs.Common.{◌≡◌, ℕ, ◌-◌, ◌<◌, ◌≤◌, Bool, true, false, not, eqb, ltb, cond, ◌||◌, List, [], ◌∷◌, length, take, drop, Option, None, Some, refl, arith}
+use Rattle.std.proofs.Common.{◌≡◌, ℕ, ◌-◌, ◌<◌, ◌≤◌, Bool, true, false, not, eqb, ltb, cond, ◌||◌, List, [], ◌∷◌}
+use Rattle.std.proofs.Common.{length, take, drop, Option, None, Some, refl, arith}
 use Rattle.std.specs.List.{list_any, All}
 use Rattle.std.specs.Str.{bytes_eq}
 use Rattle.std.proofs.lemmas.Bool.Decides.{nat_tests}
@@ -21,7 +22,8 @@ abbrev AllFalse : List Row → Type 0
 AllFalse [] = Unit {0}
 AllFalse (row ∷ rows) = (row.0 ≡ false) × AllFalse rows
 
-none_row : (b : Bool) (fault : FrameFault) (rest : Option FrameFault) → cond b (Some fault) rest ≡ None → (b ≡ false) × (rest ≡ None)
+none_row : (b : Bool) (fault : FrameFault) (rest : Option FrameFault) → cond b (Some fault) rest ≡ None
+    → (b ≡ false) × (rest ≡ None)
 none_row true fault rest h = absurd cc
 none_row false fault rest h = (refl, h)
 
@@ -80,10 +82,12 @@ at_most a b h = grind (arith, nat_tests)
 not_above : (a b : ℕ) → b ≤ a → ltb a b ≡ false
 not_above a b p = grind (arith, nat_tests)
 
-fits : (size wanted most bound : ℕ) → (not (eqb size wanted) || ltb most bound) ≡ false → (size ≡ wanted) × (bound ≤ most)
+fits : (size wanted most bound : ℕ) → (not (eqb size wanted) || ltb most bound) ≡ false
+    → (size ≡ wanted) × (bound ≤ most)
 fits size wanted most bound h = (grind (arith, nat_tests), grind (arith, nat_tests))
 
-not_unfit : (size wanted most bound : ℕ) → size ≡ wanted → bound ≤ most → (not (eqb size wanted) || ltb most bound) ≡ false
+not_unfit : (size wanted most bound : ℕ) → size ≡ wanted → bound ≤ most
+    → (not (eqb size wanted) || ltb most bound) ≡ false
 not_unfit size wanted most bound p q = grind (arith, nat_tests)
 
 neither : (a b : Bool) → (a || b) ≡ false → (a ≡ false) × (b ≡ false)
@@ -96,7 +100,8 @@ passes_in t bytes f h =
     let groups = in_range f.groups MAX_GROUPS r.1.1.0 in
     let packets = in_range f.packets t.bounds.packets r.1.1.1.1.0 in
     let count = in_range (count_of bytes) t.bounds.layers r.1.1.1.1.1.1.0 in
-    let size = fits (length bytes) (frame_length_in t f.layers) MAX_DATAGRAM (length_over t.bounds.bare (planned t.bounds f.layers)) r.1.1.1.1.1.1.1.1.1.1.0 in
+    let size = fits (length bytes) (frame_length_in t f.layers) MAX_DATAGRAM
+    (length_over t.bounds.bare (planned t.bounds f.layers)) r.1.1.1.1.1.1.1.1.1.1.0 in
     record {
       long = at_most _ _ r.0;
       magic = same_bytes (take 4 bytes) t.mark r.1.0;
@@ -145,7 +150,8 @@ not_refused t bytes f p = none_holds (rows t bytes f) (
                   (
                     not_above _ _ p.lengths,
                     (
-                      not_unfit (length bytes) (frame_length_in t f.layers) MAX_DATAGRAM (length_over t.bounds.bare (planned t.bounds f.layers)) p.whole p.narrow,
+                      not_unfit (length bytes) (frame_length_in t f.layers) MAX_DATAGRAM
+                          (length_over t.bounds.bare (planned t.bounds f.layers)) p.whole p.narrow,
                       (
                         equal_bytes _ _ p.tag,
                         tt,
@@ -169,13 +175,16 @@ none_passes p (x ∷ xs) h =
     All-cons (λ x. p x ≡ false) x xs k.0 (none_passes p xs k.1)
 
 -- no need is wrong exactly where each is in its range
-pub needs_are : (packets : ℕ) (layers : List LayerSize) → list_any (λ (layer : LayerSize). eqb layer.need 0 || ltb packets layer.need) layers ≡ false
+pub needs_are : (packets : ℕ) (layers : List LayerSize)
+    → list_any (λ (layer : LayerSize). eqb layer.need 0 || ltb packets layer.need) layers ≡ false
     → All (λ (layer : LayerSize). 0 < layer.need) layers × All (λ (layer : LayerSize). layer.need ≤ packets) layers
 needs_are packets layers h =
     let each = none_passes (λ (layer : LayerSize). eqb layer.need 0 || ltb packets layer.need) layers h in
     (λ k d lt. (in_range _ packets (each k d lt)).0, λ k d lt. (in_range _ packets (each k d lt)).1)
 
-pub no_wrong_need : (packets : ℕ) (layers : List LayerSize) → All (λ (layer : LayerSize). 0 < layer.need) layers → All (λ (layer : LayerSize). layer.need ≤ packets) layers
+pub no_wrong_need : (packets : ℕ) (layers : List LayerSize) → All (λ (layer : LayerSize). 0 < layer.need) layers
+    → All (λ (layer : LayerSize). layer.need ≤ packets) layers
     → list_any (λ (layer : LayerSize). eqb layer.need 0 || ltb packets layer.need) layers ≡ false
 no_wrong_need packets layers some few =
-    list_any_none (λ (layer : LayerSize). eqb layer.need 0 || ltb packets layer.need) layers (λ k d lt. out_of_range _ packets (some k d lt) (few k d lt))
+    list_any_none (λ (layer : LayerSize). eqb layer.need 0 || ltb packets layer.need) layers
+    (λ k d lt. out_of_range _ packets (some k d lt) (few k d lt))

@@ -1,5 +1,6 @@
 -- For callers: frames of a format, by the table whose words their plan cuts.
-use Rattle.std.proofs.Common.{◌≡◌, ℕ, ◌*◌, ◌/◌, ◌<◌, ◌≤◌, Bool, true, false, All, List, [], ◌∷◌, map, length, None, refl, subst, ap, sym, ◌∙◌, arith}
+use Rattle.std.proofs.Common.{◌≡◌, ℕ, ◌*◌, ◌/◌, ◌<◌, ◌≤◌, Bool, true, false, All, List, [], ◌∷◌, map, length, None}
+use Rattle.std.proofs.Common.{refl, subst, ap, sym, ◌∙◌, arith}
 use Rattle.std.specs.Prelude.{if◌then◌else◌}
 use Rattle.pet_base.specs.declared.limits.TheConstants.{MAX_GROUPS}
 use Rattle.stripe_plan.specs.declared.bounds.Bounds.{Bounds}
@@ -11,7 +12,8 @@ use Rattle.stripe_plan.specs.laws.ByteLaws.{is_planned}
 use Rattle.packet_frame.specs.declared.format.Format.{Format}
 use Rattle.packet_frame.specs.Format.{IsFormat}
 use Rattle.packet_frame.specs.Frame.{Fields, IsFrameIn, IsFrameBy, text_in}
-use Rattle.packet_frame.specs.Planned.{halved, unplanned, by_plan, by_text, planned_fields, planned_text, IsPlanTableIn, IsPlannedFrame}
+use Rattle.packet_frame.specs.Planned.{halved, unplanned, by_plan, by_text, planned_fields, planned_text, IsPlanTableIn}
+use Rattle.packet_frame.specs.Planned.{IsPlannedFrame}
 use Rattle.packet_frame.specs.Refusals.{fields_in, first_fault_in}
 use Rattle.packet_frame.specs.laws.Again.{is_read}
 use Rattle.packet_frame.specs.laws.Laws.{reads_frames_in, reads_texts_in}

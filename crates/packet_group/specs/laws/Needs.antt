@@ -23,22 +23,34 @@ pub words_inside : (width : ℕ) (layers : List LayerSize) (layer : ℕ) (d : La
 words_inside width layers layer d l =
     let size = get_or layers layer d in
     let words : words_before layers layer + words_of size ≤ length (needs_of layers) =
-    omega (arith, length-needs_of layers, sum_by_more words_of layers layer d l, sum_by-take-le words_of layers (layer + 1)) in
-    let inside : (words_before layers layer + words_of size) * width ≤ length (needs_of layers) * width = mul-le-mul_right width words in
-    let split : (words_before layers layer + words_of size) * width ≡ words_before layers layer * width + words_of size * width = omega arith in
+    omega (
+      arith,
+      length-needs_of layers,
+      sum_by_more words_of layers layer d l,
+      sum_by-take-le words_of layers (layer + 1),
+    ) in
+    let inside : (words_before layers layer + words_of size) * width ≤ length (needs_of layers) * width =
+    mul-le-mul_right width words in
+    let split : (words_before layers layer + words_of size) * width
+    ≡ words_before layers layer * width + words_of size * width = omega arith in
     omega (arith, inside, split)
 
 -- and so do its bytes
 pub layer_inside : (width : ℕ) (layers : List LayerSize) (layer : ℕ) (d : LayerSize) → layer < length layers
-    → words_before layers layer * width + bytes_in_layer width (get_or layers layer d) ≤ length (needs_of layers) * width
-layer_inside width layers layer d l = omega (arith, words_inside width layers layer d l, bytes_short width (get_or layers layer d))
+    → words_before layers layer * width + bytes_in_layer width (get_or layers layer d)
+    ≤ length (needs_of layers) * width
+layer_inside width layers layer d l =
+    omega (arith, words_inside width layers layer d l, bytes_short width (get_or layers layer d))
 
-pub length_is : (width : ℕ) (layers : List LayerSize) (layer : ℕ) (d : LayerSize) → layer < length layers → length_of_layer width layers layer ≡ bytes_in_layer width (get_or layers layer d)
-length_is width layers layer d l = ap (λ o. unwrap_or (option_map (bytes_in_layer width) o) 0) (slice_get-get_or layers layer d l)
+pub length_is : (width : ℕ) (layers : List LayerSize) (layer : ℕ) (d : LayerSize) → layer < length layers
+    → length_of_layer width layers layer ≡ bytes_in_layer width (get_or layers layer d)
+length_is width layers layer d l =
+    ap (λ o. unwrap_or (option_map (bytes_in_layer width) o) 0) (slice_get-get_or layers layer d l)
 
 -- where a word has at least two bytes, a layer has as many as its length says
 pub bytes_all : (width : ℕ) (size : LayerSize) → 2 ≤ width → bytes_in_layer width size ≡ size.length
-bytes_all width size wide = whole size.length (words_of size * width) (omega (arith, even, mul-le-mul_left (words_of size) wide))
+bytes_all width size wide =
+    whole size.length (words_of size * width) (omega (arith, even, mul-le-mul_left (words_of size) wide))
   where
     even : size.length ≤ words_of size * 2
     even = omega arith
@@ -46,7 +58,8 @@ bytes_all width size wide = whole size.length (words_of size * width) (omega (ar
     whole : (a b : ℕ) → a ≤ b → min a b ≡ a
     whole a b h = omega arith
 
-pub length_all : (width : ℕ) (layers : List LayerSize) (layer : ℕ) (d : LayerSize) → 2 ≤ width → layer < length layers → length_of_layer width layers layer ≡ (get_or layers layer d).length
+pub length_all : (width : ℕ) (layers : List LayerSize) (layer : ℕ) (d : LayerSize) → 2 ≤ width → layer < length layers
+    → length_of_layer width layers layer ≡ (get_or layers layer d).length
 length_all width layers layer d wide l = length_is width layers layer d l ∙ bytes_all width (get_or layers layer d) wide
 
 -- where a word has one byte, a layer of twice the length has as many as the length says

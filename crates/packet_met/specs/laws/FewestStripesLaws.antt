@@ -1,5 +1,6 @@
 -- The packets of every session carry the fewest stripes.
-use Rattle.std.proofs.Common.{◌≡◌, ℕ, zero, suc, ◌+◌, ◌*◌, ◌<◌, ◌≤◌, List, [], ◌∷◌, All, length, map, get_or, Some, refl, ap, subst, ◌∙◌, arith}
+use Rattle.std.proofs.Common.{◌≡◌, ℕ, zero, suc, ◌+◌, ◌*◌, ◌<◌, ◌≤◌, List, [], ◌∷◌, All, length, map, get_or, Some}
+use Rattle.std.proofs.Common.{refl, ap, subst, ◌∙◌, arith}
 use Rattle.std.specs.Prelude.{slice_get}
 use Rattle.std.specs.Int.{w16, from_be_bytes, to_be_bytes}
 use Rattle.std.specs.List.{flat_map}
@@ -18,13 +19,17 @@ use Rattle.packet_session.specs.Session.{SessionGroup, IsSessionGroup}
 use Rattle.packet_met.specs.FewestStripes.{CarriesFewestStripes}
 
 -- a word each has two bytes each
-two_each : (x : ℕ) (stripes : List (List ℕ)) → length (flat_map (λ stripe. to_be_bytes w16 (value gf16 stripe x)) stripes) ≡ 2 * length stripes
+two_each : (x : ℕ) (stripes : List (List ℕ))
+    → length (flat_map (λ stripe. to_be_bytes w16 (value gf16 stripe x)) stripes) ≡ 2 * length stripes
 two_each x [] = refl
 two_each x (stripe ∷ stripes) =
     let one : length (to_be_bytes w16 (value gf16 stripe x)) ≡ 2 = refl in
     let more = two_each x stripes in
-    let all : length (flat_map (λ stripe. to_be_bytes w16 (value gf16 stripe x)) (stripe ∷ stripes)) ≡ length (to_be_bytes w16 (value gf16 stripe x)) + length (flat_map (λ stripe. to_be_bytes w16 (value gf16 stripe x)) stripes) =
-    length-append (to_be_bytes w16 (value gf16 stripe x)) (flat_map (λ stripe. to_be_bytes w16 (value gf16 stripe x)) stripes) in
+    let all : length (flat_map (λ stripe. to_be_bytes w16 (value gf16 stripe x)) (stripe ∷ stripes))
+    ≡ length (to_be_bytes w16 (value gf16 stripe x))
+    + length (flat_map (λ stripe. to_be_bytes w16 (value gf16 stripe x)) stripes) =
+    length-append (to_be_bytes w16 (value gf16 stripe x))
+    (flat_map (λ stripe. to_be_bytes w16 (value gf16 stripe x)) stripes) in
     omega (arith, all, one, more)
 
 length_map : {A B : Type 0} (f : A → B) (xs : List A) → length (map f xs) ≡ length xs
@@ -32,7 +37,8 @@ length_map f [] = refl
 length_map f (x ∷ xs) = ap suc (length_map f xs)
 
 -- a layer that is there
-at_get : (layers : List LayerSize) (layer : ℕ) (size : LayerSize) → slice_get layers layer ≡ Some size → (layer < length layers) × (get_or layers layer size ≡ size)
+at_get : (layers : List LayerSize) (layer : ℕ) (size : LayerSize) → slice_get layers layer ≡ Some size
+    → (layer < length layers) × (get_or layers layer size ≡ size)
 at_get [] layer size e = absurd cc
 at_get (x ∷ layers) zero size e = (omega arith, same_Some x size e)
 at_get (x ∷ layers) (suc layer) size e = let rest = at_get layers layer size e in (omega (arith, rest.0), rest.1)
@@ -42,17 +48,24 @@ carries_fewest g is = record {
   needed =
       λ layer size at.
       let there = at_get g.layers layer size at in
-      subst (λ (x : LayerSize). count_of g.layers layer ≤ x.need) there.1 (count_of-le g.layers layer size there.0 is.table.needed);
+      subst (λ (x : LayerSize). count_of g.layers layer ≤ x.need) there.1
+      (count_of-le g.layers layer size there.0 is.table.needed);
   words =
       λ number.
       let row = words (from_be_bytes w16) 2 (length (needs_of g.layers)) g.message in
       two_each number (stripes_in gf16_coding g.layers g.message)
-      ∙ ap (λ (n : ℕ). 2 * n) (length_map (λ s. Rattle.std.specs.Prelude.take s.1 (Rattle.std.specs.Prelude.drop s.0 row)) (plan_stripes g.layers));
-  fewest = λ ends part. omega (arith, length-plan_stripes g.layers, plan_ends_fewest g.layers ends is.table.needed part);
+      ∙ ap (λ (n : ℕ). 2 * n) (length_map
+      (λ s. Rattle.std.specs.Prelude.take s.1 (Rattle.std.specs.Prelude.drop s.0 row)) (plan_stripes g.layers));
+  fewest = λ ends part. omega (
+    arith,
+    length-plan_stripes g.layers,
+    plan_ends_fewest g.layers ends is.table.needed part,
+  );
   bounded = omega (arith, length-plan_stripes g.layers, plan_ends_bound g.layers is.table.needed);
 }
 
 pub all_carry_fewest : (groups : List SessionGroup) → All (IsSessionGroup 2) groups → All CarriesFewestStripes groups
 all_carry_fewest [] all = All-nil CarriesFewestStripes
 all_carry_fewest (g ∷ groups) all =
-    All-cons CarriesFewestStripes g groups (carries_fewest g (All-head (IsSessionGroup 2) g groups all)) (all_carry_fewest groups (All-tail (IsSessionGroup 2) g groups all))
+    All-cons CarriesFewestStripes g groups (carries_fewest g (All-head (IsSessionGroup 2) g groups all))
+    (all_carry_fewest groups (All-tail (IsSessionGroup 2) g groups all))

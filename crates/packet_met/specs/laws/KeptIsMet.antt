@@ -1,5 +1,6 @@
 -- What is kept is what was met: a set that follows the packets of a session.
-use Rattle.std.proofs.Common.{◌≡◌, ℕ, zero, suc, Bool, true, false, cond, List, [], ◌∷◌, length, get_or, Option, None, Some, All, refl, sym, ap, subst, ◌∙◌, arith}
+use Rattle.std.proofs.Common.{◌≡◌, ℕ, zero, suc, Bool, true, false, cond, List, [], ◌∷◌, length, get_or, Option, None}
+use Rattle.std.proofs.Common.{Some, All, refl, sym, ap, subst, ◌∙◌, arith}
 use Rattle.std.specs.Prelude.{sum_by, count_by, slice_get, is_some, unwrap_or, replicate}
 use Rattle.std.specs.List.{enumerate_from, range_with_len}
 use Rattle.std.specs.Ordering.{nat_cmp}
@@ -40,11 +41,14 @@ module _ (made : SessionGroup → ℕ → List ℕ) where
     pub session : kept.session ≡ s.number
     pub limit_is : kept.limit ≡ limit
     pub rising : IsStrictlySortedBy nat_cmp (keys_of kept.groups)
-    pub opened : (group : ℕ) (p : Packets) → open_group kept group ≡ Some p → (g : SessionGroup) × (slice_get s.groups group ≡ Some g) × HasMet s pairs group g p
+    pub opened : (group : ℕ) (p : Packets) → open_group kept group ≡ Some p
+        → (g : SessionGroup) × (slice_get s.groups group ≡ Some g) × HasMet s pairs group g p
     pub closed : (group : ℕ) → open_group kept group ≡ None → (number : ℕ) → has_pair pairs group number ≡ false
     pub told : All (λ p. p.header.groups ≡ length s.groups) (values_of kept.groups)
     -- a sum over the open groups is one over the groups of the session
-    pub spread : (w : Packets → ℕ) → sum_by w (values_of kept.groups) ≡ sum_by (λ (e : ℕ × SessionGroup). weight w (open_group kept e.0)) (enumerate_from 0 s.groups)
+    pub spread : (w : Packets → ℕ)
+        → sum_by w (values_of kept.groups)
+        ≡ sum_by (λ (e : ℕ × SessionGroup). weight w (open_group kept e.0)) (enumerate_from 0 s.groups)
 
   pub follows_nothing : (s : Session) (limit : ℕ) → Follows s limit [] (empty_set s.number limit)
   follows_nothing s limit = record {
@@ -57,7 +61,8 @@ module _ (made : SessionGroup → ℕ → List ℕ) where
     spread = λ w. sym (nothing w 0 s.groups);
   }
     where
-      nothing : (w : Packets → ℕ) (k : ℕ) (gs : List SessionGroup) → sum_by (λ (e : ℕ × SessionGroup). 0) (enumerate_from k gs) ≡ 0
+      nothing : (w : Packets → ℕ) (k : ℕ) (gs : List SessionGroup)
+          → sum_by (λ (e : ℕ × SessionGroup). 0) (enumerate_from k gs) ≡ 0
       nothing w k gs = zeros (enumerate_from k gs)
         where
           zeros : (es : List (ℕ × SessionGroup)) → sum_by (λ (e : ℕ × SessionGroup). 0) es ≡ 0
@@ -65,7 +70,8 @@ module _ (made : SessionGroup → ℕ → List ℕ) where
           zeros (e ∷ es) = zeros es
 
   -- the same, where the same of the group was met
-  pub met_same : (s : Session) (before now : List Pair) (group : ℕ) (g : SessionGroup) (p : Packets) → ((number : ℕ) → has_pair now group number ≡ has_pair before group number)
+  pub met_same : (s : Session) (before now : List Pair) (group : ℕ) (g : SessionGroup) (p : Packets)
+      → ((number : ℕ) → has_pair now group number ≡ has_pair before group number)
       → HasMet s before group g p → HasMet s now group g p
   met_same s before now group g p same has = record {
     header = has.header;
@@ -75,9 +81,12 @@ module _ (made : SessionGroup → ℕ → List ℕ) where
   }
 
   -- how many are kept of the group
-  pub count_met_in : (s : Session) (pairs : List Pair) (group : ℕ) (g : SessionGroup) (p : Packets) → HasMet s pairs group g p → count_in p ≡ distinct_met pairs group g.packets
+  pub count_met_in : (s : Session) (pairs : List Pair) (group : ℕ) (g : SessionGroup) (p : Packets)
+      → HasMet s pairs group g p → count_in p ≡ distinct_met pairs group g.packets
   count_met_in s pairs group g p has =
-      count_slots p.slots (has_pair pairs group) 0 (λ i n at lt. ap is_some (has.each i) ∙ known (has_pair pairs group i) (made g i) ∙ ap (has_pair pairs group) (omega arith))
+      count_slots p.slots (has_pair pairs group) 0
+      (λ i n at lt. ap is_some (has.each i) ∙ known (has_pair pairs group i) (made g i)
+      ∙ ap (has_pair pairs group) (omega arith))
       ∙ ap (λ (n : ℕ). count_by (has_pair pairs group) (range_with_len 0 n)) has.slots
     where
       known : (b : Bool) (payload : List ℕ) → is_some (cond b (Some payload) None) ≡ b
@@ -88,16 +97,22 @@ module _ (made : SessionGroup → ℕ → List ℕ) where
   abbrev pub group_before : KeptSet → Fields → Packets
   group_before kept f = unwrap_or (open_group kept f.group) (no_packets (header_of f))
 
-  pub has_met_before : (s : Session) (limit : ℕ) (pairs : List Pair) (kept : KeptSet) (f : Fields) (g : SessionGroup) → Follows s limit pairs kept
-      → slice_get s.groups f.group ≡ Some g → header_of f ≡ header_in s f.group g → HasMet s pairs f.group g (group_before kept f)
+  pub has_met_before : (s : Session) (limit : ℕ) (pairs : List Pair) (kept : KeptSet) (f : Fields) (g : SessionGroup)
+      → Follows s limit pairs kept
+      → slice_get s.groups f.group ≡ Some g → header_of f ≡ header_in s f.group g
+      → HasMet s pairs f.group g (group_before kept f)
   has_met_before s limit pairs kept f g follows at is = by (open_group kept f.group) refl
     where
-      by : (o : Option Packets) → open_group kept f.group ≡ o → HasMet s pairs f.group g (unwrap_or o (no_packets (header_of f)))
+      by : (o : Option Packets) → open_group kept f.group ≡ o
+          → HasMet s pairs f.group g (unwrap_or o (no_packets (header_of f)))
       by None e = record {
         header = is;
         word = refl;
-        slots = Rattle.std.proofs.lemmas.List.length-replicate (header_of f).table.packets None ∙ ap (λ (h : Header). h.table.packets) is;
-        each = λ number. empty None refl (header_of f).table.packets number ∙ ap (λ (b : Bool). cond b (Some (made g number)) None) (sym (follows.closed f.group e number));
+        slots =
+            Rattle.std.proofs.lemmas.List.length-replicate (header_of f).table.packets None
+            ∙ ap (λ (h : Header). h.table.packets) is;
+        each = λ number. empty None refl (header_of f).table.packets number
+            ∙ ap (λ (b : Bool). cond b (Some (made g number)) None) (sym (follows.closed f.group e number));
       }
         where
           empty : (o : Option (List ℕ)) → o ≡ None → (n i : ℕ) → get_or (replicate n o) i None ≡ None

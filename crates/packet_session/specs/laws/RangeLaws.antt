@@ -1,5 +1,6 @@
 -- What callers may conclude about the frames of a range on end: where each of them stands.
-use Rattle.std.proofs.Common.{◌≡◌, ℕ, zero, suc, ◌+◌, ◌*◌, ◌<◌, ◌≤◌, List, ◌++◌, length, take, drop, sym, ap, ◌∙◌, arith, length-append}
+use Rattle.std.proofs.Common.{◌≡◌, ℕ, zero, suc, ◌+◌, ◌*◌, ◌<◌, ◌≤◌, List, ◌++◌, length, take, drop, sym, ap, ◌∙◌}
+use Rattle.std.proofs.Common.{arith, length-append}
 use Rattle.std.proofs.lemmas.List.{take_at, drop_at, drop-drop}
 use Rattle.field_elements.specs.Field.{Coding}
 use Rattle.packet_frame.specs.Frame.{text}
@@ -13,17 +14,21 @@ module _ {E : Type 0} (c : Coding E) (e : Encoding) (len : ℕ) where
   pub frames_length : (count first : ℕ) → HaveLength first count → length (frames_text c e first count) ≡ count * len
   frames_length zero first h = omega arith
   frames_length (suc n) first h =
-      let rest : length (frames_text c e (first + 1) n) ≡ n * len = frames_length n (first + 1) (λ k low high. h k (omega arith) (omega arith)) in
-      length-append (text (frame_of c e first)) (frames_text c e (first + 1) n) ∙ omega (arith, h first (omega arith) (omega arith), rest)
+      let rest : length (frames_text c e (first + 1) n) ≡ n * len =
+      frames_length n (first + 1) (λ k low high. h k (omega arith) (omega arith)) in
+      length-append (text (frame_of c e first)) (frames_text c e (first + 1) n)
+      ∙ omega (arith, h first (omega arith) (omega arith), rest)
 
-  pub frame_at : (count first p : ℕ) → HaveLength first count → p < count → take len (drop (p * len) (frames_text c e first count)) ≡ text (frame_of c e (first + p))
+  pub frame_at : (count first p : ℕ) → HaveLength first count → p < count
+      → take len (drop (p * len) (frames_text c e first count)) ≡ text (frame_of c e (first + p))
   frame_at zero first p h l = absurd (omega arith)
   frame_at (suc n) first zero h l =
       let one : List ℕ = text (frame_of c e first) in
       let rest : List ℕ = frames_text c e (first + 1) n in
       let none : 0 * len ≡ 0 = omega arith in
       let same : first ≡ first + 0 = omega arith in
-      ap (λ k. take len (drop k (one ++ rest))) none ∙ take_at one rest len (h first (omega arith) (omega arith)) ∙ ap (λ k. text (frame_of c e k)) same
+      ap (λ k. take len (drop k (one ++ rest))) none ∙ take_at one rest len (h first (omega arith) (omega arith))
+      ∙ ap (λ k. text (frame_of c e k)) same
   frame_at (suc n) first (suc p) h l =
       let one : List ℕ = text (frame_of c e first) in
       let rest : List ℕ = frames_text c e (first + 1) n in

@@ -1,5 +1,6 @@
 -- Laws of what is read of the datagram file of a session: its packets, in order.
-use Rattle.std.proofs.Common.{◌≡◌, ℕ, suc, ◌<◌, Bool, false, take, drop, List, [], ◌∷◌, ◌++◌, length, All, map, append_assoc, refl, sym, ap, subst, ◌∙◌, arith}
+use Rattle.std.proofs.Common.{◌≡◌, ℕ, suc, ◌<◌, Bool, false, take, drop, List, [], ◌∷◌, ◌++◌, length, All, map}
+use Rattle.std.proofs.Common.{append_assoc, refl, sym, ap, subst, ◌∙◌, arith}
 use Rattle.std.specs.Prelude.{Contains, Some, cond}
 use Rattle.std.specs.Int.{w16, from_be_bytes, to_be_bytes}
 use Rattle.std.proofs.Math.Dec.{ltb}
@@ -19,17 +20,20 @@ use Rattle.packet_session.specs.laws.SessionLaws.{packets_are, packets_are_frame
 use Rattle.packet_session.specs.Datagrams.{entries_text, session_packets, datagrams_text, IsItsPacket, IsItsDatagram}
 use Rattle.pet_base.specs.Entries.{entry_text}
 
-pair_at : (test : Bool) (n : ℕ) (more : List ℕ) → test ≡ false → cond {A = List ℕ × List ℕ} test ([], []) (take n more, drop n more) ≡ (take n more, drop n more)
+pair_at : (test : Bool) (n : ℕ) (more : List ℕ) → test ≡ false
+    → cond {A = List ℕ × List ℕ} test ([], []) (take n more, drop n more) ≡ (take n more, drop n more)
 pair_at test n more is = ap (λ (b : Bool). cond {A = List ℕ × List ℕ} b ([], []) (take n more, drop n more)) is
 
 -- so many bytes are there, and others behind them
 whole_is : (d rest : List ℕ) → whole_or_damaged (length d) (d ++ rest) ≡ (d, rest)
 whole_is d rest =
-    pair_at (ltb (length (d ++ rest)) (length d)) (length d) (d ++ rest) (le-ltb (length (d ++ rest)) (length d) (omega (arith, length-append d rest)))
+    pair_at (ltb (length (d ++ rest)) (length d)) (length d) (d ++ rest)
+    (le-ltb (length (d ++ rest)) (length d) (omega (arith, length-append d rest)))
     ∙ ap (λ (front : List ℕ). (front, drop (length d) (d ++ rest))) (take-append_seam d rest)
     ∙ ap (λ (back : List ℕ). (d, back)) (drop-append_seam d rest)
 
-two_first : (n : ℕ) (more : List ℕ) → first_entry (to_be_bytes w16 n ++ more) ≡ Some (whole_or_damaged (from_be_bytes w16 (to_be_bytes w16 n)) more)
+two_first : (n : ℕ) (more : List ℕ)
+    → first_entry (to_be_bytes w16 n ++ more) ≡ Some (whole_or_damaged (from_be_bytes w16 (to_be_bytes w16 n)) more)
 two_first n more = refl
 
 -- an entry is read as its datagram
@@ -48,7 +52,8 @@ text_short f is = omega (arith, texts_have_length f is, is.table.narrow)
 pub texts_read : (packets : List Fields) → All IsFrame packets → datagrams (entries_text packets) ≡ map text packets
 texts_read [] are = datagrams_none [] refl
 texts_read (f ∷ packets) are =
-    datagrams_first (entries_text (f ∷ packets)) (text f) (entries_text packets) (entry_read (text f) (entries_text packets) (text_short f (are 0 f (omega arith))))
+    datagrams_first (entries_text (f ∷ packets)) (text f) (entries_text packets)
+    (entry_read (text f) (entries_text packets) (text_short f (are 0 f (omega arith))))
     ∙ ap (λ (ds : List (List ℕ)). text f ∷ ds) (texts_read packets (λ k d lt. are (suc k) d (omega arith)))
 
 -- each packet of a session's list is one of its packets, and a frame
@@ -64,7 +69,8 @@ each_of P Q xs h all k d lt = h _ (all k d lt)
 
 pub are_frames : (s : Session) → IsSession 2 s → All IsFrame (session_packets s)
 are_frames s session =
-    each_of (Contains (session_packets s)) IsFrame (session_packets s) (λ f c. each_frame s session f (each_packet s f c)) (All-contains_itself (session_packets s))
+    each_of (Contains (session_packets s)) IsFrame (session_packets s)
+    (λ f c. each_frame s session f (each_packet s f c)) (All-contains_itself (session_packets s))
 
 -- The datagram file of a session is read as the texts of its packets, by group, then number.
 pub sent_are_texts : (s : Session) → IsSession 2 s → datagrams (datagrams_text s) ≡ map text (session_packets s)
@@ -84,4 +90,5 @@ pub sent_are_packets : (s : Session) → IsSession 2 s → All (IsItsDatagram s)
 sent_are_packets s session =
     subst (All (IsItsDatagram s)) (sym (sent_are_texts s session))
     (All-map (IsItsDatagram s) text (session_packets s)
-    (each_of (Contains (session_packets s)) (λ f. IsItsDatagram s (text f)) (session_packets s) (λ f c. text_is_datagram s session f (each_packet s f c)) (All-contains_itself (session_packets s))))
+    (each_of (Contains (session_packets s)) (λ f. IsItsDatagram s (text f)) (session_packets s)
+    (λ f c. text_is_datagram s session f (each_packet s f c)) (All-contains_itself (session_packets s))))

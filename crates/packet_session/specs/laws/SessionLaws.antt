@@ -1,5 +1,6 @@
 -- What callers may conclude about the packets of a session.
-use Rattle.std.proofs.Common.{◌≡◌, ◌↔◌, ℕ, zero, suc, ◌+◌, ◌*◌, ◌<◌, ◌≤◌, List, [], ◌∷◌, All, length, refl, sym, ap, subst, ◌∙◌, true≢false, arith, inl, inr}
+use Rattle.std.proofs.Common.{◌≡◌, ◌↔◌, ℕ, zero, suc, ◌+◌, ◌*◌, ◌<◌, ◌≤◌, List, [], ◌∷◌, All, length, refl, sym, ap}
+use Rattle.std.proofs.Common.{subst, ◌∙◌, true≢false, arith, inl, inr}
 use Rattle.std.specs.Prelude.{Contains, slice_get, Some, is_some, unwrap_or}
 use Rattle.std.proofs.lemmas.List.Elements.{Contains-append_cases, Contains-append_left, Contains-append_right}
 use Rattle.std.proofs.lemmas.List.FromFn.{length-map-range_with_len, get_or-map-range_with_len}
@@ -9,10 +10,12 @@ use Rattle.packet_frame.specs.Frame.{Fields, IsFrame}
 use Rattle.packet_session.specs.Encoding.{Encoding, IsGroupOf, frame_of}
 use Rattle.stripe_plan.specs.Layers.{plan_ends}
 use Rattle.packet_session.specs.laws.PayloadLaws.{length-payload}
-use Rattle.packet_session.specs.Session.{SessionGroup, Session, IsSession, IsSessionGroup, IsPacketOf, packet_of, packets_of_group, packets_from, packets_of}
+use Rattle.packet_session.specs.Session.{SessionGroup, Session, IsSession, IsSessionGroup, IsPacketOf, packet_of}
+use Rattle.packet_session.specs.Session.{packets_of_group, packets_from, packets_of}
 
 -- the element at a place, by the place
-at_place : {X : Type 0} (P : X → Type 0) (xs : List X) (i : ℕ) (x : X) → slice_get xs i ≡ Some x → All P xs → (i < length xs) × P x
+at_place : {X : Type 0} (P : X → Type 0) (xs : List X) (i : ℕ) (x : X) → slice_get xs i ≡ Some x → All P xs
+    → (i < length xs) × P x
 at_place P (y ∷ ys) zero x e h = (omega arith, subst P (ap (λ o. unwrap_or o y) e) (h 0 y (omega arith)))
 at_place P (y ∷ ys) (suc i) x e h =
     let rest = at_place P ys i x e (λ k d l. h (suc k) d (omega arith)) in
@@ -38,40 +41,63 @@ module _ {E : Type 0} (c : Coding E) (s : Session) where
     known : number < source.packets
     made : f ≡ packet (first + place) source number
 
-  in_group : (group : ℕ) (g : SessionGroup) (f : Fields) → Contains (of_group group g) f → (number : ℕ) × (number < g.packets) × (f ≡ packet group g number)
+  in_group : (group : ℕ) (g : SessionGroup) (f : Fields) → Contains (of_group group g) f
+      → (number : ℕ) × (number < g.packets) × (f ≡ packet group g number)
   in_group group g f h =
       let below : h.0 < g.packets = omega (arith, h.1, length-map-range_with_len (packet group g) 0 g.packets) in
       (h.0, below, sym h.2 ∙ get_or-map-range_with_len (packet group g) 0 g.packets h.0 h.0 f below (omega arith))
 
-  has_number : (group : ℕ) (g : SessionGroup) (number : ℕ) → number < g.packets → Contains (of_group group g) (packet group g number)
-  has_number group g number below =
-      (number, omega (arith, length-map-range_with_len (packet group g) 0 g.packets), get_or-map-range_with_len (packet group g) 0 g.packets number number (packet group g number) below (omega arith))
+  has_number : (group : ℕ) (g : SessionGroup) (number : ℕ) → number < g.packets
+      → Contains (of_group group g) (packet group g number)
+  has_number group g number below = (
+    number,
+    omega (arith, length-map-range_with_len (packet group g) 0 g.packets),
+    get_or-map-range_with_len (packet group g) 0 g.packets number number (packet group g number) below (omega arith),
+  )
 
-  in_groups : (first : ℕ) (groups : List SessionGroup) (f : Fields) → Contains (from_group first groups) f → IsFrom first groups f
+  in_groups : (first : ℕ) (groups : List SessionGroup) (f : Fields) → Contains (from_group first groups) f
+      → IsFrom first groups f
   in_groups first [] f h = absurd (omega (arith, h.1))
   in_groups first (g ∷ groups) f h =
       elim (Contains-append_cases (of_group first g) (from_group (first + 1) groups) f h) [
         | inl here ↦ (
             let w = in_group first g f here in
             let at : first ≡ first + 0 = omega arith in
-            record { place = 0; source = g; there = refl; number = w.0; known = w.1; made = w.2 ∙ ap (λ k. packet k g w.0) at }
+            record {
+              place = 0;
+              source = g;
+              there = refl;
+              number = w.0;
+              known = w.1;
+              made = w.2 ∙ ap (λ k. packet k g w.0) at;
+            }
             )
         | inr later ↦ (
             let w = in_groups (first + 1) groups f later in
             let at : first + 1 + w.place ≡ first + suc w.place = omega arith in
-            record { place = suc w.place; source = w.source; there = w.there; number = w.number; known = w.known; made = w.made ∙ ap (λ k. packet k w.source w.number) at }
+            record {
+              place = suc w.place;
+              source = w.source;
+              there = w.there;
+              number = w.number;
+              known = w.known;
+              made = w.made ∙ ap (λ k. packet k w.source w.number) at;
+            }
             )
       ]
 
-  has_packet : (first : ℕ) (groups : List SessionGroup) (place : ℕ) (g : SessionGroup) (f : Fields) → slice_get groups place ≡ Some g → Contains (of_group (first + place) g) f → Contains (from_group first groups) f
+  has_packet : (first : ℕ) (groups : List SessionGroup) (place : ℕ) (g : SessionGroup) (f : Fields)
+      → slice_get groups place ≡ Some g → Contains (of_group (first + place) g) f → Contains (from_group first groups) f
   has_packet first [] place g f there k = absurd (true≢false (sym (ap is_some there)))
   has_packet first (h ∷ groups) zero g f there p =
       let at : first + 0 ≡ first = omega arith in
       let same : h ≡ g = ap (λ o. unwrap_or o h) there in
-      Contains-append_left (of_group first h) (from_group (first + 1) groups) f (subst (λ k. Contains (of_group k h) f) at (subst (λ x. Contains (of_group (first + 0) x) f) (sym same) p))
+      Contains-append_left (of_group first h) (from_group (first + 1) groups) f
+      (subst (λ k. Contains (of_group k h) f) at (subst (λ x. Contains (of_group (first + 0) x) f) (sym same) p))
   has_packet first (h ∷ groups) (suc place) g f there p =
       let at : first + suc place ≡ first + 1 + place = omega arith in
-      Contains-append_right (of_group first h) (from_group (first + 1) groups) f (has_packet (first + 1) groups place g f there (subst (λ k. Contains (of_group k g) f) at p))
+      Contains-append_right (of_group first h) (from_group (first + 1) groups) f
+      (has_packet (first + 1) groups place g f there (subst (λ k. Contains (of_group k g) f) at p))
 
   -- the list has exactly the packets of the session
   pub packets_are : (f : Fields) → Contains (packets_of c s) f ↔ IsPacketOf c s f
@@ -91,7 +117,8 @@ module _ {E : Type 0} (c : Coding E) (s : Session) where
     λ p.
         let at : f.group ≡ 0 + f.group = omega arith in
         let here : Contains (of_group (0 + f.group) p.source) f =
-        subst (λ k. Contains (of_group k p.source) f) at (subst (Contains (of_group f.group p.source)) (sym p.made) (has_number f.group p.source f.number p.number)) in
+        subst (λ k. Contains (of_group k p.source) f) at
+        (subst (Contains (of_group f.group p.source)) (sym p.made) (has_number f.group p.source f.number p.number)) in
         has_packet 0 s.groups f.group p.source f p.group here,
   )
 
@@ -106,7 +133,8 @@ module _ {E : Type 0} (c : Coding E) (s : Session) where
   }
 
 -- the packets of a session are frames
-pub packets_are_frames : {E : Type 0} (P : E → Type 0) (count : ℕ) (c : Coding E) → IsCoding P count c → c.width ≡ 2 → MAX_PACKETS ≤ count
+pub packets_are_frames : {E : Type 0} (P : E → Type 0) (count : ℕ) (c : Coding E) → IsCoding P count c → c.width ≡ 2
+    → MAX_PACKETS ≤ count
     → (s : Session) (f : Fields) → IsSession c.width s → IsPacketOf c s f → IsFrame f
 packets_are_frames P count c laws two enough s f session p =
     let at = at_place (IsSessionGroup c.width) s.groups f.group p.source p.group session.groups in
@@ -119,5 +147,8 @@ packets_are_frames P count c laws two enough s f session p =
       group = at.0;
       number = p.number;
       table = table;
-      payload = length-payload P count c laws p.source.layers p.source.message (c.point_of f.number) at.1.message.whole at.1.message.bytes x ∙ ap (λ k. k * length (plan_ends p.source.layers)) two;
+      payload =
+          length-payload P count c laws p.source.layers p.source.message
+          (c.point_of f.number) at.1.message.whole at.1.message.bytes x
+          ∙ ap (λ k. k * length (plan_ends p.source.layers)) two;
     })

@@ -1,6 +1,7 @@
 -- Laws of two kept sets that can be joined, for callers: what it tells that no frame of the one clashes with the other.
 use Rattle.std.specs.Prelude.{IfSome, not, option_map, option_and_then}
-use Rattle.std.proofs.Common.{◌≡◌, ℕ, ◌<◌, ◌==◌, cond, Bool, true, false, ◌||◌, List, [], ◌∷◌, length, All, get_or, Option, None, Some, nat_cmp, refl, sym, ap, ap₂, ◌∙◌, arith, subst, inl, inr}
+use Rattle.std.proofs.Common.{◌≡◌, ℕ, ◌<◌, ◌==◌, cond, Bool, true, false, ◌||◌, List, [], ◌∷◌, length, All, get_or}
+use Rattle.std.proofs.Common.{Option, None, Some, nat_cmp, refl, sym, ap, ap₂, ◌∙◌, arith, subst, inl, inr}
 use Rattle.std.specs.Str.{bytes_eq}
 use Rattle.std.specs.List.{find, flat_map, filter_map, cons_option, range_with_len}
 use Rattle.std.specs.Option.{option_map_or, option_or}
@@ -44,32 +45,38 @@ module _ {X Y : Type 0} (p : Y → Bool) where
   none_in_all h [] a = refl
   none_in_all h (x ∷ xs) a =
       find-append p (h x) (flat_map h xs)
-      ∙ or_none (find p (h x)) (find p (flat_map h xs)) (All-head (λ t. find p (h t) ≡ None) x xs a) (none_in_all h xs (All-tail (λ t. find p (h t) ≡ None) x xs a))
+      ∙ or_none (find p (h x)) (find p (flat_map h xs)) (All-head (λ t. find p (h t) ≡ None) x xs a)
+      (none_in_all h xs (All-tail (λ t. find p (h t) ≡ None) x xs a))
 
 module _ {Y : Type 0} (p : Y → Bool) where
   fails_by : (b : Bool) (y : Y) (o : Option Y) → cond b (Some y) o ≡ None → (b ≡ false) × (o ≡ None)
   fails_by true y o e = absurd (cc)
   fails_by false y o e = (refl, e)
 
-  first_fails : (o : Option Y) (ys : List Y) → find p (cons_option o ys) ≡ None → IfSome o (λ y. p y ≡ false) × (find p ys ≡ None)
+  first_fails : (o : Option Y) (ys : List Y) → find p (cons_option o ys) ≡ None
+      → IfSome o (λ y. p y ≡ false) × (find p ys ≡ None)
   first_fails None ys e = (tt, e)
   first_fails (Some y) ys e = fails_by (p y) y (find p ys) e
 
-  fails_first : (o : Option Y) (ys : List Y) → IfSome o (λ y. p y ≡ false) → find p ys ≡ None → find p (cons_option o ys) ≡ None
+  fails_first : (o : Option Y) (ys : List Y) → IfSome o (λ y. p y ≡ false) → find p ys ≡ None
+      → find p (cons_option o ys) ≡ None
   fails_first None ys h e = e
   fails_first (Some y) ys h e = ap (λ b. cond b (Some y) (find p ys)) h ∙ e
 
 module _ {X Y : Type 0} (p : Y → Bool) where
-  fails_each : (h : X → Option Y) (xs : List X) → find p (filter_map h xs) ≡ None → All (λ x. IfSome (h x) (λ y. p y ≡ false)) xs
+  fails_each : (h : X → Option Y) (xs : List X) → find p (filter_map h xs) ≡ None
+      → All (λ x. IfSome (h x) (λ y. p y ≡ false)) xs
   fails_each h [] e = All-nil (λ x. IfSome (h x) (λ y. p y ≡ false))
   fails_each h (x ∷ xs) e =
       let both = first_fails p (h x) (filter_map h xs) e in
       All-cons (λ t. IfSome (h t) (λ y. p y ≡ false)) x xs both.0 (fails_each h xs both.1)
 
-  fails_all : (h : X → Option Y) (xs : List X) → All (λ x. IfSome (h x) (λ y. p y ≡ false)) xs → find p (filter_map h xs) ≡ None
+  fails_all : (h : X → Option Y) (xs : List X) → All (λ x. IfSome (h x) (λ y. p y ≡ false)) xs
+      → find p (filter_map h xs) ≡ None
   fails_all h [] a = refl
   fails_all h (x ∷ xs) a =
-      fails_first p (h x) (filter_map h xs) (All-head (λ t. IfSome (h t) (λ y. p y ≡ false)) x xs a) (fails_all h xs (All-tail (λ t. IfSome (h t) (λ y. p y ≡ false)) x xs a))
+      fails_first p (h x) (filter_map h xs) (All-head (λ t. IfSome (h t) (λ y. p y ≡ false)) x xs a)
+      (fails_all h xs (All-tail (λ t. IfSome (h t) (λ y. p y ≡ false)) x xs a))
 
 -- ---- the frames of a group
 
@@ -84,36 +91,48 @@ module _ (test : Fields → Bool) (q : Packets) where
   abbrev frame_at : ℕ → Option Fields
   frame_at i = option_map (fields_with q.header i) (slot_at q i)
 
-  group_passes : find test (frames_in_group q) ≡ None → (i : ℕ) (payload : List ℕ) → slot_at q i ≡ Some payload → test (fields_with q.header i payload) ≡ false
+  group_passes : find test (frames_in_group q) ≡ None → (i : ℕ) (payload : List ℕ) → slot_at q i ≡ Some payload
+      → test (fields_with q.header i payload) ≡ false
   group_passes e i payload kept =
       let l = in_slots q i payload kept in
       let n = length q.slots in
       let at : get_or (range_with_len 0 n) i 0 ≡ i = omega (arith, get_or-range_with_len 0 n i 0 l) in
       let each = fails_each test frame_at (range_with_len 0 n) e i 0 (omega (arith, length-range_with_len 0 n)) in
-      subst (λ o. IfSome (option_map (fields_with q.header i) o) (λ f. test f ≡ false)) kept (subst (λ j. IfSome (frame_at j) (λ f. test f ≡ false)) at each)
+      subst (λ o. IfSome (option_map (fields_with q.header i) o) (λ f. test f ≡ false)) kept
+      (subst (λ j. IfSome (frame_at j) (λ f. test f ≡ false)) at each)
 
-  passes_by : (i : ℕ) → ((payload : List ℕ) → slot_at q i ≡ Some payload → test (fields_with q.header i payload) ≡ false) → (o : Option (List ℕ)) → slot_at q i ≡ o
+  passes_by : (i : ℕ)
+      → ((payload : List ℕ) → slot_at q i ≡ Some payload → test (fields_with q.header i payload) ≡ false)
+      → (o : Option (List ℕ)) → slot_at q i ≡ o
       → IfSome (option_map (fields_with q.header i) o) (λ f. test f ≡ false)
   passes_by i each None is = tt
   passes_by i each (Some payload) is = each payload is
 
-  passes_group : ((i : ℕ) (payload : List ℕ) → slot_at q i ≡ Some payload → test (fields_with q.header i payload) ≡ false) → find test (frames_in_group q) ≡ None
+  passes_group : ((i : ℕ) (payload : List ℕ) → slot_at q i ≡ Some payload
+      → test (fields_with q.header i payload) ≡ false) → find test (frames_in_group q) ≡ None
   passes_group each =
-      fails_all test frame_at (range_with_len 0 (length q.slots)) (λ k d l. passes_by (get_or (range_with_len 0 (length q.slots)) k d) (each (get_or (range_with_len 0 (length q.slots)) k d)) (slot_at q (get_or (range_with_len 0 (length q.slots)) k d)) refl)
+      fails_all test frame_at (range_with_len 0 (length q.slots))
+      (λ k d l. passes_by (get_or (range_with_len 0 (length q.slots)) k d)
+      (each (get_or (range_with_len 0 (length q.slots)) k d))
+      (slot_at q (get_or (range_with_len 0 (length q.slots)) k d)) refl)
 
 -- no frame that is kept passes the test, exactly where a search finds none
 pub frames_pass : (test : Fields → Bool) (set : KeptSet) → find test (frames_in set) ≡ None
-    → (group : ℕ) (q : Packets) → open_group set group ≡ Some q → (i : ℕ) (payload : List ℕ) → slot_at q i ≡ Some payload → test (fields_with q.header i payload) ≡ false
+    → (group : ℕ) (q : Packets) → open_group set group ≡ Some q → (i : ℕ) (payload : List ℕ)
+    → slot_at q i ≡ Some payload → test (fields_with q.header i payload) ≡ false
 frames_pass test set none group q opened =
     let each = none_in_each test (λ (e : ℕ × Packets). frames_in_group e.1) set.groups none in
-    group_passes test q (subst (λ o. IfSome o (λ (p : Packets). find test (frames_in_group p) ≡ None)) opened (All-lookup (λ (p : Packets). find test (frames_in_group p) ≡ None) (is_at (nat_cmp group)) set.groups each))
+    group_passes test q (subst (λ o. IfSome o (λ (p : Packets). find test (frames_in_group p) ≡ None)) opened
+    (All-lookup (λ (p : Packets). find test (frames_in_group p) ≡ None) (is_at (nat_cmp group)) set.groups each))
 
 pub pass_frames : (test : Fields → Bool) (set : KeptSet) → IsKeptSet set
-    → ((group : ℕ) (q : Packets) → open_group set group ≡ Some q → (i : ℕ) (payload : List ℕ) → slot_at q i ≡ Some payload → test (fields_with q.header i payload) ≡ false)
+    → ((group : ℕ) (q : Packets) → open_group set group ≡ Some q → (i : ℕ) (payload : List ℕ)
+    → slot_at q i ≡ Some payload → test (fields_with q.header i payload) ≡ false)
     → find test (frames_in set) ≡ None
 pass_frames test set sound each =
     none_in_all test (λ (e : ℕ × Packets). frames_in_group e.1) set.groups
-    (λ k d l. passes_group test (get_or set.groups k d).1 (each (get_or set.groups k d).0 (get_or set.groups k d).1 (all_found set.groups sound.rising k d l)))
+    (λ k d l. passes_group test (get_or set.groups k d).1
+    (each (get_or set.groups k d).0 (get_or set.groups k d).1 (all_found set.groups sound.rising k d l)))
 
 -- of an open group some frame is kept
 pub some_frame : (p : Packets) → 0 < count_in p → (i : ℕ) × (payload : List ℕ) × (slot_at p i ≡ Some payload)
@@ -124,9 +143,12 @@ some_frame p l = first_some p.slots l
 -- no frame of the one clashes with the other
 pub record Agrees (a b : KeptSet) : Type 0 where
   pub session : a.session ≡ b.session
-  pub count : (g h : ℕ) (p q : Packets) → open_group a g ≡ Some p → open_group b h ≡ Some q → p.header.groups ≡ q.header.groups
-  pub table : (g : ℕ) (p q : Packets) → open_group a g ≡ Some p → open_group b g ≡ Some q → p.header.table ≡ q.header.table
-  pub payload : (g : ℕ) (p q : Packets) → open_group a g ≡ Some p → open_group b g ≡ Some q → (i : ℕ) (x y : List ℕ) → slot_at p i ≡ Some x → slot_at q i ≡ Some y → x ≡ y
+  pub count : (g h : ℕ) (p q : Packets) → open_group a g ≡ Some p → open_group b h ≡ Some q
+      → p.header.groups ≡ q.header.groups
+  pub table : (g : ℕ) (p q : Packets) → open_group a g ≡ Some p → open_group b g ≡ Some q
+      → p.header.table ≡ q.header.table
+  pub payload : (g : ℕ) (p q : Packets) → open_group a g ≡ Some p → open_group b g ≡ Some q → (i : ℕ) (x y : List ℕ)
+      → slot_at p i ≡ Some x → slot_at q i ≡ Some y → x ≡ y
 
 pub agrees_back : (a b : KeptSet) → Agrees a b → Agrees b a
 agrees_back a b h = record {
@@ -137,36 +159,48 @@ agrees_back a b h = record {
 }
 
 module _ (a : KeptSet) (f : Fields) where
-  count_passes : tells_other_count a f ≡ false → (g : ℕ) (p : Packets) → open_group a g ≡ Some p → p.header.groups ≡ f.groups
+  count_passes : tells_other_count a f ≡ false → (g : ℕ) (p : Packets) → open_group a g ≡ Some p
+      → p.header.groups ≡ f.groups
   count_passes e g p opened =
       let each : All (λ (t : ℕ × Packets). t.1.header.groups ≡ f.groups) a.groups =
-      λ i d l. same_number (get_or a.groups i d).1.header.groups f.groups (none_told (λ (t : ℕ × Packets). not (t.1.header.groups == f.groups)) a.groups e i d l) in
-      subst (λ o. IfSome o (λ (q : Packets). q.header.groups ≡ f.groups)) opened (All-lookup (λ (q : Packets). q.header.groups ≡ f.groups) (is_at (nat_cmp g)) a.groups each)
+      λ i d l. same_number (get_or a.groups i d).1.header.groups f.groups
+      (none_told (λ (t : ℕ × Packets). not (t.1.header.groups == f.groups)) a.groups e i d l) in
+      subst (λ o. IfSome o (λ (q : Packets). q.header.groups ≡ f.groups)) opened
+      (All-lookup (λ (q : Packets). q.header.groups ≡ f.groups) (is_at (nat_cmp g)) a.groups each)
 
   same_is : (n m : ℕ) → n ≡ m → not (n == m) ≡ false
   same_is n m e = grind (arith, e)
 
-  passes_count : IsKeptSet a → ((g : ℕ) (p : Packets) → open_group a g ≡ Some p → p.header.groups ≡ f.groups) → tells_other_count a f ≡ false
+  passes_count : IsKeptSet a → ((g : ℕ) (p : Packets) → open_group a g ≡ Some p → p.header.groups ≡ f.groups)
+      → tells_other_count a f ≡ false
   passes_count sound each =
       list_any_none (λ (t : ℕ × Packets). not (t.1.header.groups == f.groups)) a.groups
-      (λ i d l. same_is (get_or a.groups i d).1.header.groups f.groups (each (get_or a.groups i d).0 (get_or a.groups i d).1 (all_found a.groups sound.rising i d l)))
+      (λ i d l. same_is (get_or a.groups i d).1.header.groups f.groups
+      (each (get_or a.groups i d).0 (get_or a.groups i d).1 (all_found a.groups sound.rising i d l)))
 
-  table_passes : tells_other_table a f ≡ false → (p : Packets) → open_group a f.group ≡ Some p → p.header.table ≡ (header_of f).table
+  table_passes : tells_other_table a f ≡ false → (p : Packets) → open_group a f.group ≡ Some p
+      → p.header.table ≡ (header_of f).table
   table_passes e p opened =
-      let other = subst (λ o. option_map_or (λ (q : Packets). not (same_table q.header.table (header_of f).table)) o false ≡ false) opened e in
-      (same_table-exact p.header.table (header_of f).table).0 (not_false (same_table p.header.table (header_of f).table) other)
+      let other = subst (λ o. option_map_or
+      (λ (q : Packets). not (same_table q.header.table (header_of f).table)) o false ≡ false) opened e in
+      (same_table-exact p.header.table (header_of f).table).0
+      (not_false (same_table p.header.table (header_of f).table) other)
 
-  passes_table : (o : Option Packets) → ((p : Packets) → o ≡ Some p → p.header.table ≡ (header_of f).table) → option_map_or (λ (q : Packets). not (same_table q.header.table (header_of f).table)) o false ≡ false
+  passes_table : (o : Option Packets) → ((p : Packets) → o ≡ Some p → p.header.table ≡ (header_of f).table)
+      → option_map_or (λ (q : Packets). not (same_table q.header.table (header_of f).table)) o false ≡ false
   passes_table None each = refl
   passes_table (Some p) each = ap not ((same_table-exact p.header.table (header_of f).table).1 (each p refl))
 
-  payload_passes : tells_other_payload a f ≡ false → (p : Packets) → open_group a f.group ≡ Some p → (x : List ℕ) → slot_at p f.number ≡ Some x → x ≡ f.payload
+  payload_passes : tells_other_payload a f ≡ false → (p : Packets) → open_group a f.group ≡ Some p → (x : List ℕ)
+      → slot_at p f.number ≡ Some x → x ≡ f.payload
   payload_passes e p opened x kept =
-      let here = subst (λ o. option_map_or (λ (t : List ℕ). not (bytes_eq t f.payload)) (option_and_then (λ (q : Packets). slot_at q f.number) o) false ≡ false) opened e in
+      let here = subst (λ o. option_map_or (λ (t : List ℕ). not (bytes_eq t f.payload))
+      (option_and_then (λ (q : Packets). slot_at q f.number) o) false ≡ false) opened e in
       let other = subst (λ o. option_map_or (λ (t : List ℕ). not (bytes_eq t f.payload)) o false ≡ false) kept here in
       (bytes_eq-Decides x f.payload).0 (not_false (bytes_eq x f.payload) other)
 
-  passes_payload : (o : Option (List ℕ)) → ((x : List ℕ) → o ≡ Some x → x ≡ f.payload) → option_map_or (λ (t : List ℕ). not (bytes_eq t f.payload)) o false ≡ false
+  passes_payload : (o : Option (List ℕ)) → ((x : List ℕ) → o ≡ Some x → x ≡ f.payload)
+      → option_map_or (λ (t : List ℕ). not (bytes_eq t f.payload)) o false ≡ false
   passes_payload None each = refl
   passes_payload (Some x) each = ap not ((bytes_eq-Decides x f.payload).1 (each x refl))
 
@@ -174,7 +208,8 @@ module _ (a : KeptSet) (f : Fields) where
   pub record Passes : Type 0 where
     pub count : (g : ℕ) (p : Packets) → open_group a g ≡ Some p → p.header.groups ≡ f.groups
     pub table : (p : Packets) → open_group a f.group ≡ Some p → p.header.table ≡ (header_of f).table
-    pub payload : (p : Packets) → open_group a f.group ≡ Some p → (x : List ℕ) → slot_at p f.number ≡ Some x → x ≡ f.payload
+    pub payload : (p : Packets) → open_group a f.group ≡ Some p → (x : List ℕ) → slot_at p f.number ≡ Some x
+        → x ≡ f.payload
 
   pub no_clash : clashes a f ≡ false → Passes
   no_clash e =
@@ -182,7 +217,8 @@ module _ (a : KeptSet) (f : Fields) where
       let both = neither (tells_other_count a f) (tells_other_table a f) last.0 in
       record { count = count_passes both.0; table = table_passes both.1; payload = payload_passes last.1 }
 
-  kept_by : (o : Option Packets) → ((p : Packets) → o ≡ Some p → (x : List ℕ) → slot_at p f.number ≡ Some x → x ≡ f.payload)
+  kept_by : (o : Option Packets)
+      → ((p : Packets) → o ≡ Some p → (x : List ℕ) → slot_at p f.number ≡ Some x → x ≡ f.payload)
       → (x : List ℕ) → option_and_then (λ (p : Packets). slot_at p f.number) o ≡ Some x → x ≡ f.payload
   kept_by None each x e = absurd (cc)
   kept_by (Some p) each x e = each p refl x e

@@ -1,6 +1,8 @@
 -- Laws of kept sets and verdicts, for callers: what a frame that is kept tells, and what the set is after it.
 use Rattle.std.specs.Prelude.{IfSome, is_some, is_none, not, if◌then◌else◌, nat_lt, option_map, option_and_then}
-use Rattle.std.proofs.Common.{◌≡◌, ◌≢◌, ℕ, ◌+◌, ◌<◌, ◌≤◌, ◌==◌, Bool, true, false, ◌&&◌, ◌||◌, List, [], ◌∷◌, ◌++◌, zero, suc, length, All, Option, None, Some, nat_cmp, get_or, set, unwrap_or, refl, sym, ap, ap₂, ◌∙◌, arith, subst, inl, inr}
+use Rattle.std.proofs.Common.{◌≡◌, ◌≢◌, ℕ, ◌+◌, ◌<◌, ◌≤◌, ◌==◌, Bool, true, false, ◌&&◌, ◌||◌, List, [], ◌∷◌, ◌++◌}
+use Rattle.std.proofs.Common.{zero, suc, length, All, Option, None, Some, nat_cmp, get_or, set, unwrap_or, refl, sym}
+use Rattle.std.proofs.Common.{ap, ap₂, ◌∙◌, arith, subst, inl, inr}
 use Rattle.std.specs.Str.{bytes_eq}
 use Rattle.std.specs.List.{list_any}
 use Rattle.std.specs.Option.{option_map_or}
@@ -28,8 +30,12 @@ use Rattle.stripe_plan.specs.Sizes.{cost_by}
 use Rattle.packet_verdicts.specs.declared.verdict.Verdict.{Verdict}
 use Rattle.packet_verdicts.specs.declared.verdict.Verdict.TheVariants.{Damaged, Foreign, Clash, Repeated, Full, Kept}
 use Rattle.packet_verdicts.specs.declared.verdict.LayerSet.{LayerSet}
-use Rattle.packet_verdicts.specs.KeptSet.{KeptSet, IsKeptSetBy, empty_set, IsKeptGroupBy, open_group, payload_of, count_kept, kept_in_all, cost_in, cost_kept, header_of, group_with_by, keep_by}
-use Rattle.packet_verdicts.specs.Verdicts.{verdict_in, after_in, after_all_in, tells_other_count, tells_other_table, tells_other_payload, clashes, opens, is_too_much_by, newly_shown, layer_set, frame_verdict_by, is_kept}
+use Rattle.packet_verdicts.specs.KeptSet.{KeptSet, IsKeptSetBy, empty_set, IsKeptGroupBy, open_group, payload_of}
+use Rattle.packet_verdicts.specs.KeptSet.{count_kept, kept_in_all, cost_in, cost_kept, header_of, group_with_by}
+use Rattle.packet_verdicts.specs.KeptSet.{keep_by}
+use Rattle.packet_verdicts.specs.Verdicts.{verdict_in, after_in, after_all_in, tells_other_count, tells_other_table}
+use Rattle.packet_verdicts.specs.Verdicts.{tells_other_payload, clashes, opens, is_too_much_by, newly_shown, layer_set}
+use Rattle.packet_verdicts.specs.Verdicts.{frame_verdict_by, is_kept}
 pub use Rattle.packet_set.specs.laws.SlotCounts.{count_set, count_none, none_in}
 use Rattle.packet_verdicts.specs.laws.EntryLaws.{lookup_here, lookup_other, rises_insert, sum_insert}
 
@@ -53,7 +59,8 @@ record Chain (a b c d : Bool) (k : LayerSet) (v : Verdict) : Type 0 where
   fourth : d ≡ false
   is : v ≡ Kept k
 
-chain : (a b c d : Bool) (k : LayerSet) → is_kept (if not a then Foreign else if b then Clash else if c then Repeated else if d then Full else Kept k) ≡ true
+chain : (a b c d : Bool) (k : LayerSet)
+    → is_kept (if not a then Foreign else if b then Clash else if c then Repeated else if d then Full else Kept k) ≡ true
     → Chain a b c d k (if not a then Foreign else if b then Clash else if c then Repeated else if d then Full else Kept k)
 chain false b c d k e = absurd (cc)
 chain true true c d k e = absurd (cc)
@@ -85,12 +92,14 @@ record IsReady (word : ℕ) (f : Fields) (n : ℕ) (p : Packets) : Type 0 where
   frames : (number : ℕ) (payload : List ℕ) → slot_at p number ≡ Some payload → IsFrameBy word (fields_with p.header number payload)
   count : count_in p ≡ n
 
-pub none_told : {A : Type 0} (test : A → Bool) (xs : List A) → list_any test xs ≡ false → (i : ℕ) (d : A) → i < length xs → test (get_or xs i d) ≡ false
+pub none_told : {A : Type 0} (test : A → Bool) (xs : List A) → list_any test xs ≡ false → (i : ℕ) (d : A)
+    → i < length xs → test (get_or xs i d) ≡ false
 none_told test [] e i d l = absurd (omega arith)
 none_told test (x ∷ xs) e zero d l = (neither (test x) (list_any test xs) e).0
 none_told test (x ∷ xs) e (suc i) d l = none_told test xs (neither (test x) (list_any test xs) e).1 i d (omega arith)
 
-header_same : (h : Header) (f : Fields) → h.session ≡ f.session → h.groups ≡ f.groups → h.group ≡ f.group → h.table ≡ (header_of f).table → h ≡ header_of f
+header_same : (h : Header) (f : Fields) → h.session ≡ f.session → h.groups ≡ f.groups → h.group ≡ f.group
+    → h.table ≡ (header_of f).table → h ≡ header_of f
 header_same h f s n g t =
     ap (λ x. record { session = x; groups = h.groups; group = h.group; table = h.table }) s
     ∙ ap (λ x. record { session = f.session; groups = x; group = h.group; table = h.table }) n
@@ -100,18 +109,21 @@ header_same h f s n g t =
 pub same_number : (a b : ℕ) → not (a == b) ≡ false → a ≡ b
 same_number a b e = exact_unsigned_eq a b (not_false (a == b) e)
 
-pub open_here_by : (word : ℕ) (set : KeptSet) (f : Fields) → open_group (keep_by word set f) f.group ≡ Some (group_with_by word set f)
+pub open_here_by : (word : ℕ) (set : KeptSet) (f : Fields)
+    → open_group (keep_by word set f) f.group ≡ Some (group_with_by word set f)
 unfolding keep_by
 open_here_by word set f = lookup_here set.groups f.group (group_with_by word set f)
 
 pub open_here : (set : KeptSet) (f : Fields) → open_group (keep_by 2 set f) f.group ≡ Some (group_with_by 2 set f)
 open_here = open_here_by 2
 
-pub open_other_by : (word : ℕ) (set : KeptSet) (f : Fields) (group : ℕ) → group ≢ f.group → open_group (keep_by word set f) group ≡ open_group set group
+pub open_other_by : (word : ℕ) (set : KeptSet) (f : Fields) (group : ℕ) → group ≢ f.group
+    → open_group (keep_by word set f) group ≡ open_group set group
 unfolding keep_by
 open_other_by word set f group ne = lookup_other set.groups f.group (group_with_by word set f) group ne
 
-pub open_other : (set : KeptSet) (f : Fields) (group : ℕ) → group ≢ f.group → open_group (keep_by 2 set f) group ≡ open_group set group
+pub open_other : (set : KeptSet) (f : Fields) (group : ℕ) → group ≢ f.group
+    → open_group (keep_by 2 set f) group ≡ open_group set group
 open_other = open_other_by 2
 
 pub keep_session_by : (word : ℕ) (set : KeptSet) (f : Fields) → (keep_by word set f).session ≡ set.session
@@ -132,7 +144,8 @@ module _ {word : ℕ} where
   pub keepable : (set : KeptSet) (f : Fields) → is_kept (frame_verdict_by word set f) ≡ true → IsKeepableBy word set f
   unfolding frame_verdict_by
   keepable set f kept =
-      let k = chain (bytes_eq f.session set.session) (clashes set f) (is_some (payload_of set f.group f.number)) (is_too_much_by word set f) (layer_set (newly_shown set f)) kept in
+      let k = chain (bytes_eq f.session set.session) (clashes set f) (is_some (payload_of set f.group f.number))
+      (is_too_much_by word set f) (layer_set (newly_shown set f)) kept in
       let clash = neither (tells_other_count set f || tells_other_table set f) (tells_other_payload set f) k.second in
       let parts = neither (tells_other_count set f) (tells_other_table set f) clash.0 in
       record {
@@ -140,10 +153,13 @@ module _ {word : ℕ} where
         count = parts.0;
         table =
             λ p opened.
-            let other = subst (λ o. option_map_or (λ (q : Packets). not (same_table q.header.table (header_of f).table)) o false ≡ false) opened parts.1 in
-            (same_table-exact p.header.table (header_of f).table).0 (not_false (same_table p.header.table (header_of f).table) other);
+            let other = subst (λ o. option_map_or
+            (λ (q : Packets). not (same_table q.header.table (header_of f).table)) o false ≡ false) opened parts.1 in
+            (same_table-exact p.header.table (header_of f).table).0
+            (not_false (same_table p.header.table (header_of f).table) other);
         absent = none_from (payload_of set f.group f.number) k.third;
-        room = λ none. fits_from (opens set f) set.limit (cost_kept set + cost_by word f.packets f.layers) (ap is_none none) k.fourth;
+        room = λ none. fits_from (opens set f) set.limit (cost_kept set + cost_by word f.packets f.layers)
+            (ap is_none none) k.fourth;
         verdict = k.is;
       }
 
@@ -159,15 +175,18 @@ module _ {word : ℕ} where
     count = count_none (List ℕ) f.packets;
   }
 
-  frames_more : (f : Fields) (p : Packets) (n : ℕ) → IsReady word f n p → IsFrameBy word f → (number : ℕ) (payload : List ℕ) → slot_at (with_packet p f.number f.payload) number ≡ Some payload
+  frames_more : (f : Fields) (p : Packets) (n : ℕ) → IsReady word f n p → IsFrameBy word f
+      → (number : ℕ) (payload : List ℕ) → slot_at (with_packet p f.number f.payload) number ≡ Some payload
       → IsFrameBy word (fields_with p.header number payload)
   frames_more f p n r frame number payload e =
       elim (cases_eq number f.number) [
         | inl here ↦
             let inside : f.number < length p.slots = omega (arith, r.slots, frame.number) in
-            let same : Some f.payload ≡ Some payload = sym (get_or-set_same p.slots f.number (Some f.payload) None inside) ∙ ap (slot_at (with_packet p f.number f.payload)) (sym here) ∙ e in
+            let same : Some f.payload ≡ Some payload =
+            sym (get_or-set_same p.slots f.number (Some f.payload) None inside) ∙ ap (slot_at (with_packet p f.number f.payload)) (sym here) ∙ e in
             subst (λ h. IsFrameBy word (fields_with h number payload)) (sym r.header)
-            (subst (λ i. IsFrameBy word (fields_with (header_of f) i payload)) (sym here) (subst (λ x. IsFrameBy word (fields_with (header_of f) f.number x)) (same_Some f.payload payload same) frame))
+            (subst (λ i. IsFrameBy word (fields_with (header_of f) i payload)) (sym here)
+            (subst (λ x. IsFrameBy word (fields_with (header_of f) f.number x)) (same_Some f.payload payload same) frame))
         | inr other ↦ r.frames number payload (sym (get_or-set_other p.slots f.number number (Some f.payload) None other) ∙ e)
       ]
 
@@ -176,8 +195,10 @@ module _ {word : ℕ} where
     pub same_count : (group : ℕ) (p : Packets) → open_group set group ≡ Some p → p.header.groups ≡ f.groups
     same_count group p opened =
         let each : All (λ (e : ℕ × Packets). e.1.header.groups ≡ f.groups) set.groups =
-        λ i d l. same_number (get_or set.groups i d).1.header.groups f.groups (none_told (λ (e : ℕ × Packets). not (e.1.header.groups == f.groups)) set.groups k.count i d l) in
-        subst (λ o. IfSome o (λ (q : Packets). q.header.groups ≡ f.groups)) opened (All-lookup (λ (q : Packets). q.header.groups ≡ f.groups) (is_at (nat_cmp group)) set.groups each)
+        λ i d l. same_number (get_or set.groups i d).1.header.groups f.groups
+        (none_told (λ (e : ℕ × Packets). not (e.1.header.groups == f.groups)) set.groups k.count i d l) in
+        subst (λ o. IfSome o (λ (q : Packets). q.header.groups ≡ f.groups)) opened
+        (All-lookup (λ (q : Packets). q.header.groups ≡ f.groups) (is_at (nat_cmp group)) set.groups each)
 
     -- the header of the frame's group, where it is open, is the frame's
     pub same_header : (p : Packets) → open_group set f.group ≡ Some p → p.header ≡ header_of f
@@ -198,7 +219,8 @@ module _ {word : ℕ} where
           count = refl;
         }
 
-    ready_by : (o : Option Packets) → open_group set f.group ≡ o → IsReady word f (unwrap_or (option_map count_in o) 0) (unwrap_or o (no_packets_of word (header_of f)))
+    ready_by : (o : Option Packets) → open_group set f.group ≡ o
+        → IsReady word f (unwrap_or (option_map count_in o) 0) (unwrap_or o (no_packets_of word (header_of f)))
     ready_by None opened = ready_none f
     ready_by (Some p) opened = ready_some p opened
 
@@ -221,17 +243,21 @@ module _ {word : ℕ} where
       word_is = ready.word_is;
       same_session = ap (λ (h : Header). h.session) ready.header ∙ k.session;
       same_group = ap (λ (h : Header). h.group) ready.header;
-      slots = length-set (unwrap_or (open_group set f.group) (no_packets_of word (header_of f))).slots f.number (Some f.payload) ∙ ready.slots ∙ sym (ap (λ (h : Header). h.table.packets) ready.header);
+      slots =
+          length-set (unwrap_or (open_group set f.group) (no_packets_of word (header_of f))).slots f.number (Some f.payload) ∙ ready.slots ∙ sym (ap (λ (h : Header). h.table.packets) ready.header);
       some = omega (arith, count_with);
-      frames = frames_more f (unwrap_or (open_group set f.group) (no_packets_of word (header_of f))) (count_kept set f.group) ready frame;
+      frames =
+          frames_more f (unwrap_or (open_group set f.group) (no_packets_of word (header_of f))) (count_kept set f.group) ready frame;
     }
 
     count_by_case : (group : ℕ) (p : Packets) → open_group (keep_by word set f) group ≡ Some p → p.header.groups ≡ f.groups
     count_by_case group p opened =
         elim (cases_eq group f.group) [
           | inl here ↦
-              let found : Some (group_with_by word set f) ≡ Some p = sym (open_here_by word set f) ∙ ap (open_group (keep_by word set f)) (sym here) ∙ opened in
-              ap (λ (q : Packets). q.header.groups) (sym (same_Some (group_with_by word set f) p found)) ∙ ap (λ (h : Header). h.groups) header_with
+              let found : Some (group_with_by word set f) ≡ Some p =
+              sym (open_here_by word set f) ∙ ap (open_group (keep_by word set f)) (sym here) ∙ opened in
+              ap (λ (q : Packets). q.header.groups) (sym (same_Some (group_with_by word set f) p found))
+              ∙ ap (λ (h : Header). h.groups) header_with
           | inr other ↦ same_count group p (sym (open_other_by word set f group other) ∙ opened)
         ]
 
@@ -239,7 +265,8 @@ module _ {word : ℕ} where
     cost_case : (o : Option Packets) → open_group set f.group ≡ o
         → cost_kept (keep_by word set f) + unwrap_or (option_map cost_in o) 0 ≡ cost_kept set + cost_in (group_with_by word set f)
     unfolding keep_by
-    cost_case o opened = subst (λ t. cost_kept (keep_by word set f) + unwrap_or (option_map cost_in t) 0 ≡ cost_kept set + cost_in (group_with_by word set f)) opened (sum_insert cost_in set.groups f.group (group_with_by word set f) sound.rising)
+    cost_case o opened =
+        subst (λ t. cost_kept (keep_by word set f) + unwrap_or (option_map cost_in t) 0 ≡ cost_kept set + cost_in (group_with_by word set f)) opened (sum_insert cost_in set.groups f.group (group_with_by word set f) sound.rising)
 
     cost_with : cost_in (group_with_by word set f) ≡ cost_by word f.packets f.layers
     cost_with = ap₂ (λ (n : ℕ) (h : Header). cost_by n h.table.packets h.table.layers) ready.word_is header_with
@@ -248,7 +275,8 @@ module _ {word : ℕ} where
     cost_opened none = omega (arith, cost_case None none, cost_with)
 
     pub cost_same : (p : Packets) → open_group set f.group ≡ Some p → cost_kept (keep_by word set f) ≡ cost_kept set
-    cost_same p opened = omega (arith, cost_case (Some p) opened, cost_with, ap₂ (λ (n : ℕ) (h : Header). cost_by n h.table.packets h.table.layers) (sound.groups f.group p opened).word_is (same_header p opened))
+    cost_same p opened =
+        omega (arith, cost_case (Some p) opened, cost_with, ap₂ (λ (n : ℕ) (h : Header). cost_by n h.table.packets h.table.layers) (sound.groups f.group p opened).word_is (same_header p opened))
 
     within_by : (o : Option Packets) → open_group set f.group ≡ o → cost_kept (keep_by word set f) ≤ set.limit
     within_by None opened = omega (arith, cost_opened opened, k.room opened)
@@ -269,13 +297,16 @@ module _ {word : ℕ} where
     unfolding keep_by
     keep_rises = rises_insert set.groups f.group (group_with_by word set f) sound.rising
 
-    keep_groups : (group : ℕ) (p : Packets) → open_group (keep_by word set f) group ≡ Some p → IsKeptGroupBy word (keep_by word set f).session group p
+    keep_groups : (group : ℕ) (p : Packets) → open_group (keep_by word set f) group ≡ Some p
+        → IsKeptGroupBy word (keep_by word set f).session group p
     keep_groups group p opened =
         subst (λ s. IsKeptGroupBy word s group p) (sym (keep_session_by word set f))
         (elim (cases_eq group f.group) [
           | inl here ↦
-              let found : Some (group_with_by word set f) ≡ Some p = sym (open_here_by word set f) ∙ ap (open_group (keep_by word set f)) (sym here) ∙ opened in
-              subst (λ g. IsKeptGroupBy word set.session g p) (sym here) (subst (λ q. IsKeptGroupBy word set.session f.group q) (same_Some (group_with_by word set f) p found) group_sound)
+              let found : Some (group_with_by word set f) ≡ Some p =
+              sym (open_here_by word set f) ∙ ap (open_group (keep_by word set f)) (sym here) ∙ opened in
+              subst (λ g. IsKeptGroupBy word set.session g p) (sym here)
+              (subst (λ q. IsKeptGroupBy word set.session f.group q) (same_Some (group_with_by word set f) p found) group_sound)
           | inr other ↦ sound.groups group p (sym (open_other_by word set f group other) ∙ opened)
         ])
 
@@ -285,7 +316,8 @@ module _ {word : ℕ} where
       rising = keep_rises;
       groups = keep_groups;
       one_count = λ a b p q opened other. count_by_case a p opened ∙ sym (count_by_case b q other);
-      within = subst (λ l. cost_kept (keep_by word set f) ≤ l) (sym (keep_limit_by word set f)) (within_by (open_group set f.group) refl);
+      within =
+          subst (λ l. cost_kept (keep_by word set f) ≤ l) (sym (keep_limit_by word set f)) (within_by (open_group set f.group) refl);
     }
 
   -- ---- what is kept after a datagram, and after some
@@ -299,54 +331,69 @@ module _ {word : ℕ} where
     within = omega arith;
   }
 
-pub after_more_in : (t : Format) → (set : KeptSet) (datagrams : List (List ℕ)) (bytes : List ℕ) → after_all_in t set (datagrams ++ (bytes ∷ [])) ≡ after_in t (after_all_in t set datagrams) bytes
+pub after_more_in : (t : Format) → (set : KeptSet) (datagrams : List (List ℕ)) (bytes : List ℕ)
+    → after_all_in t set (datagrams ++ (bytes ∷ [])) ≡ after_in t (after_all_in t set datagrams) bytes
 unfolding after_all_in
 after_more_in t set [] bytes = refl
 after_more_in t set (first ∷ rest) bytes = after_more_in t (after_in t set first) rest bytes
 
-pub after_more : (set : KeptSet) (datagrams : List (List ℕ)) (bytes : List ℕ) → after_all_in FORMAT set (datagrams ++ (bytes ∷ [])) ≡ after_in FORMAT (after_all_in FORMAT set datagrams) bytes
+pub after_more : (set : KeptSet) (datagrams : List (List ℕ)) (bytes : List ℕ)
+    → after_all_in FORMAT set (datagrams ++ (bytes ∷ [])) ≡ after_in FORMAT (after_all_in FORMAT set datagrams) bytes
 after_more = after_more_in FORMAT
 
 -- the verdict of a datagram that is read is that of its frame
-pub verdict_read_in : (t : Format) → (set : KeptSet) (bytes : List ℕ) → first_fault_in t bytes ≡ None → verdict_in t set bytes ≡ frame_verdict_by t.word set (planned_fields t bytes)
+pub verdict_read_in : (t : Format) → (set : KeptSet) (bytes : List ℕ) → first_fault_in t bytes ≡ None
+    → verdict_in t set bytes ≡ frame_verdict_by t.word set (planned_fields t bytes)
 unfolding verdict_in
 verdict_read_in t set bytes e = ap (λ o. if is_some o then Damaged else frame_verdict_by t.word set (planned_fields t bytes)) e
 
-pub verdict_read : (set : KeptSet) (bytes : List ℕ) → first_fault_in FORMAT bytes ≡ None → verdict_in FORMAT set bytes ≡ frame_verdict_by 2 set (planned_fields FORMAT bytes)
+pub verdict_read : (set : KeptSet) (bytes : List ℕ) → first_fault_in FORMAT bytes ≡ None
+    → verdict_in FORMAT set bytes ≡ frame_verdict_by 2 set (planned_fields FORMAT bytes)
 verdict_read = verdict_read_in FORMAT
 
-pub verdict_damaged_in : (t : Format) → (set : KeptSet) (bytes : List ℕ) (fault : FrameFault) → first_fault_in t bytes ≡ Some fault → verdict_in t set bytes ≡ Damaged
+pub verdict_damaged_in : (t : Format) → (set : KeptSet) (bytes : List ℕ) (fault : FrameFault)
+    → first_fault_in t bytes ≡ Some fault → verdict_in t set bytes ≡ Damaged
 unfolding verdict_in
-verdict_damaged_in t set bytes fault e = ap (λ o. if is_some o then Damaged else frame_verdict_by t.word set (planned_fields t bytes)) e
+verdict_damaged_in t set bytes fault e =
+    ap (λ o. if is_some o then Damaged else frame_verdict_by t.word set (planned_fields t bytes)) e
 
-pub verdict_damaged : (set : KeptSet) (bytes : List ℕ) (fault : FrameFault) → first_fault_in FORMAT bytes ≡ Some fault → verdict_in FORMAT set bytes ≡ Damaged
+pub verdict_damaged : (set : KeptSet) (bytes : List ℕ) (fault : FrameFault) → first_fault_in FORMAT bytes ≡ Some fault
+    → verdict_in FORMAT set bytes ≡ Damaged
 verdict_damaged = verdict_damaged_in FORMAT
 
-pub after_kept_in : (t : Format) → (set : KeptSet) (bytes : List ℕ) → is_kept (verdict_in t set bytes) ≡ true → after_in t set bytes ≡ keep_by t.word set (planned_fields t bytes)
+pub after_kept_in : (t : Format) → (set : KeptSet) (bytes : List ℕ) → is_kept (verdict_in t set bytes) ≡ true
+    → after_in t set bytes ≡ keep_by t.word set (planned_fields t bytes)
 unfolding after_in
 after_kept_in t set bytes e = ap (λ b. if b then keep_by t.word set (planned_fields t bytes) else set) e
 
-pub after_kept : (set : KeptSet) (bytes : List ℕ) → is_kept (verdict_in FORMAT set bytes) ≡ true → after_in FORMAT set bytes ≡ keep_by 2 set (planned_fields FORMAT bytes)
+pub after_kept : (set : KeptSet) (bytes : List ℕ) → is_kept (verdict_in FORMAT set bytes) ≡ true
+    → after_in FORMAT set bytes ≡ keep_by 2 set (planned_fields FORMAT bytes)
 after_kept = after_kept_in FORMAT
 
-pub after_other_in : (t : Format) → (set : KeptSet) (bytes : List ℕ) → is_kept (verdict_in t set bytes) ≡ false → after_in t set bytes ≡ set
+pub after_other_in : (t : Format) → (set : KeptSet) (bytes : List ℕ) → is_kept (verdict_in t set bytes) ≡ false
+    → after_in t set bytes ≡ set
 unfolding after_in
 after_other_in t set bytes e = ap (λ b. if b then keep_by t.word set (planned_fields t bytes) else set) e
 
 pub after_other : (set : KeptSet) (bytes : List ℕ) → is_kept (verdict_in FORMAT set bytes) ≡ false → after_in FORMAT set bytes ≡ set
 after_other = after_other_in FORMAT
 
-after_by_in : (t : Format) → (set : KeptSet) (bytes : List ℕ) → IsKeptSetBy t.word set → (first_fault_in t bytes ≡ None → IsFrameBy t.word (planned_fields t bytes)) → (o : Option FrameFault) → first_fault_in t bytes ≡ o → (b : Bool) → is_kept (verdict_in t set bytes) ≡ b
+after_by_in : (t : Format) → (set : KeptSet) (bytes : List ℕ) → IsKeptSetBy t.word set
+    → (first_fault_in t bytes ≡ None → IsFrameBy t.word (planned_fields t bytes)) → (o : Option FrameFault) → first_fault_in t bytes ≡ o → (b : Bool) → is_kept (verdict_in t set bytes) ≡ b
     → IsKeptSetBy t.word (after_in t set bytes)
 after_by_in t set bytes sound reads o fault false e = subst (IsKeptSetBy t.word) (sym (after_other_in t set bytes e)) sound
 after_by_in t set bytes sound reads None fault true e =
     let k = keepable set (planned_fields t bytes) (ap is_kept (sym (verdict_read_in t set bytes fault)) ∙ e) in
     subst (IsKeptSetBy t.word) (sym (after_kept_in t set bytes e)) (keep_sound set sound (planned_fields t bytes) (reads fault) k)
-after_by_in t set bytes sound reads (Some x) fault true e = let no : false ≡ true = ap is_kept (sym (verdict_damaged_in t set bytes x fault)) ∙ e in absurd (cc)
+after_by_in t set bytes sound reads (Some x) fault true e =
+    let no : false ≡ true = ap is_kept (sym (verdict_damaged_in t set bytes x fault)) ∙ e in absurd (cc)
 
 -- a kept set stays one, where what is read is a frame
-pub after_sound_in : (t : Format) → (set : KeptSet) (bytes : List ℕ) → IsKeptSetBy t.word set → (first_fault_in t bytes ≡ None → IsFrameBy t.word (planned_fields t bytes)) → IsKeptSetBy t.word (after_in t set bytes)
-after_sound_in t set bytes sound reads = after_by_in t set bytes sound reads (first_fault_in t bytes) refl (is_kept (verdict_in t set bytes)) refl
+pub after_sound_in : (t : Format) → (set : KeptSet) (bytes : List ℕ) → IsKeptSetBy t.word set
+    → (first_fault_in t bytes ≡ None → IsFrameBy t.word (planned_fields t bytes)) → IsKeptSetBy t.word (after_in t set bytes)
+after_sound_in t set bytes sound reads =
+    after_by_in t set bytes sound reads (first_fault_in t bytes) refl (is_kept (verdict_in t set bytes)) refl
 
-pub after_sound : (set : KeptSet) (bytes : List ℕ) → IsKeptSetBy 2 set → (first_fault_in FORMAT bytes ≡ None → IsFrameBy 2 (planned_fields FORMAT bytes)) → IsKeptSetBy 2 (after_in FORMAT set bytes)
+pub after_sound : (set : KeptSet) (bytes : List ℕ) → IsKeptSetBy 2 set
+    → (first_fault_in FORMAT bytes ≡ None → IsFrameBy 2 (planned_fields FORMAT bytes)) → IsKeptSetBy 2 (after_in FORMAT set bytes)
 after_sound = after_sound_in FORMAT

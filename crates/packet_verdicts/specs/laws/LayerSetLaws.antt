@@ -1,6 +1,7 @@
 -- Laws of the layers that are newly shown, and of the set that has them as bits.
 use Rattle.std.specs.Prelude.{filter, sum_by, count_by, nat_lt, nat_le}
-use Rattle.std.proofs.Common.{◌≡◌, ◌↔◌, ℕ, zero, suc, ◌+◌, ◌-◌, ◌*◌, ◌^◌, ◌<◌, ◌≤◌, ◌&&◌, cond, Bool, true, false, List, [], ◌∷◌, ◌++◌, length, Contains, refl, sym, ap, ◌∙◌, arith, subst, inl, inr}
+use Rattle.std.proofs.Common.{◌≡◌, ◌↔◌, ℕ, zero, suc, ◌+◌, ◌-◌, ◌*◌, ◌^◌, ◌<◌, ◌≤◌, ◌&&◌, cond, Bool, true, false, List}
+use Rattle.std.proofs.Common.{[], ◌∷◌, ◌++◌, length, Contains, refl, sym, ap, ◌∙◌, arith, subst, inl, inr}
 use Rattle.std.specs.Int.{bit_at}
 use Rattle.std.specs.List.{range_with_len}
 use Rattle.std.proofs.Common.{map-id}
@@ -8,7 +9,8 @@ use Rattle.std.proofs.lemmas.Bool.{cases_eq, cases_lt}
 use Rattle.std.proofs.lemmas.Nat.Bits.{bit_at_cat_low, bit_at_cat_high, bit_at_above}
 use Rattle.std.proofs.Math.Nat.{two-pow-succ}
 use Rattle.std.proofs.lemmas.List.FromFn.{map-range_with_len_more, get_or-range_with_len, length-range_with_len}
-use Rattle.std.proofs.lemmas.List.Elements.{filter-append, filter_passes, All-filter, All-contains, Contains-append_left, Contains-append_right, Contains-push}
+use Rattle.std.proofs.lemmas.List.Elements.{filter-append, filter_passes, All-filter, All-contains}
+use Rattle.std.proofs.lemmas.List.Elements.{Contains-append_left, Contains-append_right, Contains-push}
 use Rattle.std.proofs.lemmas.List.Sums.{sum_by-append, sum_by-cons}
 use Rattle.stripe_plan.specs.declared.layer.LayerSize.{LayerSize}
 use Rattle.stripe_plan.specs.Layers.{count_of}
@@ -17,16 +19,20 @@ use Rattle.packet_verdicts.specs.Verdicts.{layer_set, shown_between}
 -- one number more
 pub range_more : (n : ℕ) → range_with_len 0 (n + 1) ≡ range_with_len 0 n ++ (n ∷ [])
 range_more n =
-    sym (map-id (range_with_len 0 (n + 1))) ∙ map-range_with_len_more (λ (x : ℕ). x) 0 n n (omega arith) ∙ ap (λ t. t ++ (n ∷ [])) (map-id (range_with_len 0 n))
+    sym (map-id (range_with_len 0 (n + 1))) ∙ map-range_with_len_more (λ (x : ℕ). x) 0 n n (omega arith)
+    ∙ ap (λ t. t ++ (n ∷ [])) (map-id (range_with_len 0 n))
 
 -- and the numbers that pass, up to one more
-pub filter_more : (p : ℕ → Bool) (n : ℕ) → filter p (range_with_len 0 (n + 1)) ≡ filter p (range_with_len 0 n) ++ cond (p n) (n ∷ []) []
+pub filter_more : (p : ℕ → Bool) (n : ℕ)
+    → filter p (range_with_len 0 (n + 1)) ≡ filter p (range_with_len 0 n) ++ cond (p n) (n ∷ []) []
 filter_more p n = ap (filter p) (range_more n) ∙ filter-append p (range_with_len 0 n) (n ∷ [])
 
 -- how many these are
-pub count_more : (p : ℕ → Bool) (n : ℕ) → count_by p (range_with_len 0 (n + 1)) ≡ count_by p (range_with_len 0 n) + cond (p n) 1 0
+pub count_more : (p : ℕ → Bool) (n : ℕ)
+    → count_by p (range_with_len 0 (n + 1)) ≡ count_by p (range_with_len 0 n) + cond (p n) 1 0
 count_more p n =
-    ap (count_by p) (range_more n) ∙ sum_by-append (λ j. cond (p j) 1 0) (range_with_len 0 n) (n ∷ []) ∙ omega (arith, sum_by-cons (λ j. cond (p j) 1 0) n [])
+    ap (count_by p) (range_more n) ∙ sum_by-append (λ j. cond (p j) 1 0) (range_with_len 0 n) (n ∷ [])
+    ∙ omega (arith, sum_by-cons (λ j. cond (p j) 1 0) n [])
 
 pub one-le : (b : Bool) → cond b 1 0 ≤ 1
 one-le true = omega arith
@@ -43,9 +49,11 @@ one_bit n false = refl
 pub bits_more : (p : ℕ → Bool) (n : ℕ) → bits_below p (n + 1) ≡ bits_below p n + cond (p n) (2 ^ n) 0
 bits_more p n =
     ap (sum_by (λ j. 2 ^ j)) (filter_more p n)
-    ∙ sum_by-append (λ j. 2 ^ j) (filter p (range_with_len 0 n)) (cond (p n) (n ∷ []) []) ∙ ap (λ t. bits_below p n + t) (one_bit n (p n))
+    ∙ sum_by-append (λ j. 2 ^ j) (filter p (range_with_len 0 n)) (cond (p n) (n ∷ []) [])
+    ∙ ap (λ t. bits_below p n + t) (one_bit n (p n))
 
-bits_by : (p : ℕ → Bool) (n : ℕ) (b : Bool) → bits_below p (n + 1) ≡ bits_below p n + cond b (2 ^ n) 0 → bits_below p n < 2 ^ n → bits_below p (suc n) < 2 ^ suc n
+bits_by : (p : ℕ → Bool) (n : ℕ) (b : Bool) → bits_below p (n + 1) ≡ bits_below p n + cond b (2 ^ n) 0
+    → bits_below p n < 2 ^ n → bits_below p (suc n) < 2 ^ suc n
 bits_by p n true e l = let s : n + 1 ≡ suc n = omega arith in omega (arith, ap (bits_below p) s, e, l, two-pow-succ n)
 bits_by p n false e l = let s : n + 1 ≡ suc n = omega arith in omega (arith, ap (bits_below p) s, e, l, two-pow-succ n)
 
@@ -61,7 +69,8 @@ bit_is n b true l =
 bit_is n b false l = let e : b + 0 ≡ b = omega arith in ap (λ x. bit_at x n) e ∙ bit_at_above b n n l (omega arith)
 
 bit_low : (n b j : ℕ) (t : Bool) → j < n → bit_at (b + cond t (2 ^ n) 0) j ≡ bit_at b j
-bit_low n b j true l = let e : b + 2 ^ n ≡ 1 * 2 ^ n + b = omega arith in ap (λ x. bit_at x j) e ∙ bit_at_cat_low 1 n b j l
+bit_low n b j true l =
+    let e : b + 2 ^ n ≡ 1 * 2 ^ n + b = omega arith in ap (λ x. bit_at x j) e ∙ bit_at_cat_low 1 n b j l
 bit_low n b j false l = let e : b + 0 ≡ b = omega arith in ap (λ x. bit_at x j) e
 
 pub bit_inside : (p : ℕ → Bool) (n j : ℕ) → j < n → bit_at (bits_below p n) j ≡ cond (p j) 1 0
@@ -70,7 +79,8 @@ bit_inside p (suc n) j l =
     let s : suc n ≡ n + 1 = omega arith in
     ap (λ x. bit_at x j) (ap (bits_below p) s ∙ bits_more p n)
     ∙ elim (cases_eq j n) [
-      | inl here ↦ ap (bit_at (bits_below p n + cond (p n) (2 ^ n) 0)) here ∙ bit_is n (bits_below p n) (p n) (bits-lt p n) ∙ ap (λ i. cond (p i) 1 0) (sym here)
+      | inl here ↦ ap (bit_at (bits_below p n + cond (p n) (2 ^ n) 0)) here
+          ∙ bit_is n (bits_below p n) (p n) (bits-lt p n) ∙ ap (λ i. cond (p i) 1 0) (sym here)
       | inr other ↦ let low : j < n = omega arith in bit_low n (bits_below p n) j (p n) low ∙ bit_inside p n j low
     ]
 
@@ -85,7 +95,9 @@ pub record PassesBelow (p : ℕ → Bool) (n j : ℕ) : Type 0 where
 passing : (p : ℕ → Bool) (n j : ℕ) → Contains (filter p (range_with_len 0 n)) j → PassesBelow p n j
 passing p n j in' = record {
   below = All-contains (λ x. x < n) (filter p (range_with_len 0 n)) j
-      (All-filter p (λ x. x < n) (range_with_len 0 n) (λ k d l. let i : k < n = omega (arith, l, length-range_with_len 0 n) in omega (arith, get_or-range_with_len 0 n k d i))) in';
+      (All-filter p (λ x. x < n) (range_with_len 0 n)
+      (λ k d l. let i : k < n = omega (arith, l, length-range_with_len 0 n) in
+      omega (arith, get_or-range_with_len 0 n k d i))) in';
   passes = All-contains (λ x. p x ≡ true) (filter p (range_with_len 0 n)) j (filter_passes p (range_with_len 0 n)) in';
 }
 
@@ -98,9 +110,12 @@ passed p (suc n) j l h =
     subst (λ t. Contains t j) (sym is)
     (elim (cases_eq j n) [
       | inl here ↦
-          let yes : cond (p n) (n ∷ []) [] ≡ j ∷ [] = ap (λ i. cond (p i) (i ∷ []) []) (sym here) ∙ ap (λ b. cond b (j ∷ []) []) h in
-          Contains-append_right (filter p (range_with_len 0 n)) (cond (p n) (n ∷ []) []) j (subst (λ t. Contains t j) (sym yes) (Contains-push [] j))
-      | inr other ↦ Contains-append_left (filter p (range_with_len 0 n)) (cond (p n) (n ∷ []) []) j (passed p n j (omega arith) h)
+          let yes : cond (p n) (n ∷ []) [] ≡ j ∷ [] =
+          ap (λ i. cond (p i) (i ∷ []) []) (sym here) ∙ ap (λ b. cond b (j ∷ []) []) h in
+          Contains-append_right (filter p (range_with_len 0 n)) (cond (p n) (n ∷ []) []) j
+          (subst (λ t. Contains t j) (sym yes) (Contains-push [] j))
+      | inr other ↦ Contains-append_left (filter p (range_with_len 0 n)) (cond (p n) (n ∷ []) []) j
+          (passed p n j (omega arith) h)
     ])
 
 -- a layer is newly shown where its count is above the packets before, and at most those after
@@ -109,13 +124,18 @@ pub record IsNewlyShown (layers : List LayerSize) (before after j : ℕ) : Type 
   pub above : before < count_of layers j
   pub reached : count_of layers j ≤ after
 
-pub newly_shown-is : (layers : List LayerSize) (before after j : ℕ) → Contains (shown_between layers before after) j ↔ IsNewlyShown layers before after j
+pub newly_shown-is : (layers : List LayerSize) (before after j : ℕ)
+    → Contains (shown_between layers before after) j ↔ IsNewlyShown layers before after j
 newly_shown-is layers before after j =
     let p : ℕ → Bool = λ i. nat_lt before (count_of layers i) && nat_le (count_of layers i) after in (
       λ in'.
           let h = passing p (length layers) j in' in
           let t : (nat_lt before (count_of layers j) && nat_le (count_of layers j) after) ≡ true = h.passes in
-          record { layer = h.below; above = above before (count_of layers j) after t; reached = reached before (count_of layers j) after t },
+          record {
+            layer = h.below;
+            above = above before (count_of layers j) after t;
+            reached = reached before (count_of layers j) after t;
+          },
       λ s. passed p (length layers) j s.layer (both before (count_of layers j) after s.above s.reached),
     )
   where
@@ -129,11 +149,15 @@ newly_shown-is layers before after j =
     both a b c l m = grind (arith, l, m)
 
 -- so by one packet more exactly the layers of that count are shown: each once, where the packets come one by one
-pub shown_once : (layers : List LayerSize) (before j : ℕ) → Contains (shown_between layers before (before + 1)) j → count_of layers j ≡ before + 1
-shown_once layers before j in' = let s = (newly_shown-is layers before (before + 1) j).0 in' in omega (arith, s.above, s.reached)
+pub shown_once : (layers : List LayerSize) (before j : ℕ) → Contains (shown_between layers before (before + 1)) j
+    → count_of layers j ≡ before + 1
+shown_once layers before j in' =
+    let s = (newly_shown-is layers before (before + 1) j).0 in' in omega (arith, s.above, s.reached)
 
 -- the set has exactly these layers as bits
-pub layer_set-has : (layers : List LayerSize) (before after j : ℕ) → (bit_at (layer_set (shown_between layers before after)).bits j ≡ 1) ↔ Contains (shown_between layers before after) j
+pub layer_set-has : (layers : List LayerSize) (before after j : ℕ)
+    → (bit_at (layer_set (shown_between layers before after)).bits j ≡ 1)
+    ↔ Contains (shown_between layers before after) j
 layer_set-has layers before after j =
     let p : ℕ → Bool = λ i. nat_lt before (count_of layers i) && nat_le (count_of layers i) after in
     let n = length layers in (

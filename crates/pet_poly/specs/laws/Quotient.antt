@@ -2,7 +2,7 @@
 use Rattle.std.proofs.Common.{◌≡◌, suc, List, [], ◌∷◌, length, refl, sym, ap, ap₂, ◌∙◌}
 use Rattle.std.specs.List.{AllByRecursion as Each}
 use Rattle.field_elements.specs.Field.{Operations, IsField}
-use Rattle.pet_poly.specs.Horner.{horner_from}
+use Rattle.pet_poly.specs.inside.Horner.{horner_from}
 use Rattle.pet_poly.specs.laws.HornerLaws as H
 use Rattle.field_elements.specs.laws.FieldLaws as A
 
@@ -24,7 +24,8 @@ module _ {E : Type 0} (P : E → Type 0) (o : Operations E) (f : IsField P o) wh
   quotient_is (c ∷ cs) r h hr = (horner_is (c ∷ cs) r h hr, quotient_is cs r h.1 hr)
 
   shift : (x r v w : E) → P x → P r → P v → P w
-      → o.times x (o.plus v (o.times (o.minus x r) w)) ≡ o.plus (o.times r v) (o.times (o.minus x r) (o.plus v (o.times x w)))
+      → o.times x (o.plus v (o.times (o.minus x r) w))
+      ≡ o.plus (o.times r v) (o.times (o.minus x r) (o.plus v (o.times x w)))
   shift x r v w hx hr hv hw =
       let d = o.minus x r in
       let hd : P d = f.minus_is x r hx hr in
@@ -33,7 +34,8 @@ module _ {E : Type 0} (P : E → Type 0) (o : Operations E) (f : IsField P o) wh
       let xw : P (o.times x w) = f.times_is x w hx hw in
       let dxw : P (o.times d (o.times x w)) = f.times_is d (o.times x w) hd xw in
       let xv : o.times x v ≡ o.plus (o.times r v) (o.times d v) =
-      ap (λ y. o.times y v) (sym (f.minus-plus x r hx hr)) ∙ A.plus-times P o f d r v hd hr hv ∙ f.plus_comm (o.times d v) (o.times r v) dv rv in
+      ap (λ y. o.times y v) (sym (f.minus-plus x r hx hr)) ∙ A.plus-times P o f d r v hd hr hv
+      ∙ f.plus_comm (o.times d v) (o.times r v) dv rv in
       f.times-plus x v (o.times d w) hx hv (f.times_is d w hd hw)
       ∙ ap₂ o.plus xv (A.times_left_comm P o f x d w hx hd hw)
       ∙ f.plus_assoc (o.times r v) (o.times d v) (o.times d (o.times x w)) rv dv dxw
@@ -41,9 +43,11 @@ module _ {E : Type 0} (P : E → Type 0) (o : Operations E) (f : IsField P o) wh
 
   -- dividing by X - r leaves the value at r
   pub divided : (c : E) (cs : List E) (x r : E) → Each P (c ∷ cs) → P x → P r
-      → horner_from o o.nought (c ∷ cs) x ≡ o.plus (horner_from o o.nought (c ∷ cs) r) (o.times (o.minus x r) (horner_from o o.nought (quotient o cs r) x))
+      → horner_from o o.nought (c ∷ cs) x
+      ≡ o.plus (horner_from o o.nought (c ∷ cs) r) (o.times (o.minus x r) (horner_from o o.nought (quotient o cs r) x))
   divided c [] x r h hx hr =
-      let e : (y : E) → P y → horner_from o o.nought (c ∷ []) y ≡ c = λ y hy. ap (o.plus c) (A.times-zero P o f y hy) ∙ f.plus-zero c h.0 in
+      let e : (y : E) → P y
+      → horner_from o o.nought (c ∷ []) y ≡ c = λ y hy. ap (o.plus c) (A.times-zero P o f y hy) ∙ f.plus-zero c h.0 in
       e x hx ∙ sym (ap₂ o.plus (e r hr) (A.times-zero P o f (o.minus x r) (f.minus_is x r hx hr)) ∙ f.plus-zero c h.0)
   divided c (b ∷ bs) x r h hx hr =
       let v = horner_from o o.nought (b ∷ bs) r in

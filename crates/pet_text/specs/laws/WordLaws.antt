@@ -6,7 +6,8 @@ use Rattle.std.proofs.lemmas.Bool.{and_parts}
 use Rattle.pet_text.specs.declared.end.End.{End}
 use Rattle.pet_text.specs.declared.end.End.TheVariants.{File, Udp}
 use Rattle.pet_text.specs.declared.words.Command.TheVariants.{Plan, Check, Send, Receive, Merge, Video}
-use Rattle.pet_text.specs.Words.{is_name, plan_of, check_of, send_of, send_files, receive_files, receive_of, merge_of, video_of, end_of, session_of, command_of}
+use Rattle.pet_text.specs.Words.{is_name, plan_of, check_of, send_of, send_files, receive_files, receive_of, merge_of}
+use Rattle.pet_text.specs.Words.{video_of, end_of, session_of, command_of}
 
 -- an answer that a test lets through
 pub if_some : {A : Type 0} (t : Bool) (x y : A) → cond t (Some x) None ≡ Some y → (t ≡ true) × (x ≡ y)
@@ -15,52 +16,67 @@ if_some false x y e = absurd (cc)
 
 module _ (stream priority to : List ℕ) where
   not_plan : (first second : List ℕ) → plan_of first second ≡ Some (Send stream priority (File to)) → ⊥
-  not_plan first second e = let both = if_some (is_name first && is_name second) (Plan first second) (Send stream priority (File to)) e in absurd (cc)
+  not_plan first second e =
+      let both = if_some (is_name first && is_name second) (Plan first second) (Send stream priority (File to)) e in
+      absurd (cc)
 
   not_check : (first second third : List ℕ) → check_of first second third ≡ Some (Send stream priority (File to)) → ⊥
   not_check first second third e =
-      let both = if_some (is_name first && (is_name second && is_name third)) (Check first second third) (Send stream priority (File to)) e in absurd (cc)
+      let both = if_some (is_name first && (is_name second && is_name third)) (Check first second third)
+      (Send stream priority (File to)) e in absurd (cc)
 
-  not_receive : (from : Option End) (session : Option (List ℕ)) (layers store : List ℕ) → receive_of from session layers store ≡ Some (Send stream priority (File to)) → ⊥
+  not_receive : (from : Option End) (session : Option (List ℕ)) (layers store : List ℕ)
+      → receive_of from session layers store ≡ Some (Send stream priority (File to)) → ⊥
   not_receive None session layers store e = absurd (cc)
   not_receive (Some from) None layers store e = absurd (cc)
   not_receive (Some from) (Some session) layers store e =
-      let both = if_some (receive_files from layers store) (Receive from session layers store) (Send stream priority (File to)) e in absurd (cc)
+      let both = if_some (receive_files from layers store) (Receive from session layers store)
+      (Send stream priority (File to)) e in absurd (cc)
 
   not_merge : (first second out : List ℕ) → merge_of first second out ≡ Some (Send stream priority (File to)) → ⊥
   not_merge first second out e =
-      let both = if_some (is_name first && (is_name second && (is_name out && (not (bytes_eq out first) && not (bytes_eq out second))))) (Merge first second out) (Send stream priority (File to)) e in absurd (cc)
+      let both = if_some (is_name first
+      && (is_name second && (is_name out && (not (bytes_eq out first) && not (bytes_eq out second)))))
+      (Merge first second out) (Send stream priority (File to)) e in absurd (cc)
 
   not_video : (store out : List ℕ) → video_of store out ≡ Some (Send stream priority (File to)) → ⊥
   not_video store out e =
-      let both = if_some (is_name store && (is_name out && not (bytes_eq out store))) (Video store out) (Send stream priority (File to)) e in absurd (cc)
+      let both = if_some (is_name store && (is_name out && not (bytes_eq out store))) (Video store out)
+      (Send stream priority (File to)) e in absurd (cc)
 
   not_true : (t : Bool) → not t ≡ true → t ≡ false
   not_true true e = absurd (cc)
   not_true false e = refl
 
-  by_test : (first second third : List ℕ) → not (bytes_eq third first) ≡ true → Send first second (File third) ≡ Send stream priority (File to) → bytes_eq to stream ≡ false
+  by_test : (first second third : List ℕ) → not (bytes_eq third first) ≡ true
+      → Send first second (File third) ≡ Send stream priority (File to) → bytes_eq to stream ≡ false
   by_test first second third other same =
       let stream_is : first ≡ stream = cc in
       let to_is : third ≡ to = cc in
-      subst (λ (s : List ℕ). bytes_eq to s ≡ false) stream_is (subst (λ (t : List ℕ). bytes_eq t first ≡ false) to_is (not_true (bytes_eq third first) other))
+      subst (λ (s : List ℕ). bytes_eq to s ≡ false) stream_is
+      (subst (λ (t : List ℕ). bytes_eq t first ≡ false) to_is (not_true (bytes_eq third first) other))
 
-  of_end : (first second : List ℕ) (end : Option End) → send_of first second end ≡ Some (Send stream priority (File to)) → bytes_eq to stream ≡ false
+  of_end : (first second : List ℕ) (end : Option End)
+      → send_of first second end ≡ Some (Send stream priority (File to)) → bytes_eq to stream ≡ false
   of_end first second None e = absurd (cc)
   of_end first second (Some (File third)) e =
-      let both = if_some (send_files first second (File third)) (Send first second (File third)) (Send stream priority (File to)) e in
-      let names = and_parts (is_name first) (is_name second && (not (bytes_eq third first) && not (bytes_eq third second))) both.0 in
+      let both = if_some (send_files first second (File third)) (Send first second (File third))
+      (Send stream priority (File to)) e in
+      let names = and_parts (is_name first)
+      (is_name second && (not (bytes_eq third first) && not (bytes_eq third second))) both.0 in
       let others = and_parts (is_name second) (not (bytes_eq third first) && not (bytes_eq third second)) names.1 in
       let tests = and_parts (not (bytes_eq third first)) (not (bytes_eq third second)) others.1 in
       by_test first second third tests.0 both.1
   of_end first second (Some (Udp address)) e =
-      let both = if_some (send_files first second (Udp address)) (Send first second (Udp address)) (Send stream priority (File to)) e in
+      let both = if_some (send_files first second (Udp address)) (Send first second (Udp address))
+      (Send stream priority (File to)) e in
       absurd (another both.1)
     where
       another : Send first second (Udp address) ≡ Send stream priority (File to) → ⊥
       another is = cc
 
-  pub send_differs : (words : List (List ℕ)) → command_of words ≡ Some (Send stream priority (File to)) → bytes_eq to stream ≡ false
+  pub send_differs : (words : List (List ℕ)) → command_of words ≡ Some (Send stream priority (File to))
+      → bytes_eq to stream ≡ false
   send_differs [] e = absurd (cc)
   send_differs (word ∷ []) e = absurd (cc)
   send_differs (word ∷ first ∷ []) e = absurd (cc)
@@ -69,11 +85,14 @@ module _ (stream priority to : List ℕ) where
       none_sent : None ≡ Some (Send stream priority (File to)) → ⊥
       none_sent e = cc
 
-      by_video : (t : Bool) → cond t (video_of first second) None ≡ Some (Send stream priority (File to)) → bytes_eq to stream ≡ false
+      by_video : (t : Bool) → cond t (video_of first second) None ≡ Some (Send stream priority (File to))
+          → bytes_eq to stream ≡ false
       by_video true e = absurd (not_video first second e)
       by_video false e = absurd (none_sent e)
 
-      by_plan : (t : Bool) → cond t (plan_of first second) (cond (bytes_eq word (codes "video")) (video_of first second) None) ≡ Some (Send stream priority (File to)) → bytes_eq to stream ≡ false
+      by_plan : (t : Bool)
+          → cond t (plan_of first second) (cond (bytes_eq word (codes "video")) (video_of first second) None)
+          ≡ Some (Send stream priority (File to)) → bytes_eq to stream ≡ false
       by_plan true e = absurd (not_plan first second e)
       by_plan false e = by_video (bytes_eq word (codes "video")) e
   send_differs (word ∷ first ∷ second ∷ third ∷ []) e = by_check (bytes_eq word (codes "check")) e
@@ -81,15 +100,23 @@ module _ (stream priority to : List ℕ) where
       none_sent : None ≡ Some (Send stream priority (File to)) → ⊥
       none_sent e = cc
 
-      by_merge : (t : Bool) → cond t (merge_of first second third) None ≡ Some (Send stream priority (File to)) → bytes_eq to stream ≡ false
+      by_merge : (t : Bool) → cond t (merge_of first second third) None ≡ Some (Send stream priority (File to))
+          → bytes_eq to stream ≡ false
       by_merge true e = absurd (not_merge first second third e)
       by_merge false e = absurd (none_sent e)
 
-      by_send : (t : Bool) → cond t (send_of first second (end_of 1 third)) (cond (bytes_eq word (codes "merge")) (merge_of first second third) None) ≡ Some (Send stream priority (File to)) → bytes_eq to stream ≡ false
+      by_send : (t : Bool)
+          → cond t (send_of first second (end_of 1 third))
+          (cond (bytes_eq word (codes "merge")) (merge_of first second third) None)
+          ≡ Some (Send stream priority (File to)) → bytes_eq to stream ≡ false
       by_send true e = of_end first second (end_of 1 third) e
       by_send false e = by_merge (bytes_eq word (codes "merge")) e
 
-      by_check : (t : Bool) → cond t (check_of first second third) (cond (bytes_eq word (codes "send")) (send_of first second (end_of 1 third)) (cond (bytes_eq word (codes "merge")) (merge_of first second third) None)) ≡ Some (Send stream priority (File to)) → bytes_eq to stream ≡ false
+      by_check : (t : Bool)
+          → cond t (check_of first second third) (cond (bytes_eq word (codes "send"))
+          (send_of first second (end_of 1 third))
+          (cond (bytes_eq word (codes "merge")) (merge_of first second third) None))
+          ≡ Some (Send stream priority (File to)) → bytes_eq to stream ≡ false
       by_check true e = absurd (not_check first second third e)
       by_check false e = by_send (bytes_eq word (codes "send")) e
   send_differs (word ∷ first ∷ second ∷ third ∷ fourth ∷ []) e = by_receive (bytes_eq word (codes "receive")) e
@@ -97,7 +124,9 @@ module _ (stream priority to : List ℕ) where
       none_sent : None ≡ Some (Send stream priority (File to)) → ⊥
       none_sent e = cc
 
-      by_receive : (t : Bool) → cond t (receive_of (end_of 0 first) (session_of second) third fourth) None ≡ Some (Send stream priority (File to)) → bytes_eq to stream ≡ false
+      by_receive : (t : Bool)
+          → cond t (receive_of (end_of 0 first) (session_of second) third fourth) None
+          ≡ Some (Send stream priority (File to)) → bytes_eq to stream ≡ false
       by_receive true e = absurd (not_receive (end_of 0 first) (session_of second) third fourth e)
       by_receive false e = absurd (none_sent e)
   send_differs (word ∷ first ∷ second ∷ third ∷ fourth ∷ fifth ∷ words) e = absurd (cc)

@@ -7,8 +7,9 @@ use Rattle.pet_text.specs.declared.end.End.{End}
 use Rattle.pet_text.specs.declared.end.End.TheVariants.{File, Udp}
 use Rattle.pet_text.specs.declared.words.Command.{Command}
 use Rattle.pet_text.specs.declared.words.Command.TheVariants.{Plan, Check, Send, Receive, Merge, Video}
-use Rattle.pet_text.specs.Words.{is_name, plan_of, check_of, send_of, send_files, receive_files, receive_of, merge_of, video_of, end_of, session_of, command_of}
-use Rattle.pet_text.specs.WrittenFiles.{writes_others}
+use Rattle.pet_text.specs.Words.{is_name, plan_of, check_of, send_of, send_files, receive_files, receive_of, merge_of}
+use Rattle.pet_text.specs.Words.{video_of, end_of, session_of, command_of}
+use Rattle.pet_text.specs.inside.WrittenFiles.{writes_others}
 use Rattle.pet_text.specs.laws.WordLaws.{if_some}
 
 module _ (c : Command) where
@@ -37,7 +38,8 @@ module _ (c : Command) where
       let tests = and_parts (is_name second) differ behind.1 in
       subst (λ (command : Command). writes_others command ≡ true) both.1 tests.1
 
-  by_receive : (from : Option End) (session : Option (List ℕ)) (layers store : List ℕ) → receive_of from session layers store ≡ Some c → writes_others c ≡ true
+  by_receive : (from : Option End) (session : Option (List ℕ)) (layers store : List ℕ)
+      → receive_of from session layers store ≡ Some c → writes_others c ≡ true
   by_receive None session layers store e = by_none e
   by_receive (Some from) None layers store e = by_none e
   by_receive (Some (Udp address)) (Some session) layers store e =
@@ -70,7 +72,8 @@ module _ (c : Command) where
       let tests = and_parts (is_name out) differ behind.1 in
       subst (λ (command : Command). writes_others command ≡ true) both.1 tests.1
 
-  one_of : (t : Bool) (answer others : Option Command) → (answer ≡ Some c → writes_others c ≡ true) → (others ≡ Some c → writes_others c ≡ true) → cond t answer others ≡ Some c → writes_others c ≡ true
+  one_of : (t : Bool) (answer others : Option Command) → (answer ≡ Some c → writes_others c ≡ true)
+      → (others ≡ Some c → writes_others c ≡ true) → cond t answer others ≡ Some c → writes_others c ≡ true
   one_of true answer others met unmet e = met e
   one_of false answer others met unmet e = unmet e
 
@@ -79,13 +82,17 @@ module _ (c : Command) where
   written_differ (word ∷ []) e = by_none e
   written_differ (word ∷ first ∷ []) e = by_none e
   written_differ (word ∷ first ∷ second ∷ []) e =
-      one_of (bytes_eq word (codes "plan")) (plan_of first second) (cond (bytes_eq word (codes "video")) (video_of first second) None) (by_plan first second)
+      one_of (bytes_eq word (codes "plan")) (plan_of first second)
+      (cond (bytes_eq word (codes "video")) (video_of first second) None) (by_plan first second)
       (one_of (bytes_eq word (codes "video")) (video_of first second) None (by_video first second) by_none)
       e
   written_differ (word ∷ first ∷ second ∷ third ∷ []) e =
-      one_of (bytes_eq word (codes "check")) (check_of first second third) (cond (bytes_eq word (codes "send")) (send_of first second (end_of 1 third)) (cond (bytes_eq word (codes "merge")) (merge_of first second third) None))
+      one_of (bytes_eq word (codes "check")) (check_of first second third)
+      (cond (bytes_eq word (codes "send")) (send_of first second (end_of 1 third))
+      (cond (bytes_eq word (codes "merge")) (merge_of first second third) None))
       (by_check first second third)
-      (one_of (bytes_eq word (codes "send")) (send_of first second (end_of 1 third)) (cond (bytes_eq word (codes "merge")) (merge_of first second third) None)
+      (one_of (bytes_eq word (codes "send")) (send_of first second (end_of 1 third))
+      (cond (bytes_eq word (codes "merge")) (merge_of first second third) None)
       (by_send first second (end_of 1 third))
       (one_of (bytes_eq word (codes "merge")) (merge_of first second third) None (by_merge first second third) by_none))
       e

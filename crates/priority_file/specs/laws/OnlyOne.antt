@@ -1,5 +1,6 @@
 -- The first element of a list that passes a test, and the only one where one is all that passes.
-use Rattle.std.proofs.Common.{◌≡◌, ◌+◌, ◌<◌, ℕ, Bool, true, false, ◌||◌, cond, List, [], ◌∷◌, length, Some, None, position, nat_lt, slice_get, arith, refl, sym, ap, ◌∙◌, inl, inr, count_by, zero, suc}
+use Rattle.std.proofs.Common.{◌≡◌, ◌+◌, ◌<◌, ℕ, Bool, true, false, ◌||◌, cond, List, [], ◌∷◌, length, Some, None}
+use Rattle.std.proofs.Common.{position, nat_lt, slice_get, arith, refl, sym, ap, ◌∙◌, inl, inr, count_by, zero, suc}
 use Rattle.std.specs.List.{list_any, position_or_len}
 use Rattle.std.proofs.lemmas.Bool.Decides.{nat_tests}
 use Rattle.std.proofs.lemmas.Bool.{cases_Bool}
@@ -7,7 +8,8 @@ use Rattle.std.proofs.lemmas.List.Sums.{sum_by-cons, passes_at_first}
 use Rattle.std.proofs.lemmas.Option.{same_Some, get_or_from_slice_get, slice_get_within}
 
 -- one more element
-count_by-passes : {A : Type 0} (p : A → Bool) (x : A) (xs : List A) → p x ≡ true → count_by p (x ∷ xs) ≡ 1 + count_by p xs
+count_by-passes : {A : Type 0} (p : A → Bool) (x : A) (xs : List A) → p x ≡ true
+    → count_by p (x ∷ xs) ≡ 1 + count_by p xs
 count_by-passes p x xs h = sum_by-cons (λ z. cond (p z) 1 0) x xs ∙ rw h
 
 count_by-fails : {A : Type 0} (p : A → Bool) (x : A) (xs : List A) → p x ≡ false → count_by p (x ∷ xs) ≡ count_by p xs
@@ -19,7 +21,8 @@ count_by-fails {A} p x xs h =
 pub position-passes : {A : Type 0} (p : A → Bool) (x : A) (xs : List A) → p x ≡ true → position_or_len p (x ∷ xs) ≡ 0
 position-passes p x xs h = rw h
 
-position-fails : {A : Type 0} (p : A → Bool) (x : A) (xs : List A) → p x ≡ false → position_or_len p (x ∷ xs) ≡ 1 + position_or_len p xs
+position-fails : {A : Type 0} (p : A → Bool) (x : A) (xs : List A) → p x ≡ false
+    → position_or_len p (x ∷ xs) ≡ 1 + position_or_len p xs
 position-fails p x xs h = rw h
 
 -- where one element passes or more, there is a first
@@ -34,7 +37,8 @@ position-within p (x ∷ xs) h =
     ]
 
 -- an element that passes counts
-some_count : {A : Type 0} (p : A → Bool) (xs : List A) (j : ℕ) (y : A) → slice_get xs j ≡ Some y → p y ≡ true → 0 < count_by p xs
+some_count : {A : Type 0} (p : A → Bool) (xs : List A) (j : ℕ) (y : A) → slice_get xs j ≡ Some y → p y ≡ true
+    → 0 < count_by p xs
 some_count p [] j y at passes = absurd (cc)
 some_count p (x ∷ xs) zero y at passes =
     let same : x ≡ y = same_Some x y at in
@@ -47,7 +51,8 @@ some_count p (x ∷ xs) (suc j) y at passes =
     ]
 
 -- where one element passes, it is the first
-pub only_position : {A : Type 0} (p : A → Bool) (xs : List A) → count_by p xs ≡ 1 → (j : ℕ) (y : A) → slice_get xs j ≡ Some y → p y ≡ true → j ≡ position_or_len p xs
+pub only_position : {A : Type 0} (p : A → Bool) (xs : List A) → count_by p xs ≡ 1 → (j : ℕ) (y : A)
+    → slice_get xs j ≡ Some y → p y ≡ true → j ≡ position_or_len p xs
 only_position p [] one j y at passes = absurd (cc)
 only_position p (x ∷ xs) one zero y at passes =
     let same : x ≡ y = same_Some x y at in
@@ -62,12 +67,14 @@ only_position p (x ∷ xs) one (suc j) y at passes =
     ]
 
 -- the first that passes, passes
-pub passes_at_position : {A : Type 0} (p : A → Bool) (xs : List A) (y : A) → slice_get xs (position_or_len p xs) ≡ Some y → p y ≡ true
+pub passes_at_position : {A : Type 0} (p : A → Bool) (xs : List A) (y : A)
+    → slice_get xs (position_or_len p xs) ≡ Some y → p y ≡ true
 passes_at_position p xs y at =
     let first = position_or_len p xs in
     rw (get_or_from_slice_get xs first y y at) at (passes_at_first p xs y (slice_get_within xs first y at))
 
-rest_passes : {A : Type 0} (p : A → Bool) (x : A) (xs : List A) (b : Bool) → p x ≡ false → list_any p (x ∷ xs) ≡ b → list_any p xs ≡ b
+rest_passes : {A : Type 0} (p : A → Bool) (x : A) (xs : List A) (b : Bool) → p x ≡ false → list_any p (x ∷ xs) ≡ b
+    → list_any p xs ≡ b
 rest_passes p x xs b fails h = sym (ap (λ c. c || list_any p xs) fails) ∙ h
 
 -- where an element passes, the search counts and finds one
@@ -79,7 +86,8 @@ some_passes p (x ∷ xs) h =
       | inr fails ↦ omega (arith, count_by-fails p x xs fails, some_passes p xs (rest_passes p x xs true fails h))
     ]
 
-pub position-found : {A : Type 0} (p : A → Bool) (xs : List A) → 0 < count_by p xs → position p xs ≡ Some (position_or_len p xs)
+pub position-found : {A : Type 0} (p : A → Bool) (xs : List A) → 0 < count_by p xs
+    → position p xs ≡ Some (position_or_len p xs)
 position-found p xs h =
     let within = position-within p xs h in
     let found : nat_lt (position_or_len p xs) (length xs) ≡ true = grind (arith, nat_tests) in
@@ -90,7 +98,8 @@ pub nothing_passes : {A : Type 0} (xs : List A) → list_any (λ _. false) xs �
 nothing_passes [] = refl
 nothing_passes (x ∷ xs) = nothing_passes xs
 
-none_passes : {A : Type 0} (p : A → Bool) (x : A) (xs : List A) → list_any p (x ∷ xs) ≡ false → (p x ≡ false) × (list_any p xs ≡ false)
+none_passes : {A : Type 0} (p : A → Bool) (x : A) (xs : List A) → list_any p (x ∷ xs) ≡ false
+    → (p x ≡ false) × (list_any p xs ≡ false)
 none_passes p x xs h =
     elim (cases_Bool (p x)) [
       | inl here ↦ absurd (cc (sym (ap (λ c. c || list_any p xs) here) ∙ h))

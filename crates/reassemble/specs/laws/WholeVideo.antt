@@ -1,6 +1,8 @@
--- What callers know of the video of a whole group: where its pieces stand on end in the stream, it is those bytes of the stream. This
+-- What callers know of the video of a whole group: where its pieces stand on end in the stream, it is those bytes of
+-- the stream. This
 -- project's own.
-use Rattle.std.proofs.Common.{◌≡◌, ℕ, suc, ◌-◌, ◌<◌, ◌≤◌, ◌^◌, Bool, true, not, List, [], ◌∷◌, length, map, take, drop, get_or, refl, ap, ◌∙◌, arith}
+use Rattle.std.proofs.Common.{◌≡◌, ℕ, suc, ◌-◌, ◌<◌, ◌≤◌, ◌^◌, Bool, true, not, List, [], ◌∷◌, length, map, take, drop}
+use Rattle.std.proofs.Common.{get_or, refl, ap, ◌∙◌, arith}
 use Rattle.std.specs.Prelude.{All, nat_lt}
 use Rattle.std.specs.List.{filter, flat_map, range_with_len}
 use Rattle.std.proofs.lemmas.Bool.{cond-true, lt-ltb, ne_eqb}
@@ -21,17 +23,22 @@ use Rattle.reassemble.specs.laws.RunsOnEnd.{runs_on_end, joined_apart, on_end_fe
 
 all_pass : {X : Type 0} (p : X → Bool) (xs : List X) → All (λ x. p x ≡ true) xs → filter p xs ≡ xs
 all_pass p [] h = refl
-all_pass p (x ∷ xs) h = cond-true (p x) (x ∷ filter p xs) (filter p xs) (h 0 x (omega arith)) ∙ ap (λ l. x ∷ l) (all_pass p xs (λ k d lt. h (suc k) d (omega arith)))
+all_pass p (x ∷ xs) h =
+    cond-true (p x) (x ∷ filter p xs) (filter p xs) (h 0 x (omega arith))
+    ∙ ap (λ l. x ∷ l) (all_pass p xs (λ k d lt. h (suc k) d (omega arith)))
 
-group_apart : (lo : Kind → ℕ → ℕ) (n : ℕ) (group : List Piece) → n ≤ 256 → ((kind : Kind) (place : ℕ) → lo kind place < n) → alternates (map named (runs_of lo group)) ≡ true
+group_apart : (lo : Kind → ℕ → ℕ) (n : ℕ) (group : List Piece) → n ≤ 256
+    → ((kind : Kind) (place : ℕ) → lo kind place < n) → alternates (map named (runs_of lo group)) ≡ true
 group_apart lo n [] few within = refl
 group_apart lo n (p ∷ ps) few within =
     let first : Run = run_of lo (placed_at [] p) in
     let low : first.layer < n = within p.kind (placed_at [] p).place in
-    joined_apart first (map (run_of lo) (placed_behind (p ∷ []) ps)) 256 (ap not (ne_eqb first.layer 256 (λ e. omega (arith, e))))
+    joined_apart first (map (run_of lo) (placed_behind (p ∷ []) ps)) 256
+    (ap not (ne_eqb first.layer 256 (λ e. omega (arith, e))))
 
 -- the runs of a group's pieces can be named by a run table
-pub group_named : (stream : List ℕ) (lo : Kind → ℕ → ℕ) (n from to : ℕ) (group : List Piece) → n ≤ 256 → ((kind : Kind) (place : ℕ) → lo kind place < n)
+pub group_named : (stream : List ℕ) (lo : Kind → ℕ → ℕ) (n from to : ℕ) (group : List Piece) → n ≤ 256
+    → ((kind : Kind) (place : ℕ) → lo kind place < n)
     → StandOnEnd from group to → to ≤ length stream → to - from < 2 ^ 32 → CanBeNamed stream (runs_of lo group) n
 group_named stream lo n from to group few within stand inside short =
     let runs : List Run = runs_of lo group in
@@ -47,11 +54,14 @@ group_named stream lo n from to group few within stand inside short =
     }
 
 -- with all its layers, the group's video is its bytes of the stream
-pub whole_video : (stream : List ℕ) (lo : Kind → ℕ → ℕ) (n from to : ℕ) (group : List Piece) → 0 < n → n ≤ 256 → ((kind : Kind) (place : ℕ) → lo kind place < n)
+pub whole_video : (stream : List ℕ) (lo : Kind → ℕ → ℕ) (n from to : ℕ) (group : List Piece) → 0 < n → n ≤ 256
+    → ((kind : Kind) (place : ℕ) → lo kind place < n)
     → StandOnEnd from group to → to ≤ length stream → to - from < 2 ^ 32
-    → group_video (map (layer_bytes stream (runs_of lo group)) (range_with_len 0 n)) ≡ take (to - from) (drop from stream)
+    → group_video (map (layer_bytes stream (runs_of lo group)) (range_with_len 0 n))
+    ≡ take (to - from) (drop from stream)
 whole_video stream lo n from to group some few within stand inside short =
     let runs : List Run = runs_of lo group in
     video_of_cut stream runs n n (group_named stream lo n from to group few within stand inside short) some
-    ∙ (ap (flat_map (bytes_of_run stream)) (all_pass (λ (r : Run). nat_lt r.layer n) runs (λ k d lt. lt-ltb (get_or runs k d).layer n (runs_layers lo n within group k d lt)))
+    ∙ (ap (flat_map (bytes_of_run stream)) (all_pass (λ (r : Run). nat_lt r.layer n) runs
+    (λ k d lt. lt-ltb (get_or runs k d).layer n (runs_layers lo n within group k d lt)))
     ∙ on_end_bytes stream from to runs (runs_on_end lo from to group stand))

@@ -1,6 +1,8 @@
--- Laws of stores as files, for callers: what is written of a kept set is a store of it, and the files of merged stores do
+-- Laws of stores as files, for callers: what is written of a kept set is a store of it, and the files of merged stores
+-- do
 -- not tell in which order, how often or which two first they were merged.
-use Rattle.std.proofs.Common.{◌≡◌, ℕ, ◌<◌, ◌≤◌, Bool, ltb, List, length, All, None, Result, Ok, Err, sym, ap, subst, ◌∙◌, arith}
+use Rattle.std.proofs.Common.{◌≡◌, ℕ, ◌<◌, ◌≤◌, Bool, ltb, List, length, All, None, Result, Ok, Err, sym, ap, subst}
+use Rattle.std.proofs.Common.{◌∙◌, arith}
 use Rattle.std.specs.Prelude.{if◌then◌else◌}
 use Rattle.std.proofs.lemmas.Bool.{le-ltb}
 use Rattle.pet_base.specs.declared.limits.TheConstants.{MAX_SESSION, MAX_STORE}
@@ -22,9 +24,12 @@ use Rattle.store_text.specs.laws.WrittenLaws.{written_is_read}
 
 pub store_within : (bytes : List ℕ) → length bytes ≤ MAX_STORE → store_in bytes ≡ read_text MAX_SESSION bytes
 unfolding store_in
-store_within bytes le = ap (λ (b : Bool). if b then Err (At MAX_STORE Cut) else read_text MAX_SESSION bytes) (le-ltb MAX_STORE (length bytes) le)
+store_within bytes le =
+    ap (λ (b : Bool). if b then Err (At MAX_STORE Cut) else read_text MAX_SESSION bytes)
+    (le-ltb MAX_STORE (length bytes) le)
 
-read_by : (long : Bool) (read : Result KeptSet BadStore) (set : KeptSet) → (if long then Err (At MAX_STORE Cut) else read) ≡ Ok set → read ≡ Ok set
+read_by : (long : Bool) (read : Result KeptSet BadStore) (set : KeptSet)
+    → (if long then Err (At MAX_STORE Cut) else read) ≡ Ok set → read ≡ Ok set
 read_by Bool.true read set e = absurd (cc)
 read_by Bool.false read set e = e
 
@@ -34,7 +39,8 @@ unfolding store_in
 store_is_read bytes set e = read_by (ltb MAX_STORE (length bytes)) (read_text MAX_SESSION bytes) set e
 
 -- What is written of a kept set of a session is a file that is a store of it.
-pub written_is_a_store : (set : KeptSet) → IsKeptSet set → set.limit ≡ MAX_SESSION → length set.session ≡ 8 → store_in (store_text set) ≡ Ok set
+pub written_is_a_store : (set : KeptSet) → IsKeptSet set → set.limit ≡ MAX_SESSION → length set.session ≡ 8
+    → store_in (store_text set) ≡ Ok set
 written_is_a_store set sound most eight =
     let cost : cost_kept set ≤ MAX_SESSION = subst (λ (l : ℕ). cost_kept set ≤ l) most sound.within in
     store_within (store_text set) (store_fits set sound eight cost)
@@ -49,7 +55,8 @@ limit_in x a is = read_limit MAX_SESSION x a (store_is_read x a is)
 
 -- ---- two files in either order
 
-module _ (x y : List ℕ) (a b : KeptSet) (x_is : store_in x ≡ Ok a) (y_is : store_in y ≡ Ok b) (fit : absorb_fault a b ≡ None) where
+module _ (x y : List ℕ) (a b : KeptSet) (x_is : store_in x ≡ Ok a) (y_is : store_in y ≡ Ok b)
+    (fit : absorb_fault a b ≡ None) where
   one_limit : a.limit ≡ b.limit
   one_limit = limit_in x a x_is ∙ sym (limit_in y b y_is)
 
@@ -68,14 +75,16 @@ pub file_fits_itself : (x : List ℕ) (a : KeptSet) → store_in x ≡ Ok a → 
 file_fits_itself x a is = fit_itself a (sound_in x a is)
 
 -- and the file is the same.
-pub file_itself : (x : List ℕ) (a : KeptSet) → All (λ byte. byte < 256) x → store_in x ≡ Ok a → store_text (union a a) ≡ x
+pub file_itself : (x : List ℕ) (a : KeptSet) → All (λ byte. byte < 256) x → store_in x ≡ Ok a
+    → store_text (union a a) ≡ x
 file_itself x a bytes is =
     ap store_text (union_itself a (sound_in x a is).rising)
     ∙ sym (read_is_written MAX_SESSION x a (store_is_read x a is) bytes).text
 
 -- ---- three files
 
-module _ (x y z : List ℕ) (a b c : KeptSet) (x_is : store_in x ≡ Ok a) (y_is : store_in y ≡ Ok b) (z_is : store_in z ≡ Ok c) (fit : absorb_fault a b ≡ None) (later : absorb_fault (union a b) c ≡ None) where
+module _ (x y z : List ℕ) (a b c : KeptSet) (x_is : store_in x ≡ Ok a) (y_is : store_in y ≡ Ok b)
+    (z_is : store_in z ≡ Ok c) (fit : absorb_fault a b ≡ None) (later : absorb_fault (union a b) c ≡ None) where
   same_limit : a.limit ≤ b.limit
   same_limit = omega (arith, limit_in x a x_is, limit_in y b y_is)
 
@@ -88,4 +97,6 @@ module _ (x y z : List ℕ) (a b c : KeptSet) (x_is : store_in x ≡ Ok a) (y_is
 
   -- and the files are the same.
   pub files_associate : store_text (union (union a b) c) ≡ store_text (union a (union b c))
-  files_associate = ap store_text (union_associates a b c (sound_in x a x_is).rising (sound_in y b y_is).rising (sound_in z c z_is).rising)
+  files_associate =
+      ap store_text
+      (union_associates a b c (sound_in x a x_is).rising (sound_in y b y_is).rising (sound_in z c z_is).rising)

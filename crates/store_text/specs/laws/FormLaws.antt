@@ -35,7 +35,8 @@ pub plain_layers : (t : StoreForm) → IsStoreForm t → (layers : List LayerSiz
 plain_layers t form layers = plain_by t.frames.bounds.doubled layers form.plain
 
 -- its text has the length that its table tells,
-pub text_long : (t : StoreForm) → IsStoreForm t → (f : Fields) → IsFrameIn t.frames f → length (text_in t.frames f) ≡ length_over t.frames.bounds.bare f.layers
+pub text_long : (t : StoreForm) → IsStoreForm t → (f : Fields) → IsFrameIn t.frames f
+    → length (text_in t.frames f) ≡ length_over t.frames.bounds.bare f.layers
 text_long t form f is =
     omega (
       arith,
@@ -46,11 +47,18 @@ text_long t form f is =
     )
 
 -- which is at most that of a datagram,
-pub text_narrow : (t : StoreForm) → IsStoreForm t → (f : Fields) → IsFrameIn t.frames f → length (text_in t.frames f) ≤ MAX_DATAGRAM
+pub text_narrow : (t : StoreForm) → IsStoreForm t → (f : Fields) → IsFrameIn t.frames f
+    → length (text_in t.frames f) ≤ MAX_DATAGRAM
 text_narrow t form f is =
     let narrow : length_over t.frames.bounds.bare (planned t.frames.bounds f.layers) ≤ MAX_DATAGRAM = is.table.narrow in
-    omega (arith, text_long t form f is, narrow, ap (λ (l : List LayerSize). length_over t.frames.bounds.bare l) (plain_layers t form f.layers))
+    omega (
+      arith,
+      text_long t form f is,
+      narrow,
+      ap (λ (l : List LayerSize). length_over t.frames.bounds.bare l) (plain_layers t form f.layers),
+    )
 
 -- and so fits an entry
-pub text_short : (t : StoreForm) → IsStoreForm t → (f : Fields) → IsFrameIn t.frames f → length (text_in t.frames f) < 65536
+pub text_short : (t : StoreForm) → IsStoreForm t → (f : Fields) → IsFrameIn t.frames f
+    → length (text_in t.frames f) < 65536
 text_short t form f is = omega (arith, text_narrow t form f is)

@@ -1,6 +1,9 @@
--- What frames that may be read one after the other make of a kept set: a kept set, whose frames in order are those that it
+-- What frames that may be read one after the other make of a kept set: a kept set, whose frames in order are those that
+-- it
 -- had, and then these.
-use Rattle.std.proofs.Common.{◌≡◌, ℕ, ◌<◌, ◌⊎◌, Bool, true, false, not, ◌&&◌, ◌||◌, ◌==◌, nat_lt, List, [], ◌∷◌, ◌++◌, Option, None, Some, option_and_then, append-nil, append_assoc, refl, sym, ap, subst, ◌∙◌, arith, inl, inr}
+use Rattle.std.proofs.Common.{◌≡◌, ℕ, ◌<◌, ◌⊎◌, Bool, true, false, not, ◌&&◌, ◌||◌, ◌==◌, nat_lt, List, [], ◌∷◌, ◌++◌}
+use Rattle.std.proofs.Common.{Option, None, Some, option_and_then, append-nil, append_assoc, refl, sym, ap, subst, ◌∙◌}
+use Rattle.std.proofs.Common.{arith, inl, inr}
 use Rattle.std.specs.Prelude.{if◌then◌else◌, is_some}
 use Rattle.std.specs.Option.{option_map_or}
 use Rattle.std.specs.Str.{bytes_eq}
@@ -9,11 +12,13 @@ use Rattle.std.proofs.lemmas.Map.Views.{exact_unsigned_eq}
 use Rattle.packet_frame.specs.Frame.{Fields}
 use Rattle.packet_set.specs.Packets.{Packets, slot_at}
 use Rattle.packet_verdicts.specs.KeptSet.{KeptSet, IsKeptSet, empty_set, open_group, payload_of, keep}
-use Rattle.packet_verdicts.specs.Verdicts.{tells_other_count, tells_other_table, tells_other_payload, is_too_much, newly_shown, layer_set, frame_verdict, frame_verdict_by, is_kept}
+use Rattle.packet_verdicts.specs.Verdicts.{tells_other_count, tells_other_table, tells_other_payload, is_too_much}
+use Rattle.packet_verdicts.specs.Verdicts.{newly_shown, layer_set, frame_verdict, frame_verdict_by, is_kept}
 use Rattle.packet_verdicts.specs.Union.{frames_in}
 use Rattle.packet_verdicts.specs.declared.verdict.Verdict.TheVariants as verdict
 use Rattle.packet_verdicts.specs.declared.verdict.LayerSet.{LayerSet}
-use Rattle.packet_verdicts.specs.laws.KeptSetLaws.{IsKeepable, keepable, keep_sound, keep_session, keep_limit, empty_sound}
+use Rattle.packet_verdicts.specs.laws.KeptSetLaws.{IsKeepable, keepable, keep_sound, keep_session, keep_limit}
+use Rattle.packet_verdicts.specs.laws.KeptSetLaws.{empty_sound}
 use Rattle.packet_verdicts.specs.laws.FramesInOrder.{IsAbove, ComesBefore, frames_more, above_keep, above_none}
 use Rattle.store_text.specs.declared.fault.StoreKind.TheVariants.{Session, Order, Clash, Full}
 use Rattle.store_text.specs.declared.format.TheConstants.{STORE_FORM}
@@ -38,7 +43,8 @@ either false true false e = absurd (cc)
 either false false c e = absurd (cc)
 
 -- a frame that is above a pair comes after it
-pub comes_after : (group number : ℕ) (f : Fields) → is_above (Some (group, number)) f ≡ true → ComesBefore group number f
+pub comes_after : (group number : ℕ) (f : Fields) → is_above (Some (group, number)) f ≡ true
+    → ComesBefore group number f
 comes_after group number f e =
     elim (either (nat_lt group f.group) (group == f.group) (nat_lt number f.number) e) [
       | inl less ↦ inl (below_true group f.group less)
@@ -52,7 +58,9 @@ record Passed (a b c d : Bool) : Type 0 where
   clash : c ≡ false
   room : d ≡ false
 
-passed : (a b c d : Bool) → (if not a then Some Session else if not b then Some Order else if c then Some Clash else if d then Some Full else None) ≡ None → Passed a b c d
+passed : (a b c d : Bool)
+    → (if not a then Some Session else if not b then Some Order else if c then Some Clash else if d then Some Full else
+    None) ≡ None → Passed a b c d
 passed false b c d e = absurd (cc)
 passed true false c d e = absurd (cc)
 passed true true true d e = absurd (cc)
@@ -60,7 +68,8 @@ passed true true false true e = absurd (cc)
 passed true true false false e = record { session = refl; above = refl; clash = refl; room = refl }
 
 kept_by : (a b c d : Bool) (layers : LayerSet) → a ≡ true → b ≡ false → c ≡ false → d ≡ false
-    → is_kept (if not a then verdict.Foreign else if b then verdict.Clash else if c then verdict.Repeated else if d then verdict.Full else verdict.Kept layers) ≡ true
+    → is_kept (if not a then verdict.Foreign else if b then verdict.Clash else if c then verdict.Repeated else if d
+    then verdict.Full else verdict.Kept layers) ≡ true
 kept_by a b c d layers ea eb ec ed = rw (ea, eb, ec, ed) refl
 
 third_false : (a b c : Bool) → (a || b) ≡ false → c ≡ false → (a || b || c) ≡ false
@@ -69,13 +78,18 @@ third_false true b c e f = absurd (cc)
 third_false false true c e f = absurd (cc)
 
 -- no slot has the number
-pub absent_by : (o : Option Packets) (number : ℕ) → ((p : Packets) → o ≡ Some p → slot_at p number ≡ None) → option_and_then (λ p. slot_at p number) o ≡ None
+pub absent_by : (o : Option Packets) (number : ℕ) → ((p : Packets) → o ≡ Some p → slot_at p number ≡ None)
+    → option_and_then (λ p. slot_at p number) o ≡ None
 absent_by None number none = refl
 absent_by (Some p) number none = none p refl
 
-module _ (set : KeptSet) (last : Last) (f : Fields) (ends : EndsIn set last) (none : frame_fault set last f ≡ None) where
-  parts : Passed (bytes_eq f.session set.session) (is_above last f) (tells_other_count set f || tells_other_table set f) (is_too_much set f)
-  parts = passed (bytes_eq f.session set.session) (is_above last f) (tells_other_count set f || tells_other_table set f) (is_too_much set f) none
+module _ (set : KeptSet) (last : Last) (f : Fields) (ends : EndsIn set last)
+    (none : frame_fault set last f ≡ None) where
+  parts : Passed (bytes_eq f.session set.session) (is_above last f)
+      (tells_other_count set f || tells_other_table set f) (is_too_much set f)
+  parts =
+      passed (bytes_eq f.session set.session) (is_above last f) (tells_other_count set f || tells_other_table set f)
+      (is_too_much set f) none
 
   -- the next frame is above all that is kept
   pub next_above : IsAbove set f
@@ -87,7 +101,9 @@ module _ (set : KeptSet) (last : Last) (f : Fields) (ends : EndsIn set last) (no
   kept : is_kept (frame_verdict set f) ≡ true
   unfolding frame_verdict_by
   kept =
-      kept_by (bytes_eq f.session set.session) (tells_other_count set f || tells_other_table set f || tells_other_payload set f) (is_some (payload_of set f.group f.number)) (is_too_much set f) (layer_set (newly_shown set f)) parts.session
+      kept_by (bytes_eq f.session set.session)
+      (tells_other_count set f || tells_other_table set f || tells_other_payload set f)
+      (is_some (payload_of set f.group f.number)) (is_too_much set f) (layer_set (newly_shown set f)) parts.session
       (third_false (tells_other_count set f) (tells_other_table set f) (tells_other_payload set f) parts.clash
       (ap (λ (o : Option (List ℕ)). option_map_or (λ payload. not (bytes_eq payload f.payload)) o false) absent))
       (ap is_some absent) parts.room
@@ -103,9 +119,11 @@ pub record HasGrownBy (set : KeptSet) (more : List Fields) (target : KeptSet) : 
   pub session : target.session ≡ set.session
   pub limit : target.limit ≡ set.limit
 
-pub leads_grow : (frames : List Fields) (set : KeptSet) (last : Last) (target : KeptSet) → IsKeptSet set → EndsIn set last → Leads STORE_FORM set last frames target → HasGrownBy set frames target
+pub leads_grow : (frames : List Fields) (set : KeptSet) (last : Last) (target : KeptSet) → IsKeptSet set
+    → EndsIn set last → Leads STORE_FORM set last frames target → HasGrownBy set frames target
 leads_grow [] set last target sound ends same =
-    subst (HasGrownBy set []) same (record { sound = sound; frames = sym (append-nil (frames_in set)); session = refl; limit = refl })
+    subst (HasGrownBy set []) same
+    (record { sound = sound; frames = sym (append-nil (frames_in set)); session = refl; limit = refl })
 leads_grow (f ∷ rest) set last target sound ends leads =
     let k = next_keepable set last f ends leads.1 in
     let above = next_above set last f ends leads.1 in
@@ -113,11 +131,16 @@ leads_grow (f ∷ rest) set last target sound ends leads =
     (λ g e. above_keep set sound f leads.0 k above g (comes_after f.group f.number g e)) leads.2 in
     record {
       sound = later.sound;
-      frames = later.frames ∙ ap (λ t. t ++ rest) (frames_more set sound f leads.0 k above) ∙ append_assoc (frames_in set) (f ∷ []) rest;
+      frames =
+          later.frames ∙ ap (λ t. t ++ rest) (frames_more set sound f leads.0 k above)
+          ∙ append_assoc (frames_in set) (f ∷ []) rest;
       session = later.session ∙ keep_session set f;
       limit = later.limit ∙ keep_limit set f;
     }
 
 -- from nothing on
-pub leads_make : (frames : List Fields) (session : List ℕ) (limit : ℕ) (target : KeptSet) → Leads STORE_FORM (empty_set session limit) None frames target → HasGrownBy (empty_set session limit) frames target
-leads_make frames session limit target leads = leads_grow frames (empty_set session limit) None target (empty_sound session limit) (λ f e. above_none session limit f) leads
+pub leads_make : (frames : List Fields) (session : List ℕ) (limit : ℕ) (target : KeptSet)
+    → Leads STORE_FORM (empty_set session limit) None frames target → HasGrownBy (empty_set session limit) frames target
+leads_make frames session limit target leads =
+    leads_grow frames (empty_set session limit) None target (empty_sound session limit)
+    (λ f e. above_none session limit f) leads

@@ -1,5 +1,6 @@
 -- Laws of what is read of a store, for callers: it is a kept set, and the bytes are its text.
-use Rattle.std.proofs.Common.{◌≡◌, ℕ, ◌+◌, ◌<◌, ◌≤◌, Bool, true, false, not, ltb, List, ◌++◌, length, take, drop, All, None, Result, Ok, Err, refl, sym, ap, ◌∙◌, arith}
+use Rattle.std.proofs.Common.{◌≡◌, ℕ, ◌+◌, ◌<◌, ◌≤◌, Bool, true, false, not, ltb, List, ◌++◌, length, take, drop, All}
+use Rattle.std.proofs.Common.{None, Result, Ok, Err, refl, sym, ap, ◌∙◌, arith}
 use Rattle.std.specs.Prelude.{if◌then◌else◌}
 use Rattle.std.specs.Int.{w32, to_be_bytes}
 use Rattle.std.specs.Str.{bytes_eq}
@@ -18,42 +19,53 @@ use Rattle.store_text.specs.declared.fault.BadStore.{BadStore}
 use Rattle.store_text.specs.declared.fault.BadStore.TheVariants.{At}
 use Rattle.store_text.specs.Form.{IsStoreForm, store_tag}
 use Rattle.store_text.specs.Store.{store_text, store_of_in, head_in, entries_in, text_before_tag_in}
-use Rattle.store_text.specs.Refusals.{tag_place, ends_in_store_tag, then_tag_in, session_of, many_of, entries_of, read_entries_in, read_text_in, read_text}
+use Rattle.store_text.specs.Refusals.{tag_place, ends_in_store_tag, then_tag_in, session_of, many_of, entries_of}
+use Rattle.store_text.specs.Refusals.{read_entries_in, read_text_in, read_text}
 use Rattle.store_text.specs.laws.FormLaws.{store_form_is}
 use Rattle.store_text.specs.laws.EntryReading.{at_each}
 use Rattle.store_text.specs.laws.Leading.{Leads, StandThere, read_leads}
 use Rattle.store_text.specs.laws.LedKeptSets.{HasGrownBy, leads_make}
 
-chain : (a b : Bool) (x y : BadStore) (rest : Result KeptSet BadStore) (set : KeptSet) → (if a then Err x else if not b then Err y else rest) ≡ Ok set → (a ≡ false) × (b ≡ true) × (rest ≡ Ok set)
+chain : (a b : Bool) (x y : BadStore) (rest : Result KeptSet BadStore) (set : KeptSet)
+    → (if a then Err x else if not b then Err y else rest) ≡ Ok set → (a ≡ false) × (b ≡ true) × (rest ≡ Ok set)
 chain true b x y rest set e = absurd (cc)
 chain false false x y rest set e = absurd (cc)
 chain false true x y rest set e = (refl, refl, e)
 
-tag_by : (b : Bool) (x : BadStore) (read set : KeptSet) → (if b then Ok read else Err x) ≡ Ok set → (b ≡ true) × (◌≡◌ {A = Result KeptSet BadStore} (Ok read) (Ok set))
+tag_by : (b : Bool) (x : BadStore) (read set : KeptSet) → (if b then Ok read else Err x) ≡ Ok set
+    → (b ≡ true) × (◌≡◌ {A = Result KeptSet BadStore} (Ok read) (Ok set))
 tag_by true x read set e = (refl, e)
 tag_by false x read set e = absurd (cc)
 
 -- the bytes up to a place, and then so many
-grow : (i n : ℕ) (bytes front more : List ℕ) → take i bytes ≡ front → take n (drop i bytes) ≡ more → take (i + n) bytes ≡ front ++ more
-grow i n bytes front more first next = take-add i n bytes ∙ ap (λ t. t ++ take n (drop i bytes)) first ∙ ap (λ t. front ++ t) next
+grow : (i n : ℕ) (bytes front more : List ℕ) → take i bytes ≡ front → take n (drop i bytes) ≡ more
+    → take (i + n) bytes ≡ front ++ more
+grow i n bytes front more first next =
+    take-add i n bytes ∙ ap (λ t. t ++ take n (drop i bytes)) first ∙ ap (λ t. front ++ t) next
 
 module _ (t : StoreForm) (form : IsStoreForm t) where
-  tagged : (bytes : List ℕ) (result : Result KeptSet BadStore) (set : KeptSet) → then_tag_in t bytes result ≡ Ok set → (result ≡ Ok set) × (ends_in_store_tag t bytes ≡ true)
+  tagged : (bytes : List ℕ) (result : Result KeptSet BadStore) (set : KeptSet) → then_tag_in t bytes result ≡ Ok set
+      → (result ≡ Ok set) × (ends_in_store_tag t bytes ≡ true)
   tagged bytes (Err fault) set e = absurd (cc)
-  tagged bytes (Ok read) set e = let p = tag_by (ends_in_store_tag t bytes) (At (tag_place t bytes) Tag) read set e in (p.1, p.0)
+  tagged bytes (Ok read) set e =
+      let p = tag_by (ends_in_store_tag t bytes) (At (tag_place t bytes) Tag) read set e in (p.1, p.0)
 
   -- what the bytes before the entries and behind them tell, where nothing is refused
   pub record ReadsOn (limit : ℕ) (bytes : List ℕ) (set : KeptSet) : Type 0 where
     pub long : HEAD_LENGTH + t.tag ≤ length bytes
     pub mark : take 4 bytes ≡ t.mark
-    pub entries : read_entries_in t (many_of bytes) HEAD_LENGTH (empty_set (session_of bytes) limit) None (entries_of t bytes) ≡ Ok set
+    pub entries : read_entries_in t (many_of bytes) HEAD_LENGTH (empty_set (session_of bytes) limit) None
+        (entries_of t bytes) ≡ Ok set
     pub tag : drop (tag_place t bytes) bytes ≡ store_tag t (take (tag_place t bytes) bytes)
 
-  pub reads_on : (limit : ℕ) (bytes : List ℕ) (set : KeptSet) → read_text_in t limit bytes ≡ Ok set → ReadsOn limit bytes set
+  pub reads_on : (limit : ℕ) (bytes : List ℕ) (set : KeptSet) → read_text_in t limit bytes ≡ Ok set
+      → ReadsOn limit bytes set
   unfolding read_text_in
   reads_on limit bytes set e =
-      let entries = read_entries_in t (many_of bytes) HEAD_LENGTH (empty_set (session_of bytes) limit) None (entries_of t bytes) in
-      let p = chain (ltb (length bytes) (HEAD_LENGTH + t.tag)) (bytes_eq (take 4 bytes) t.mark) (At (length bytes) Cut) (At 0 Magic) (then_tag_in t bytes entries) set e in
+      let entries = read_entries_in t (many_of bytes) HEAD_LENGTH (empty_set (session_of bytes) limit) None
+      (entries_of t bytes) in
+      let p = chain (ltb (length bytes) (HEAD_LENGTH + t.tag)) (bytes_eq (take 4 bytes) t.mark) (At (length bytes) Cut)
+      (At 0 Magic) (then_tag_in t bytes entries) set e in
       let g = tagged bytes entries set p.2 in
       record {
         long = ltb-false (length bytes) (HEAD_LENGTH + t.tag) p.0;
@@ -76,7 +88,9 @@ module _ (t : StoreForm) (form : IsStoreForm t) where
     on = reads_on limit bytes set read
 
     there : StandThere t form (many_of bytes) (empty_set (session_of bytes) limit) None (entries_of t bytes) set
-    there = read_leads t form (many_of bytes) HEAD_LENGTH (empty_set (session_of bytes) limit) None (entries_of t bytes) set on.entries
+    there =
+        read_leads t form (many_of bytes) HEAD_LENGTH (empty_set (session_of bytes) limit) None
+        (entries_of t bytes) set on.entries
 
     eight : length (session_of bytes) ≡ 8
     eight = omega (arith, length-take 8 (drop 4 bytes), length-drop 4 bytes, on.long)
@@ -86,29 +100,44 @@ module _ (t : StoreForm) (form : IsStoreForm t) where
       many =
           let four = take 4 (drop 12 bytes) in
           ap (to_be_bytes w32) there.number
-          ∙ be_bytes_4 four (many_of bytes) (omega (arith, length-take 4 (drop 12 bytes), length-drop 12 bytes, on.long)) (at_each four (All-take (λ byte. byte < 256) 4 (drop 12 bytes) (All-drop (λ byte. byte < 256) 12 bytes fits))) refl
+          ∙ be_bytes_4 four (many_of bytes) (omega
+          (arith, length-take 4 (drop 12 bytes), length-drop 12 bytes, on.long))
+          (at_each four
+          (All-take (λ byte. byte < 256) 4 (drop 12 bytes) (All-drop (λ byte. byte < 256) 12 bytes fits))) refl
 
       head_is : take HEAD_LENGTH bytes ≡ head_in t (session_of bytes) (length there.frames)
       head_is =
-          grow 12 4 bytes (t.mark ++ session_of bytes) (to_be_bytes w32 (length there.frames)) (grow 4 8 bytes t.mark (session_of bytes) on.mark refl) (sym many)
+          grow 12 4 bytes (t.mark ++ session_of bytes) (to_be_bytes w32 (length there.frames))
+          (grow 4 8 bytes t.mark (session_of bytes) on.mark refl) (sym many)
 
       spelled : entries_of t bytes ≡ entries_in t there.frames
       spelled =
-          there.spelled (All-drop (λ byte. byte < 256) HEAD_LENGTH (take (tag_place t bytes) bytes) (All-take (λ byte. byte < 256) (tag_place t bytes) bytes fits))
+          there.spelled (All-drop (λ byte. byte < 256) HEAD_LENGTH (take (tag_place t bytes) bytes)
+          (All-take (λ byte. byte < 256) (tag_place t bytes) bytes fits))
 
       before : take (tag_place t bytes) bytes ≡ text_before_tag_in t (session_of bytes) there.frames
       before =
           sym (take-append-drop HEAD_LENGTH (take (tag_place t bytes) bytes))
-          ∙ ap (λ b. b ++ entries_of t bytes) (take-take HEAD_LENGTH (tag_place t bytes) bytes (omega (arith, on.long)) ∙ head_is)
+          ∙ ap (λ b. b ++ entries_of t bytes)
+          (take-take HEAD_LENGTH (tag_place t bytes) bytes (omega (arith, on.long)) ∙ head_is)
           ∙ ap (λ b. head_in t (session_of bytes) (length there.frames) ++ b) spelled
 
       is_text : bytes ≡ store_of_in t (session_of bytes) there.frames
       unfolding store_of_in
       is_text =
-          sym (take-append-drop (tag_place t bytes) bytes) ∙ ap (λ b. take (tag_place t bytes) bytes ++ b) on.tag ∙ ap (λ b. b ++ store_tag t b) before
+          sym (take-append-drop (tag_place t bytes) bytes) ∙ ap (λ b. take (tag_place t bytes) bytes ++ b) on.tag
+          ∙ ap (λ b. b ++ store_tag t b) before
 
     pub read_from : IsReadFrom limit bytes set
-    read_from = record { frames = there.frames; leads = there.leads; session = eight; many = there.number; entries = spelled; text = is_text }
+    read_from =
+        record {
+          frames = there.frames;
+          leads = there.leads;
+          session = eight;
+          many = there.number;
+          entries = spelled;
+          text = is_text;
+        }
 
 -- ---- the stores that are written today
 

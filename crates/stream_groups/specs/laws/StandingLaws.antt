@@ -1,6 +1,8 @@
--- Pieces that stand on end, as those of a stream do: where they end, their bytes in the stream, and that each group of a
+-- Pieces that stand on end, as those of a stream do: where they end, their bytes in the stream, and that each group of
+-- a
 -- stream is such pieces. This project's own.
-use Rattle.std.proofs.Common.{◌≡◌, ℕ, ◌+◌, ◌-◌, ◌≤◌, List, [], ◌∷◌, ◌++◌, length, take, drop, refl, sym, ◌∙◌, ap, subst, arith, inl, inr, take-add, length-drop, drop-drop}
+use Rattle.std.proofs.Common.{◌≡◌, ℕ, ◌+◌, ◌-◌, ◌≤◌, List, [], ◌∷◌, ◌++◌, length, take, drop, refl, sym, ◌∙◌, ap, subst}
+use Rattle.std.proofs.Common.{arith, inl, inr, take-add, length-drop, drop-drop}
 use Rattle.std.specs.Prelude.{All}
 use Rattle.std.proofs.lemmas.List.{drop-append-le, take-append-le}
 use Rattle.std.proofs.lemmas.List.Elements.{All-nil}
@@ -26,7 +28,8 @@ end_push a [] p = refl
 end_push a (x ∷ xs) p = end_push (a + x.len) xs p
 
 -- their bytes are those of the stream from the first to the end of the last
-pub stand_bytes : (s more : List ℕ) (a b : ℕ) (ps : List Piece) → StandOnEnd a ps b → b ≤ length s → bytes_of_pieces (s ++ more) ps ≡ take (b - a) (drop a s)
+pub stand_bytes : (s more : List ℕ) (a b : ℕ) (ps : List Piece) → StandOnEnd a ps b → b ≤ length s
+    → bytes_of_pieces (s ++ more) ps ≡ take (b - a) (drop a s)
 stand_bytes s more a b [] h le = ap (λ n. take n (drop a s)) (let e : 0 ≡ b - a = omega (arith, h) in e)
 stand_bytes s more a b (p ∷ ps) h le =
     let far = stand_le (a + p.len) b ps h.2 in

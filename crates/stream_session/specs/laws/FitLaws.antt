@@ -1,6 +1,7 @@
 -- What a stream that has a session keeps, for callers: its groups are not too many, each has a table, and their packets
 -- have at most the bytes of a session. This project's own.
-use Rattle.std.proofs.Common.{◌≡◌, ℕ, suc, ◌+◌, ◌≤◌, Bool, true, false, List, [], ◌∷◌, length, map, take, Option, Some, None, position, nat_lt, refl, sym, ◌∙◌, ap, arith, inl, inr}
+use Rattle.std.proofs.Common.{◌≡◌, ℕ, suc, ◌+◌, ◌≤◌, Bool, true, false, List, [], ◌∷◌, length, map, take, Option, Some}
+use Rattle.std.proofs.Common.{None, position, nat_lt, refl, sym, ◌∙◌, ap, arith, inl, inr}
 use Rattle.std.specs.Prelude.{All, sum, option_map}
 use Rattle.std.specs.List.{position_from}
 use Rattle.std.proofs.lemmas.Iterator.Adapters.{position_from-zero}
@@ -21,7 +22,8 @@ use Rattle.layer_split.specs.Faults.{is_too_long, fault_of, fault_by}
 use Rattle.layer_split.specs.Splitting.{cuts_of}
 use Rattle.stream_session.specs.declared.fault.SessionFault.{SessionFault}
 use Rattle.stream_session.specs.Tables.{table_of, tables_of, IsFit}
-use Rattle.stream_session.specs.Refusals.{is_wide, cost_in, first_above, size_fault, fault_after, fault_of_cuts, session_fault}
+use Rattle.stream_session.specs.Refusals.{is_wide, cost_in, first_above, size_fault, fault_after, fault_of_cuts}
+use Rattle.stream_session.specs.Refusals.{session_fault}
 use Rattle.stream_session.specs.laws.TableLaws.{cut_fits, is_table}
 
 some_not_none : {A : Type 0} (x : A) → Some x ≡ None → ⊥
@@ -32,7 +34,8 @@ from_none : {A : Type 0} (p : A → Bool) (i : ℕ) (xs : List A) → position_f
 from_none p i [] e = All-nil (λ x. p x ≡ false)
 from_none p i (x ∷ xs) e = elim (cases_Bool (p x)) [
   | inl t ↦ absurd (some_not_none i (sym (cond-true (p x) (Some i) (position_from p (i + 1) xs) t) ∙ e))
-  | inr f ↦ All-cons (λ x. p x ≡ false) x xs f (from_none p (i + 1) xs (sym (cond-false (p x) (Some i) (position_from p (i + 1) xs) f) ∙ e))
+  | inr f ↦ All-cons (λ x. p x ≡ false) x xs f
+      (from_none p (i + 1) xs (sym (cond-false (p x) (Some i) (position_from p (i + 1) xs) f) ∙ e))
 ]
 
 nowhere : {A : Type 0} (p : A → Bool) (xs : List A) → position p xs ≡ None → All (λ x. p x ≡ false) xs
@@ -46,25 +49,33 @@ fault_none None n e = elim (cases_Bool (nat_lt MAX_GROUPS n)) [
 ]
 
 -- groups that are not refused are not too long
-pub all_short : (priority : Priorities) (groups : List (List Piece)) → fault_of (layer_of priority) (length priority.layers) groups ≡ None → All (λ group. is_too_long (layer_of priority) (length priority.layers) group ≡ false) groups
+pub all_short : (priority : Priorities) (groups : List (List Piece))
+    → fault_of (layer_of priority) (length priority.layers) groups ≡ None
+    → All (λ group. is_too_long (layer_of priority) (length priority.layers) group ≡ false) groups
 all_short priority groups e =
     let p : List Piece → Bool = is_too_long (layer_of priority) (length priority.layers) in
     let (none, few) = fault_none (position p (take MAX_GROUPS groups)) (length groups) e in
     nowhere p groups (ap (position p) (sym (take_all MAX_GROUPS groups few)) ∙ none)
 
 -- nor too many
-pub groups_few : (priority : Priorities) (groups : List (List Piece)) → fault_of (layer_of priority) (length priority.layers) groups ≡ None → length groups ≤ MAX_GROUPS
-groups_few priority groups e = (fault_none (position (is_too_long (layer_of priority) (length priority.layers)) (take MAX_GROUPS groups)) (length groups) e).1
+pub groups_few : (priority : Priorities) (groups : List (List Piece))
+    → fault_of (layer_of priority) (length priority.layers) groups ≡ None → length groups ≤ MAX_GROUPS
+groups_few priority groups e =
+    (fault_none (position (is_too_long (layer_of priority) (length priority.layers)) (take MAX_GROUPS groups))
+    (length groups) e).1
 
 -- and so their cuts
-pub all_fit : (priority : Priorities) (groups : List (List Piece)) → All (λ group. is_too_long (layer_of priority) (length priority.layers) group ≡ false) groups → All (IsFit priority) (cuts_of priority groups)
+pub all_fit : (priority : Priorities) (groups : List (List Piece))
+    → All (λ group. is_too_long (layer_of priority) (length priority.layers) group ≡ false) groups
+    → All (IsFit priority) (cuts_of priority groups)
 all_fit priority [] h = All-nil (IsFit priority)
 all_fit priority (group ∷ groups) h =
     All-cons (IsFit priority) (cut_of (layer_of priority) (length priority.layers) group) (cuts_of priority groups)
     (cut_fits priority group (h 0 group (omega arith))) (all_fit priority groups (λ k d lt. h (suc k) d (omega arith)))
 
 -- no cause of either sort
-after_none : (fault : Option SplitFault) (later : Option SessionFault) → fault_after fault later ≡ None → (fault ≡ None) × (later ≡ None)
+after_none : (fault : Option SplitFault) (later : Option SessionFault) → fault_after fault later ≡ None
+    → (fault ≡ None) × (later ≡ None)
 after_none None later e = (refl, e)
 after_none (Some (split.GroupTooLong group)) later e = absurd cc
 after_none (Some split.TooManyGroups) later e = absurd cc
@@ -75,50 +86,69 @@ size_none (Some group) large e = absurd cc
 size_none None (Some group) e = absurd cc
 size_none None None e = (refl, refl)
 
-pub no_cause : (priority : Priorities) (pieces : List Piece) → session_fault priority pieces ≡ None → (fault_of (layer_of priority) (length priority.layers) (groups_of pieces) ≡ None) × (fault_of_cuts priority (cuts_of priority (groups_of pieces)) ≡ None)
+pub no_cause : (priority : Priorities) (pieces : List Piece) → session_fault priority pieces ≡ None
+    → (fault_of (layer_of priority) (length priority.layers) (groups_of pieces) ≡ None)
+    × (fault_of_cuts priority (cuts_of priority (groups_of pieces)) ≡ None)
 unfolding session_fault
-no_cause priority pieces e = after_none (fault_of (layer_of priority) (length priority.layers) (groups_of pieces)) (fault_of_cuts priority (cuts_of priority (groups_of pieces))) e
+no_cause priority pieces e =
+    after_none (fault_of (layer_of priority) (length priority.layers) (groups_of pieces))
+    (fault_of_cuts priority (cuts_of priority (groups_of pieces))) e
 
-pub few_groups : (priority : Priorities) (pieces : List Piece) → session_fault priority pieces ≡ None → length (groups_of pieces) ≤ MAX_GROUPS
+pub few_groups : (priority : Priorities) (pieces : List Piece) → session_fault priority pieces ≡ None
+    → length (groups_of pieces) ≤ MAX_GROUPS
 few_groups priority pieces e = groups_few priority (groups_of pieces) (no_cause priority pieces e).0
 
 -- each group has a table
 abbrev pub IsWithinBounds : Sizes → Type 0
 IsWithinBounds table = IsTable table.packets table.layers
 
-all_stand : (priority : Priorities) (cuts : List Cut) → is_priority priority ≡ true → length priority.layers ≤ MAX_LAYERS → All (IsFit priority) cuts → All (λ cut. is_wide priority cut ≡ false) cuts → All IsWithinBounds (tables_of priority cuts)
+all_stand : (priority : Priorities) (cuts : List Cut) → is_priority priority ≡ true
+    → length priority.layers ≤ MAX_LAYERS → All (IsFit priority) cuts → All (λ cut. is_wide priority cut ≡ false) cuts
+    → All IsWithinBounds (tables_of priority cuts)
 all_stand priority [] lawful few fit narrow = All-nil IsWithinBounds
 all_stand priority (cut ∷ cuts) lawful few fit narrow =
     All-cons IsWithinBounds (table_of priority cut) (tables_of priority cuts)
     (is_table priority cut lawful few (fit 0 cut (omega arith)) (narrow 0 cut (omega arith)))
-    (all_stand priority cuts lawful few (λ k d lt. fit (suc k) d (omega arith)) (λ k d lt. narrow (suc k) d (omega arith)))
+    (all_stand priority cuts lawful few (λ k d lt. fit (suc k) d (omega arith))
+    (λ k d lt. narrow (suc k) d (omega arith)))
 
-pub tables_stand : (priority : Priorities) (pieces : List Piece) → is_priority priority ≡ true → length priority.layers ≤ MAX_LAYERS → session_fault priority pieces ≡ None → All IsWithinBounds (tables_of priority (cuts_of priority (groups_of pieces)))
+pub tables_stand : (priority : Priorities) (pieces : List Piece) → is_priority priority ≡ true
+    → length priority.layers ≤ MAX_LAYERS → session_fault priority pieces ≡ None
+    → All IsWithinBounds (tables_of priority (cuts_of priority (groups_of pieces)))
 tables_stand priority pieces lawful few e =
     let cuts : List Cut = cuts_of priority (groups_of pieces) in
     let (groups, sizes) = no_cause priority pieces e in
-    let (wide, large) = size_none (position (is_wide priority) cuts) (first_above MAX_SESSION 0 (map (cost_in priority) cuts)) sizes in
-    all_stand priority cuts lawful few (all_fit priority (groups_of pieces) (all_short priority (groups_of pieces) groups)) (nowhere (is_wide priority) cuts wide)
+    let (wide, large) = size_none (position (is_wide priority) cuts)
+    (first_above MAX_SESSION 0 (map (cost_in priority) cuts)) sizes in
+    all_stand priority cuts lawful few (all_fit priority (groups_of pieces)
+    (all_short priority (groups_of pieces) groups)) (nowhere (is_wide priority) cuts wide)
 
 -- the costs together
 mapped_none : (o : Option ℕ) → option_map (λ n. n + 1) o ≡ None → o ≡ None
 mapped_none None e = refl
 mapped_none (Some n) e = absurd cc
 
-none_above : (limit before : ℕ) (costs : List ℕ) → before ≤ limit → first_above limit before costs ≡ None → before + sum costs ≤ limit
+none_above : (limit before : ℕ) (costs : List ℕ) → before ≤ limit → first_above limit before costs ≡ None
+    → before + sum costs ≤ limit
 none_above limit before [] le e = let s : sum [] ≡ 0 = refl in omega arith
 none_above limit before (cost ∷ costs) le e = elim (cases_Bool (nat_lt limit (before + cost))) [
-  | inl t ↦ absurd (some_not_none 0 (sym (cond-true (nat_lt limit (before + cost)) (Some 0) (option_map (λ n. n + 1) (first_above limit (before + cost) costs)) t) ∙ e))
+  | inl t ↦ absurd (some_not_none 0 (sym (cond-true (nat_lt limit (before + cost)) (Some 0)
+      (option_map (λ n. n + 1) (first_above limit (before + cost) costs)) t) ∙ e))
   | inr f ↦
       (let le : before + cost ≤ limit = grind (arith, nat_tests) in
-      let later = none_above limit (before + cost) costs le (mapped_none (first_above limit (before + cost) costs) (sym (cond-false (nat_lt limit (before + cost)) (Some 0) (option_map (λ n. n + 1) (first_above limit (before + cost) costs)) f) ∙ e)) in
+      let later = none_above limit (before + cost) costs le
+      (mapped_none (first_above limit (before + cost) costs)
+      (sym (cond-false (nat_lt limit (before + cost)) (Some 0)
+      (option_map (λ n. n + 1) (first_above limit (before + cost) costs)) f) ∙ e)) in
       let whole : sum (cost ∷ costs) ≡ cost + sum costs = sum_by-cons (λ (n : ℕ). n) cost costs in
       omega arith)
 ]
 
-pub costs_fit : (priority : Priorities) (pieces : List Piece) → session_fault priority pieces ≡ None → sum (map (cost_in priority) (cuts_of priority (groups_of pieces))) ≤ MAX_SESSION
+pub costs_fit : (priority : Priorities) (pieces : List Piece) → session_fault priority pieces ≡ None
+    → sum (map (cost_in priority) (cuts_of priority (groups_of pieces))) ≤ MAX_SESSION
 costs_fit priority pieces e =
     let costs : List ℕ = map (cost_in priority) (cuts_of priority (groups_of pieces)) in
-    let large = (size_none (position (is_wide priority) (cuts_of priority (groups_of pieces))) (first_above MAX_SESSION 0 costs) (no_cause priority pieces e).1).1 in
+    let large = (size_none (position (is_wide priority) (cuts_of priority (groups_of pieces)))
+    (first_above MAX_SESSION 0 costs) (no_cause priority pieces e).1).1 in
     let fits = none_above MAX_SESSION 0 costs (omega arith) large in
     omega arith

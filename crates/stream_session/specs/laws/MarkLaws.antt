@@ -1,4 +1,5 @@
--- What callers know of the marks of a stream: how many there are, and what the mark of a group that was found tells. This
+-- What callers know of the marks of a stream: how many there are, and what the mark of a group that was found tells.
+-- This
 -- project's own.
 use Rattle.std.proofs.Common.{◌≡◌, ◌≢◌, ℕ, ◌<◌, ◌^◌, List, length, ap, arith}
 use Rattle.std.proofs.lemmas.List.{length-map}
@@ -13,7 +14,8 @@ use Rattle.stream_session.specs.Marks.{mark_of, no_mark, marks_of}
 use Rattle.stream_session.specs.declared.mark.GroupMark.{GroupMark}
 
 -- as many as tables
-pub length-marks : (priority : Priorities) (stream : List ℕ) → length (marks_of priority stream) ≡ length (tables_of priority (cuts_of_stream priority stream))
+pub length-marks : (priority : Priorities) (stream : List ℕ)
+    → length (marks_of priority stream) ≡ length (tables_of priority (cuts_of_stream priority stream))
 length-marks priority stream =
     let marks = length-map (cut_groups priority stream) (λ (g : CutGroup). mark_of g.bytes) in
     let groups = length-map (groups_of (pieces_of stream)) (cut_group priority stream) in
@@ -31,4 +33,6 @@ some_length bytes some = omega (arith, some)
 
 -- a group that has bytes is told from one that was not found
 pub mark_found : (bytes : List ℕ) → 0 < length bytes → mark_of bytes ≢ no_mark
-mark_found bytes some e = let same : (mark_of bytes).length ≡ 0 = ap (λ (m : GroupMark). m.length) e in omega (arith, same, some_length bytes some)
+mark_found bytes some e =
+    let same : (mark_of bytes).length ≡ 0 = ap (λ (m : GroupMark). m.length) e in
+    omega (arith, same, some_length bytes some)

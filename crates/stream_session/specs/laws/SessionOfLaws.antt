@@ -1,6 +1,7 @@
 -- What callers know of the session that an accepted priority file and an accepted stream are: it is a session, and its
 -- packets have at most the bytes of one. This project's own.
-use Rattle.std.proofs.Common.{◌≡◌, ℕ, zero, suc, ◌+◌, ◌-◌, ◌<◌, ◌≤◌, Bool, true, false, not, ◌&&◌, ◌||◌, nat_lt, nat_le, List, [], ◌∷◌, ◌++◌, length, map, drop, None, refl, sym, ◌∙◌, ap, subst, arith, inl, inr}
+use Rattle.std.proofs.Common.{◌≡◌, ℕ, zero, suc, ◌+◌, ◌-◌, ◌<◌, ◌≤◌, Bool, true, false, not, ◌&&◌, ◌||◌, nat_lt, nat_le}
+use Rattle.std.proofs.Common.{List, [], ◌∷◌, ◌++◌, length, map, drop, None, refl, sym, ◌∙◌, ap, subst, arith, inl, inr}
 use Rattle.std.specs.Prelude.{◌==◌, All, sum, slice_index}
 use Rattle.std.specs.List.{sum_by}
 use Rattle.std.specs.List.{filter, range_with_len}
@@ -59,13 +60,15 @@ accepted_lawful bytes e = accepted (text_in bytes) (behind 5 (rows bytes) e)
 
 pub number_length : (priority stream : List ℕ) → length (session_number priority stream) ≡ 8
 unfolding session_number
-number_length priority stream = length-take-le 8 (sha256 (hashed priority stream)) (omega (arith, length-sha256 (hashed priority stream)))
+number_length priority stream =
+    length-take-le 8 (sha256 (hashed priority stream)) (omega (arith, length-sha256 (hashed priority stream)))
 
 words_small : (hash : List ℕ) (n : ℕ) → All IsByte (digest_bytes hash n)
 unfolding digest_bytes
 words_small hash zero = All-nil IsByte
 words_small hash (suc n) =
-    All-append IsByte (digest_bytes hash n) (to_be_bytes w32 (slice_index hash n)) (words_small hash n) (word_bytes (slice_index hash n))
+    All-append IsByte (digest_bytes hash n) (to_be_bytes w32 (slice_index hash n)) (words_small hash n)
+    (word_bytes (slice_index hash n))
 
 digest_small : (message : List ℕ) → All IsByte (sha256 message)
 unfolding sha256
@@ -73,12 +76,14 @@ digest_small message = words_small _ 8
 
 pub number_bytes : (priority stream : List ℕ) → All (λ b. b < 256) (session_number priority stream)
 unfolding session_number
-number_bytes priority stream = All-take IsByte 8 (sha256 (hashed priority stream)) (digest_small (hashed priority stream))
+number_bytes priority stream =
+    All-take IsByte 8 (sha256 (hashed priority stream)) (digest_small (hashed priority stream))
 
 -- ---- at least one group
 
 -- an opener that stands among these places is found
-some_opener : (s : List ℕ) (p k n : ℕ) → is_opener s p ≡ true → k ≤ p → p < k + n → 0 < length (filter (is_opener s) (range_with_len k n))
+some_opener : (s : List ℕ) (p k n : ℕ) → is_opener s p ≡ true → k ≤ p → p < k + n
+    → 0 < length (filter (is_opener s) (range_with_len k n))
 some_opener s p k zero opens from to = absurd (omega arith)
 some_opener s p k (suc n) opens from to =
     let later : List ℕ = filter (is_opener s) (range_with_len (k + 1) n) in
@@ -101,7 +106,8 @@ or_left true b e is = refl
 or_left false b e is = absurd (both_ways b is e)
 
 -- a code that a stream may begin with is an opener's
-one_of_four : (zero_code first third second : Bool) → (first || second) ≡ true → (zero_code || (first || (third || second))) ≡ true
+one_of_four : (zero_code first third second : Bool) → (first || second) ≡ true
+    → (zero_code || (first || (third || second))) ≡ true
 one_of_four true first third second e = refl
 one_of_four false true third second e = refl
 one_of_four false false true second e = refl
@@ -114,11 +120,15 @@ head_opens s is =
     let c : ℕ = code_at s p in
     let empty : (length s == 0) ≡ false = is Empty in
     let some : nat_lt 0 (length s) ≡ true = grind (arith, nat_tests) in
-    let no_head = and_false (zeros s == zeros s) (nat_lt 0 (length s) && not (has_head s)) (eq-eqb _ _ refl) (is (NoHead (zeros s))) in
+    let no_head = and_false (zeros s == zeros s) (nat_lt 0 (length s) && not (has_head s)) (eq-eqb _ _ refl)
+    (is (NoHead (zeros s))) in
     let head = from_not (has_head s) (and_false (nat_lt 0 (length s)) (not (has_head s)) some no_head) in
-    let code = and_parts (is_start_code s p) (is_head_code c || is_system_code c) (and_parts (nat_le 2 (zeros s)) _ head).1 in
+    let code = and_parts (is_start_code s p) (is_head_code c || is_system_code c)
+    (and_parts (nat_le 2 (zeros s)) _ head).1 in
     let plain : is_system_code c ≡ false = and_false (is_start_code s p) (is_system_code c) code.0 (is (System p)) in
-    and_from (is_start_code s p) (is_opener_code c) code.0 (one_of_four (c == 0x00) (c == 0xB3) (c == 0xB7) (c == 0xB8) (or_left (is_head_code c) (is_system_code c) code.1 plain))
+    and_from (is_start_code s p) (is_opener_code c) code.0
+    (one_of_four (c == 0x00) (c == 0xB3) (c == 0xB7) (c == 0xB8)
+    (or_left (is_head_code c) (is_system_code c) code.1 plain))
 
 pieces_more : (s : List ℕ) (p from : ℕ) (later : List ℕ) → 0 < length (pieces_from s p from later)
 pieces_more s p from [] = omega arith
@@ -132,10 +142,14 @@ groups_more : (current later : List Piece) → 0 < length (groups_from current l
 groups_more current [] = omega arith
 groups_more current (p ∷ later) = elim (cases_Bool (begins_group current p)) [
   | inl e ↦
-      subst (λ (gs : List (List Piece)). 0 < length gs) (sym (cond-true (begins_group current p) (current ∷ groups_from (p ∷ []) later) (groups_from (current ++ p ∷ []) later) e))
+      subst (λ (gs : List (List Piece)). 0 < length gs)
+      (sym (cond-true (begins_group current p) (current ∷ groups_from (p ∷ []) later)
+      (groups_from (current ++ p ∷ []) later) e))
       (omega arith)
   | inr e ↦
-      subst (λ (gs : List (List Piece)). 0 < length gs) (sym (cond-false (begins_group current p) (current ∷ groups_from (p ∷ []) later) (groups_from (current ++ p ∷ []) later) e))
+      subst (λ (gs : List (List Piece)). 0 < length gs)
+      (sym (cond-false (begins_group current p) (current ∷ groups_from (p ∷ []) later)
+      (groups_from (current ++ p ∷ []) later) e))
       (groups_more (current ++ p ∷ []) later)
 ]
 
@@ -149,13 +163,16 @@ some_groups s is =
     let p : ℕ = zeros s - 2 in
     let opens = head_opens s is in
     let within = opener_within s p opens in
-    some_groups_of (pieces_of s) (some_pieces s (openers s) (some_opener s p 0 (length s) opens (omega arith) (omega arith)))
+    some_groups_of (pieces_of s)
+    (some_pieces s (openers s) (some_opener s p 0 (length s) opens (omega arith) (omega arith)))
 
 -- ---- the groups
 
 -- the message of a group that stands in a stream of bytes
-is_message : (priority : Priorities) (s : List ℕ) → All (λ b. b < 256) s → is_priority priority ≡ true → length priority.layers ≤ MAX_LAYERS → (group : List Piece) → StandsIn (length s) group
-    → IsMessage 2 (sizes_of priority (cut_of (layer_of priority) (length priority.layers) group)) (message s (runs_of (layer_of priority) group) (length priority.layers))
+is_message : (priority : Priorities) (s : List ℕ) → All (λ b. b < 256) s → is_priority priority ≡ true
+    → length priority.layers ≤ MAX_LAYERS → (group : List Piece) → StandsIn (length s) group
+    → IsMessage 2 (sizes_of priority (cut_of (layer_of priority) (length priority.layers) group))
+    (message s (runs_of (layer_of priority) group) (length priority.layers))
 is_message priority s small lawful few group stands =
     let n : ℕ = length priority.layers in
     let runs : List Run = runs_of (layer_of priority) group in
@@ -174,8 +191,10 @@ is_message priority s small lawful few group stands =
       bytes = message_bytes s runs n small (λ k d lt. (let here = layers k d lt in omega arith));
     }
 
-all_groups : (priority : Priorities) (s : List ℕ) → All (λ b. b < 256) s → is_priority priority ≡ true → length priority.layers ≤ MAX_LAYERS → (groups : List (List Piece)) → All (StandsIn (length s)) groups
-    → All IsWithinBounds (tables_of priority (cuts_of priority groups)) → All (IsSessionGroup 2) (map (group_of priority s) (cuts_of priority groups))
+all_groups : (priority : Priorities) (s : List ℕ) → All (λ b. b < 256) s → is_priority priority ≡ true
+    → length priority.layers ≤ MAX_LAYERS → (groups : List (List Piece)) → All (StandsIn (length s)) groups
+    → All IsWithinBounds (tables_of priority (cuts_of priority groups))
+    → All (IsSessionGroup 2) (map (group_of priority s) (cuts_of priority groups))
 all_groups priority s small lawful few [] stand tables = All-nil (IsSessionGroup 2)
 all_groups priority s small lawful few (group ∷ groups) stand tables =
     let cut : Cut = cut_of (layer_of priority) (length priority.layers) group in
@@ -185,18 +204,22 @@ all_groups priority s small lawful few (group ∷ groups) stand tables =
       table = All-head IsWithinBounds (table_of priority cut) later tables;
       message = is_message priority s small lawful few group (All-head (StandsIn (length s)) group groups stand);
     })
-    (all_groups priority s small lawful few groups (All-tail (StandsIn (length s)) group groups stand) (All-tail IsWithinBounds (table_of priority cut) later tables))
+    (all_groups priority s small lawful few groups (All-tail (StandsIn (length s)) group groups stand)
+    (All-tail IsWithinBounds (table_of priority cut) later tables))
 
 -- ---- the session
 
 -- as many groups as the stream has
-groups_count : (priority stream : List ℕ) → length (session_of priority stream).groups ≡ length (groups_of (pieces_of stream))
+groups_count : (priority stream : List ℕ)
+    → length (session_of priority stream).groups ≡ length (groups_of (pieces_of stream))
 groups_count priority stream =
     let p : Priorities = priorities_of priority in
-    length-map (cuts_of_stream p stream) (group_of p stream) ∙ length-map (groups_of (pieces_of stream)) (cut_of (layer_of p) (length p.layers))
+    length-map (cuts_of_stream p stream) (group_of p stream)
+    ∙ length-map (groups_of (pieces_of stream)) (cut_of (layer_of p) (length p.layers))
 
 -- an accepted session of a stream of bytes is a session
-pub is_session : (priority stream : List ℕ) → All (λ b. b < 256) stream → IsAcceptedSession priority stream → IsSession 2 (session_of priority stream)
+pub is_session : (priority stream : List ℕ) → All (λ b. b < 256) stream → IsAcceptedSession priority stream
+    → IsSession 2 (session_of priority stream)
 is_session priority stream small is =
     let p : Priorities = priorities_of priority in
     let lawful = accepted_lawful priority is.priority_read in
@@ -209,24 +232,31 @@ is_session priority stream small is =
       bytes = number_bytes priority stream;
       some = omega arith;
       few = omega arith;
-      groups = all_groups p stream small lawful named.few (groups_of (pieces_of stream)) (groups_stand stream) (tables_stand p (pieces_of stream) lawful named.few is.fits);
+      groups =
+          all_groups p stream small lawful named.few (groups_of (pieces_of stream)) (groups_stand stream)
+          (tables_stand p (pieces_of stream) lawful named.few is.fits);
     }
 
 abbrev cost : SessionGroup → ℕ
 cost g = cost_of g.packets g.layers
 
-costs_are : (priority : Priorities) (s : List ℕ) (cuts : List Cut) → sum_by cost (map (group_of priority s) cuts) ≡ sum (map (cost_in priority) cuts)
+costs_are : (priority : Priorities) (s : List ℕ) (cuts : List Cut)
+    → sum_by cost (map (group_of priority s) cuts) ≡ sum (map (cost_in priority) cuts)
 costs_are priority s [] = refl
 costs_are priority s (cut ∷ cuts) =
     let later = costs_are priority s cuts in
-    let groups : sum_by cost (group_of priority s cut ∷ map (group_of priority s) cuts) ≡ cost_in priority cut + sum_by cost (map (group_of priority s) cuts) =
+    let groups : sum_by cost (group_of priority s cut ∷ map (group_of priority s) cuts)
+    ≡ cost_in priority cut + sum_by cost (map (group_of priority s) cuts) =
     sum_by-cons cost (group_of priority s cut) (map (group_of priority s) cuts) in
-    let costs : sum (cost_in priority cut ∷ map (cost_in priority) cuts) ≡ cost_in priority cut + sum (map (cost_in priority) cuts) =
+    let costs : sum (cost_in priority cut ∷ map (cost_in priority) cuts)
+    ≡ cost_in priority cut + sum (map (cost_in priority) cuts) =
     sum_by-cons (λ (n : ℕ). n) (cost_in priority cut) (map (cost_in priority) cuts) in
     groups ∙ ap (λ n. cost_in priority cut + n) later ∙ sym costs
 
 -- its packets have at most the bytes of a session
-pub session_fits : (priority stream : List ℕ) → IsAcceptedSession priority stream → Fits (session_of priority stream) MAX_SESSION
+pub session_fits : (priority stream : List ℕ) → IsAcceptedSession priority stream
+    → Fits (session_of priority stream) MAX_SESSION
 session_fits priority stream is =
     let p : Priorities = priorities_of priority in
-    subst (λ n. n ≤ MAX_SESSION) (sym (costs_are p stream (cuts_of_stream p stream))) (costs_fit p (pieces_of stream) is.fits)
+    subst (λ n. n ≤ MAX_SESSION) (sym (costs_are p stream (cuts_of_stream p stream)))
+    (costs_fit p (pieces_of stream) is.fits)

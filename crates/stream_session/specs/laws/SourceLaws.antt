@@ -1,6 +1,8 @@
--- What callers know of two files that are read for a session: at which of them a failure was, and what holds where they are told
+-- What callers know of two files that are read for a session: at which of them a failure was, and what holds where they
+-- are told
 -- and a session. This project's own.
-use Rattle.std.proofs.Common.{◌≡◌, ◌≢◌, ◌⊎◌, ℕ, ◌≤◌, Bool, false, List, [], ◌∷◌, Option, None, Some, refl, sym, subst, ◌∙◌, arith, inl, inr}
+use Rattle.std.proofs.Common.{◌≡◌, ◌≢◌, ◌⊎◌, ℕ, ◌≤◌, Bool, false, List, [], ◌∷◌, Option, None, Some, refl, sym, subst}
+use Rattle.std.proofs.Common.{◌∙◌, arith, inl, inr}
 use Rattle.std.specs.Prelude.{All, length, IsTrue}
 use Rattle.pet_base.specs.declared.limits.TheConstants.{MAX_GROUPS}
 use Rattle.pet_base.specs.Seen.{Seen, Files, Blame, HadFault}
@@ -21,14 +23,18 @@ use Rattle.stream_session.specs.declared.source.SourceFault.{SourceFault}
 use Rattle.stream_session.specs.declared.source.SourceFault.TheVariants as source
 use Rattle.stream_session.specs.Sessions.{HasSession, IsGiven, tables_in}
 
-pub either_file : (files : Option Files) (stream priority : List ℕ) (blame : Blame) → IsOfSource files stream priority blame → IsRead stream blame ⊎ IsRead priority blame
+pub either_file : (files : Option Files) (stream priority : List ℕ) (blame : Blame)
+    → IsOfSource files stream priority blame → IsRead stream blame ⊎ IsRead priority blame
 either_file files stream priority blame is = elim is [ inl rules ↦ inr rules | inr judged ↦ inl judged.0 ]
 
-pub failed_at_either : (files : Option Files) (stream priority : List ℕ) (old new : Seen) → HadFault old new (IsOfSource files stream priority) → HadFault old new (λ b. IsRead stream b ⊎ IsRead priority b)
-failed_at_either files stream priority old new had = HadFault-since old old new _ _ (omega arith) (either_file files stream priority) had
+pub failed_at_either : (files : Option Files) (stream priority : List ℕ) (old new : Seen)
+    → HadFault old new (IsOfSource files stream priority) → HadFault old new (λ b. IsRead stream b ⊎ IsRead priority b)
+failed_at_either files stream priority old new had =
+    HadFault-since old old new _ _ (omega arith) (either_file files stream priority) had
 
 -- the bytes of a file that is told
-pub file_is : (files : Option Files) (f : Files) (name bytes told : List ℕ) → files ≡ Some f → f name ≡ Some told → IsFile files name bytes → bytes ≡ told
+pub file_is : (files : Option Files) (f : Files) (name bytes told : List ℕ) → files ≡ Some f → f name ≡ Some told
+    → IsFile files name bytes → bytes ≡ told
 file_is files f name bytes told e there is =
     let known : f name ≡ Some bytes = subst (λ (o : Option Files). IsFile o name bytes) e is in
     same_bytes bytes told (sym known ∙ there)
@@ -51,21 +57,28 @@ module _ (old new : Seen) (stream priority p b : List ℕ) (given : IsGiven old 
   false_holds t is not = cc
 
   -- neither file is refused, nor the plan
-  pub none_refused : (fault : SourceFault) → fault ≢ source.NoMemory → fault ≢ source.Failed → IsSourceFault old new stream priority fault → ⊥
+  pub none_refused : (fault : SourceFault) → fault ≢ source.NoMemory → fault ≢ source.Failed
+      → IsSourceFault old new stream priority fault → ⊥
   none_refused source.NoMemory memory place is = memory refl
   none_refused source.Failed memory place is = place refl
   none_refused (source.Priority fault) memory place is =
-      none_some (refusal_of p) fault given.session.priority_read (subst (λ (f : List ℕ). refusal_of f ≡ Some fault) (priority_is is.0 is.1) is.2)
+      none_some (refusal_of p) fault given.session.priority_read
+      (subst (λ (f : List ℕ). refusal_of f ≡ Some fault) (priority_is is.0 is.1) is.2)
   none_refused (source.Stream scan) memory place is =
-      let refused : Refuses b scan = subst (λ (s : List ℕ). Refuses s scan) (stream_is is.bytes is.stream_is) is.holds in
+      let refused : Refuses b scan = subst (λ (s : List ℕ). Refuses s scan)
+      (stream_is is.bytes is.stream_is) is.holds in
       false_holds (holds b scan) refused.holding (given.session.stream_read scan)
   none_refused (source.Plan fault) memory place is =
-      let at_file = subst (λ (f : List ℕ). session_fault (priorities_of f) (pieces_of is.bytes) ≡ Some fault) (priority_is is.file is.priority_is) is.holds.2 in
-      let at_both : session_fault (priorities_of p) (pieces_of b) ≡ Some fault = subst (λ (s : List ℕ). session_fault (priorities_of p) (pieces_of s) ≡ Some fault) (stream_is is.bytes is.stream_is) at_file in
+      let at_file = subst (λ (f : List ℕ). session_fault (priorities_of f) (pieces_of is.bytes) ≡ Some fault)
+      (priority_is is.file is.priority_is) is.holds.2 in
+      let at_both : session_fault (priorities_of p) (pieces_of b) ≡ Some fault =
+      subst (λ (s : List ℕ). session_fault (priorities_of p) (pieces_of s) ≡ Some fault)
+      (stream_is is.bytes is.stream_is) at_file in
       none_some (session_fault (priorities_of p) (pieces_of b)) fault given.session.fits at_both
 
   -- no fault of a session holds of them, but that the place had one
-  pub no_fault : (fault : SourceFault) → fault ≢ source.NoMemory → (Failed (reading stream ∷ reading priority ∷ []) old new → ⊥) → IsSourceFault old new stream priority fault → ⊥
+  pub no_fault : (fault : SourceFault) → fault ≢ source.NoMemory
+      → (Failed (reading stream ∷ reading priority ∷ []) old new → ⊥) → IsSourceFault old new stream priority fault → ⊥
   no_fault source.NoMemory memory well is = memory refl
   no_fault source.Failed memory well is = well (failed_at_either old.files stream priority old new is)
   no_fault (source.Priority fault) memory well is = none_refused (source.Priority fault) memory (λ failed. cc) is
@@ -73,7 +86,8 @@ module _ (old new : Seen) (stream priority p b : List ℕ) (given : IsGiven old 
   no_fault (source.Plan fault) memory well is = none_refused (source.Plan fault) memory (λ failed. cc) is
 
 -- a session that was read
-abbrev pub session_in : (old : Seen) (stream priority : List ℕ) (source : Source) → IsSource old.files stream priority source → HasSession old stream priority
+abbrev pub session_in : (old : Seen) (stream priority : List ℕ) (source : Source)
+    → IsSource old.files stream priority source → HasSession old stream priority
 session_in old stream priority source is = record {
   priority_bytes = is.file;
   stream_bytes = is.bytes;
@@ -82,12 +96,16 @@ session_in old stream priority source is = record {
   session = is.accepted;
 }
 
-pub source_few : (files : Option Files) (stream priority : List ℕ) (source : Source) → IsSource files stream priority source → length source.tables.items ≤ MAX_GROUPS
+pub source_few : (files : Option Files) (stream priority : List ℕ) (source : Source)
+    → IsSource files stream priority source → length source.tables.items ≤ MAX_GROUPS
 source_few files stream priority source is =
-    subst (λ (ts : List Sizes). length ts ≤ MAX_GROUPS) (sym is.tables) (tables_few (priorities_of is.file) (pieces_of is.bytes) is.accepted.fits)
+    subst (λ (ts : List Sizes). length ts ≤ MAX_GROUPS) (sym is.tables)
+    (tables_few (priorities_of is.file) (pieces_of is.bytes) is.accepted.fits)
 
-pub source_layered : (files : Option Files) (stream priority : List ℕ) (source : Source) → IsSource files stream priority source
+pub source_layered : (files : Option Files) (stream priority : List ℕ) (source : Source)
+    → IsSource files stream priority source
     → All (λ t. length t.layers ≡ length source.priority.layers) source.tables.items
 source_layered files stream priority source is =
     subst (λ (ts : List Sizes). All (λ t. length t.layers ≡ length source.priority.layers) ts) (sym is.tables)
-    (subst (λ (r : Priorities). All (λ t. length t.layers ≡ length r.layers) (tables_in is.file is.bytes)) (sym is.rules) (tables_layered (priorities_of is.file) (groups_of (pieces_of is.bytes))))
+    (subst (λ (r : Priorities). All (λ t. length t.layers ≡ length r.layers) (tables_in is.file is.bytes))
+    (sym is.rules) (tables_layered (priorities_of is.file) (groups_of (pieces_of is.bytes))))

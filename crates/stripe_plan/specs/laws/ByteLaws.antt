@@ -1,5 +1,6 @@
 -- For callers: layers of twice the lengths, the layers whose words a plan cuts, and the tables of both.
-use Rattle.std.proofs.Common.{◌≡◌, ℕ, ◌*◌, ◌<◌, ◌≤◌, Bool, true, false, List, [], ◌∷◌, map, length, refl, subst, arith, All}
+use Rattle.std.proofs.Common.{◌≡◌, ℕ, ◌*◌, ◌<◌, ◌≤◌, Bool, true, false, List, [], ◌∷◌, map, length, refl, subst, arith}
+use Rattle.std.proofs.Common.{All}
 use Rattle.std.specs.Prelude.{if◌then◌else◌}
 use Rattle.std.proofs.lemmas.List.{length-map}
 use Rattle.std.proofs.lemmas.List.Elements.{All-head, All-tail, All-cons, All-nil}
@@ -8,7 +9,8 @@ use Rattle.pet_base.specs.declared.limits.TheConstants.{MAX_GROUP_BYTES, MAX_DAT
 use Rattle.stripe_plan.specs.declared.bounds.Bounds.{Bounds}
 use Rattle.stripe_plan.specs.declared.bounds.TheConstants.{BOUNDS, BYTE_BOUNDS}
 use Rattle.stripe_plan.specs.declared.layer.LayerSize.{LayerSize}
-use Rattle.stripe_plan.specs.Sizes.{AreBounds, ArePlanBounds, IsTableIn, IsTable, bytes_of, length_over, planned, twofold}
+use Rattle.stripe_plan.specs.Sizes.{AreBounds, ArePlanBounds, IsTableIn, IsTable, bytes_of, length_over, planned}
+use Rattle.stripe_plan.specs.Sizes.{twofold}
 
 -- layers of twice the lengths have twice as many bytes
 pub bytes_twofold : (layers : List LayerSize) → bytes_of (map twofold layers) ≡ 2 * bytes_of layers

@@ -13,7 +13,8 @@ use Rattle.stripe_plan.specs.Same.{same_layer, same_table}
 abbrev pub same_table_laws : IsEquivalence same_table
 same_table_laws =
     and_equiv (on_equiv (λ table. table.packets) nat_eq_equiv)
-    (on_equiv (λ table. table.layers) (lists_equiv (and_equiv (on_equiv (λ layer. layer.length) nat_eq_equiv) (on_equiv (λ layer. layer.need) nat_eq_equiv))))
+    (on_equiv (λ table. table.layers) (lists_equiv
+    (and_equiv (on_equiv (λ layer. layer.length) nat_eq_equiv) (on_equiv (λ layer. layer.need) nat_eq_equiv))))
 
 -- for callers: it tells exactly the same layers
 pub same_layer-Decides : (layer other : LayerSize) → Decides (same_layer layer other) (layer ≡ other)
@@ -27,7 +28,9 @@ pub same_table-exact : (table other : Sizes) → IsTrue (same_table table other)
 same_table-exact table other = (
   λ same.
       let packets : table.packets ≡ other.packets = grind (arith, same) in
-      let layers : table.layers ≡ other.layers = (slice_eq-Decides same_layer-Decides table.layers other.layers (pointwise same_layer table.layers other.layers) refl).0 (grind (arith, same)) in
+      let layers : table.layers ≡ other.layers =
+      (slice_eq-Decides same_layer-Decides table.layers other.layers
+      (pointwise same_layer table.layers other.layers) refl).0 (grind (arith, same)) in
       grind (arith, packets, layers),
   λ same. subst (λ t. IsTrue (same_table table t)) same (same_table_laws.refl table),
 )

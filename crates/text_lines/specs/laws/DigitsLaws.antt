@@ -1,5 +1,7 @@
--- What callers may cite of numbers in decimal digits (this project's own): what is printed of a number reads back as the number.
-use Rattle.std.proofs.Common.{◌≡◌, ℕ, ◌+◌, ◌-◌, ◌*◌, ◌^◌, ◌<◌, ◌≤◌, true, List, [], ◌∷◌, Some, decimal, refl, ap, ◌∙◌, arith}
+-- What callers may cite of numbers in decimal digits (this project's own): what is printed of a number reads back as
+-- the number.
+use Rattle.std.proofs.Common.{◌≡◌, ℕ, ◌+◌, ◌-◌, ◌*◌, ◌^◌, ◌<◌, ◌≤◌, true, List, [], ◌∷◌, Some, decimal, refl, ap, ◌∙◌}
+use Rattle.std.proofs.Common.{arith}
 use Rattle.std.specs.List.{list_all}
 use Rattle.std.specs.Char.{digit_value}
 use Rattle.std.specs.Str.Parse.{AllDigits, digits_value_after}
@@ -10,7 +12,8 @@ use Rattle.std.proofs.lemmas.Fmt.{decimal_is_IsNumeral}
 use Rattle.text_lines.specs.Digits.{is_digit, value_from, number_up_to}
 
 -- digits have one value
-value_same : (digits : List ℕ) (value : ℕ) → AllDigits 10 digits → value_from value digits ≡ digits_value_after 10 value digits
+value_same : (digits : List ℕ) (value : ℕ) → AllDigits 10 digits
+    → value_from value digits ≡ digits_value_after 10 value digits
 value_same [] value all = refl
 value_same (c ∷ digits) value all =
     let here = digit_value_digit c (digit_from_value c all.0) in

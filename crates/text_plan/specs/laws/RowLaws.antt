@@ -1,5 +1,7 @@
--- What callers may cite of rows of equal lengths (this project's own): they list the lengths again, and each can be read.
-use Rattle.std.proofs.Common.{◌≡◌, ℕ, suc, ◌+◌, ◌^◌, ◌<◌, ◌≤◌, List, [], ◌∷◌, ◌++◌, length, replicate, refl, ap, ◌∙◌, arith, inl, inr}
+-- What callers may cite of rows of equal lengths (this project's own): they list the lengths again, and each can be
+-- read.
+use Rattle.std.proofs.Common.{◌≡◌, ℕ, suc, ◌+◌, ◌^◌, ◌<◌, ◌≤◌, List, [], ◌∷◌, ◌++◌, length, replicate, refl, ap, ◌∙◌}
+use Rattle.std.proofs.Common.{arith, inl, inr}
 use Rattle.std.specs.Prelude.{◌==◌, ⊤}
 use Rattle.std.specs.List.{flat_map}
 use Rattle.std.proofs.lemmas.Bool.{cases_Bool, eqb-true, cond-true, cond-false, cond_both}
@@ -41,15 +43,18 @@ rows_more : (most : ℕ) (rows : List (ℕ × ℕ)) → RowsFit most rows → Ro
 rows_more most [] fit = tt
 rows_more most (row ∷ rows) fit = (fit.0, fit.1, fit.2, omega (arith, fit.3), rows_more most rows fit.4)
 
-with_length_fits : (size most : ℕ) (rows : List (ℕ × ℕ)) → 0 < size → size < 2 ^ 32 → RowsFit most rows → (0 < length (with_length size rows)) × RowsFit (suc most) (with_length size rows)
+with_length_fits : (size most : ℕ) (rows : List (ℕ × ℕ)) → 0 < size → size < 2 ^ 32 → RowsFit most rows
+    → (0 < length (with_length size rows)) × RowsFit (suc most) (with_length size rows)
 with_length_fits size most [] some small fit = (omega arith, (some, small, omega arith, omega arith, tt))
 with_length_fits size most (row ∷ rows) some small fit =
-    cond_both (size == row.0) ((size, row.1 + 1) ∷ rows) ((size, 1) ∷ row ∷ rows) (λ found. (0 < length found) × RowsFit (suc most) found)
+    cond_both (size == row.0) ((size, row.1 + 1) ∷ rows) ((size, 1) ∷ row ∷ rows)
+    (λ found. (0 < length found) × RowsFit (suc most) found)
     (λ same. (omega arith, (some, small, omega arith, omega (arith, fit.3), rows_more most rows fit.4)))
     (λ other. (omega arith, (some, small, omega arith, omega arith, rows_more most (row ∷ rows) fit)))
 
 -- there is a row, and each can be read
-pub rows_fit : (sizes : List ℕ) → AllFit sizes → (0 < length sizes → 0 < length (rows_of sizes)) × RowsFit (length sizes) (rows_of sizes)
+pub rows_fit : (sizes : List ℕ) → AllFit sizes
+    → (0 < length sizes → 0 < length (rows_of sizes)) × RowsFit (length sizes) (rows_of sizes)
 rows_fit [] fit = (λ some. absurd (omega arith), tt)
 rows_fit (size ∷ sizes) fit =
     let more = with_length_fits size (length sizes) (rows_of sizes) fit.0 fit.1 (rows_fit sizes fit.2).1 in

@@ -3,4 +3,5 @@ use Rattle.std.proofs.lemmas.List.Elements.{All-map}
 use Rattle.bench_rows.proofs.calls.add_fitting.Goals as goal
 
 pub add_products-requires-clause-factors : goal.add_products-requires-clause-factors
-add_products-requires-clause-factors g c = All-map (λ a. a < 65536) (λ p. p.factor) c.args.factors.now c.requires.factors
+add_products-requires-clause-factors g c =
+    All-map (λ a. a < 65536) (λ p. p.factor) c.args.factors.now c.requires.factors

@@ -4,7 +4,8 @@ use Rattle.command_plan.proofs.Starts.{row_more, stripe_within}
 use Rattle.command_plan.proofs.least.push_starts.Goals as goal
 
 pub overflow_add-at : goal.overflow_add-at
-overflow_add-at c = omega (arith, stripe_within c.loop.counter c.args.repeat.now.times c.args.repeat.now.length c.loop-test.true)
+overflow_add-at c =
+    omega (arith, stripe_within c.loop.counter c.args.repeat.now.times c.args.repeat.now.length c.loop-test.true)
 
 pub loop-preserved : goal.loop-preserved
 loop-preserved c =
@@ -24,4 +25,5 @@ loop-preserved c =
 pub returns : goal.returns
 returns c =
     let all : c.loop.counter ≡ c.args.repeat.now.times = omega arith in
-    c.loop.invariant.starts ∙ ap (λ n. c.args.starts.now.items ++ starts_by c.args.first (replicate n c.args.repeat.now.length)) all
+    c.loop.invariant.starts
+    ∙ ap (λ n. c.args.starts.now.items ++ starts_by c.args.first (replicate n c.args.repeat.now.length)) all

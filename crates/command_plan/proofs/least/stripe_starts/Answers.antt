@@ -10,13 +10,28 @@ pub loop-repeat-init : goal.loop-repeat-init
 loop-repeat-init c = record { at = refl; starts = c.new-starts.ensures.items }
 
 pub push_starts-requires : goal.push_starts-requires
-push_starts-requires c = omega (arith, row_within c.args.repeats.now c.loop-repeat.repeat-index (record { length = 0; times = 0 }) c.loop-repeat-test.true)
+push_starts-requires c =
+    omega (
+      arith,
+      row_within c.args.repeats.now c.loop-repeat.repeat-index
+          (record { length = 0; times = 0 }) c.loop-repeat-test.true,
+    )
 
 pub overflow_mul-at : goal.overflow_mul-at
-overflow_mul-at c = omega (arith, row_within c.args.repeats.now c.loop-repeat.repeat-index (record { length = 0; times = 0 }) c.loop-repeat-test.true)
+overflow_mul-at c =
+    omega (
+      arith,
+      row_within c.args.repeats.now c.loop-repeat.repeat-index
+          (record { length = 0; times = 0 }) c.loop-repeat-test.true,
+    )
 
 pub overflow_add-at : goal.overflow_add-at
-overflow_add-at c = omega (arith, row_within c.args.repeats.now c.loop-repeat.repeat-index (record { length = 0; times = 0 }) c.loop-repeat-test.true)
+overflow_add-at c =
+    omega (
+      arith,
+      row_within c.args.repeats.now c.loop-repeat.repeat-index
+          (record { length = 0; times = 0 }) c.loop-repeat-test.true,
+    )
 
 pub loop-repeat-preserved : goal.loop-repeat-preserved
 loop-repeat-preserved c =
@@ -25,15 +40,23 @@ loop-repeat-preserved c =
     let d : Repeat = record { length = 0; times = 0 } in
     let row = replicate (get_or repeats i d).times (get_or repeats i d).length in
     record {
-      at = omega (arith, c.loop-repeat.invariant.at, sum_by_more (λ (r : Repeat). r.times * r.length) repeats i d c.loop-repeat-test.true);
+      at =
+          omega (
+            arith,
+            c.loop-repeat.invariant.at,
+            sum_by_more (λ (r : Repeat). r.times * r.length) repeats i d c.loop-repeat-test.true,
+          );
       starts =
-          c.in_ok-push_starts.ensures ∙ ap (λ (l : List ℕ). l ++ starts_by c.loop-repeat.at row) c.loop-repeat.invariant.starts
+          c.in_ok-push_starts.ensures
+          ∙ ap (λ (l : List ℕ). l ++ starts_by c.loop-repeat.at row) c.loop-repeat.invariant.starts
           ∙ ap (λ (n : ℕ). starts_by 0 (lengths_in (take i repeats)) ++ starts_by n row) c.loop-repeat.invariant.at
           ∙ sym (starts_more repeats i d c.loop-repeat-test.true);
     }
 
 pub returns-clause-starts : goal.returns-clause-starts
-returns-clause-starts c = c.loop-repeat.invariant.starts ∙ ap (λ l. starts_by 0 (lengths_in l)) (take_all c.loop-repeat.repeat-index c.args.repeats.now (omega arith))
+returns-clause-starts c =
+    c.loop-repeat.invariant.starts
+    ∙ ap (λ l. starts_by 0 (lengths_in l)) (take_all c.loop-repeat.repeat-index c.args.repeats.now (omega arith))
 
 pub returns-clause-few : goal.returns-clause-few
 returns-clause-few c =

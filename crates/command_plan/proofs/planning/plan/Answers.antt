@@ -12,12 +12,17 @@ returns-in-Ok-clause-completes g c = plans_session c.args.stream.now c.args.prio
 pub returns-in-Err-clause-plans : goal.returns-in-Err-clause-plans
 returns-in-Err-clause-plans g c = record {
   files = c.text_of_files.ensures.files;
-  ends = subst (PlanEnds c.args.stream.now c.args.priority.now _ _) (sym c.from.ensures) (plan_refused c.args.stream.now c.args.priority.now _ _ c.in-Err.fault c.in-Err.ensures.cause);
+  ends =
+      subst (PlanEnds c.args.stream.now c.args.priority.now _ _) (sym c.from.ensures)
+      (plan_refused c.args.stream.now c.args.priority.now _ _ c.in-Err.fault c.in-Err.ensures.cause);
 }
 
 pub returns-in-Err-clause-completes : goal.returns-in-Err-clause-completes
-returns-in-Err-clause-completes g c = plans_session c.args.stream.now c.args.priority.now _ _ _ (returns-in-Err-clause-plans g c).ends
+returns-in-Err-clause-completes g c =
+    plans_session c.args.stream.now c.args.priority.now _ _ _ (returns-in-Err-clause-plans g c).ends
 
 pub returns-in-Err-clause-once : goal.returns-in-Err-clause-once
 returns-in-Err-clause-once g c =
-    subst (λ (failed : Bool). PlaceStops failed (g.P.Place.seen c.args.place.now) (g.P.Place.seen c.text_of_files.new.place)) (failed_alike c.in-Err.fault ∙ ap plan_failed (sym c.from.ensures)) c.in-Err.ensures.once
+    subst (λ (failed : Bool). PlaceStops failed (g.P.Place.seen c.args.place.now)
+    (g.P.Place.seen c.text_of_files.new.place))
+    (failed_alike c.in-Err.fault ∙ ap plan_failed (sym c.from.ensures)) c.in-Err.ensures.once

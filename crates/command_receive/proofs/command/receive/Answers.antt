@@ -16,16 +16,22 @@ pub returns-in-Ok-clause-receives : goal.returns-in-Ok-clause-receives
 returns-in-Ok-clause-receives g c =
     let done = c.in-Ok.ensures.done in
     let between = c.read_all.new.outside in
-    let after = outside_seen g.P.Place g.K.Link g.S.Sink between.place.now between.link.now c.print_numbers.new.out between.steps.now in
-    receives_all (way_of c.args.from) c.args.session c.args.layers.now c.args.store.now (seen c.args.outside.now) (seen between) after done.0 c.in-Ok.totals done.1 refl refl refl done.2 c.read_all.ensures.link c.in-Ok.ensures.listens c.read_all.ensures.later
+    let after = outside_seen g.P.Place g.K.Link g.S.Sink between.place.now between.link.now c.print_numbers.new.out
+    between.steps.now in
+    receives_all (way_of c.args.from) c.args.session c.args.layers.now c.args.store.now (seen c.args.outside.now)
+    (seen between) after done.0 c.in-Ok.totals done.1 refl refl refl done.2 c.read_all.ensures.link
+    c.in-Ok.ensures.listens c.read_all.ensures.later
     c.print_numbers.ensures.later c.print_numbers.result c.print_numbers.ensures.ends
 
 pub returns-in-Ok-clause-completes : goal.returns-in-Ok-clause-completes
-returns-in-Ok-clause-completes g c = completes_receive (way_of c.args.from) c.args.session c.args.layers.now c.args.store.now _ _ c.print_numbers.result (returns-in-Ok-clause-receives g c)
+returns-in-Ok-clause-completes g c =
+    completes_receive (way_of c.args.from) c.args.session c.args.layers.now c.args.store.now _ _ c.print_numbers.result
+    (returns-in-Ok-clause-receives g c)
 
 pub returns-in-Ok-clause-named : goal.returns-in-Ok-clause-named
 returns-in-Ok-clause-named g c =
-    names_what_it_stores (way_of c.args.from) c.args.session c.args.layers.now c.args.store.now _ _ c.print_numbers.result (returns-in-Ok-clause-receives g c).ends
+    names_what_it_stores (way_of c.args.from) c.args.session c.args.layers.now c.args.store.now _ _
+    c.print_numbers.result (returns-in-Ok-clause-receives g c).ends
 
 pub returns-in-Err-clause-receives : goal.returns-in-Err-clause-receives
 returns-in-Err-clause-receives g c =
@@ -41,24 +47,33 @@ returns-in-Err-clause-receives g c =
     })
 
 pub returns-in-Err-clause-completes : goal.returns-in-Err-clause-completes
-returns-in-Err-clause-completes g c = completes_receive (way_of c.args.from) c.args.session c.args.layers.now c.args.store.now _ _ c.stopped.result (returns-in-Err-clause-receives g c)
+returns-in-Err-clause-completes g c =
+    completes_receive (way_of c.args.from) c.args.session c.args.layers.now c.args.store.now _ _ c.stopped.result
+    (returns-in-Err-clause-receives g c)
 
 pub returns-in-Err-clause-named : goal.returns-in-Err-clause-named
 returns-in-Err-clause-named g c =
-    names_what_it_stores (way_of c.args.from) c.args.session c.args.layers.now c.args.store.now _ _ c.stopped.result (returns-in-Err-clause-receives g c).ends
+    names_what_it_stores (way_of c.args.from) c.args.session c.args.layers.now c.args.store.now _ _ c.stopped.result
+    (returns-in-Err-clause-receives g c).ends
 
 pub returns-in-Ok-clause-once_place : goal.returns-in-Ok-clause-once_place
 returns-in-Ok-clause-once_place g c =
-    subst (λ (failed : Bool). PlaceStops failed (seen c.args.outside.now).place (seen c.read_all.new.outside).place) (sym (line_calm c.in-Ok.totals _ _ _ _ c.print_numbers.result c.print_numbers.ensures.ends).0) c.in-Ok.ensures.once_place
+    subst (λ (failed : Bool). PlaceStops failed (seen c.args.outside.now).place (seen c.read_all.new.outside).place)
+    (sym (line_calm c.in-Ok.totals _ _ _ _ c.print_numbers.result c.print_numbers.ensures.ends).0)
+    c.in-Ok.ensures.once_place
 
 pub returns-in-Ok-clause-once_link : goal.returns-in-Ok-clause-once_link
 returns-in-Ok-clause-once_link g c =
-    subst (λ (failed : Bool). LinkStops failed (seen c.args.outside.now).link (seen c.read_all.new.outside).link) (sym (line_calm c.in-Ok.totals _ _ _ _ c.print_numbers.result c.print_numbers.ensures.ends).1) c.in-Ok.ensures.once_link
+    subst (λ (failed : Bool). LinkStops failed (seen c.args.outside.now).link (seen c.read_all.new.outside).link)
+    (sym (line_calm c.in-Ok.totals _ _ _ _ c.print_numbers.result c.print_numbers.ensures.ends).1)
+    c.in-Ok.ensures.once_link
 
 pub returns-in-Err-clause-once_place : goal.returns-in-Err-clause-once_place
 returns-in-Err-clause-once_place g c =
-    subst (λ (failed : Bool). PlaceStops failed (seen c.args.outside.now).place (seen c.read_all.new.outside).place) (place_alike c.in-Err.stop ∙ ap end_of_place (sym c.stopped.ensures)) c.in-Err.ensures.once_place
+    subst (λ (failed : Bool). PlaceStops failed (seen c.args.outside.now).place (seen c.read_all.new.outside).place)
+    (place_alike c.in-Err.stop ∙ ap end_of_place (sym c.stopped.ensures)) c.in-Err.ensures.once_place
 
 pub returns-in-Err-clause-once_link : goal.returns-in-Err-clause-once_link
 returns-in-Err-clause-once_link g c =
-    subst (λ (failed : Bool). LinkStops failed (seen c.args.outside.now).link (seen c.read_all.new.outside).link) (link_alike c.in-Err.stop ∙ ap end_of_link (sym c.stopped.ensures)) c.in-Err.ensures.once_link
+    subst (λ (failed : Bool). LinkStops failed (seen c.args.outside.now).link (seen c.read_all.new.outside).link)
+    (link_alike c.in-Err.stop ∙ ap end_of_link (sym c.stopped.ensures)) c.in-Err.ensures.once_link

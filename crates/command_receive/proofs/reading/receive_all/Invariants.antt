@@ -4,12 +4,14 @@ use Rattle.outside_routes.specs.Way.{way_of}
 use Rattle.outside_routes.specs.Coming.{coming, HasInput}
 use Rattle.pet_receive.specs.Arrivals.{kept_set}
 use Rattle.packet_verdicts.specs.KeptSet.{IsKeptSet}
-use Rattle.command_receive.specs.SoFar.{SoFar, LinkReceives}
+use Rattle.command_receive.specs.inside.SoFar.{SoFar, LinkReceives}
 use Rattle.command_receive.proofs.reading.receive_all.Given as goal
 
 abbrev pub invariant-loop-turn : goal.invariant-loop-turn
 invariant-loop-turn g l = record {
-  so_far : SoFar (kept_set l.initial.receiver) l.turn (g.P.Place.seen l.initial.place) (g.P.Place.seen l.place) (coming (way_of l.from) (g.P.Place.seen l.initial.place) (g.K.Link.seen l.initial.link)) (coming (way_of l.from) (g.P.Place.seen l.place) (g.K.Link.seen l.link)) l.receiver l.initial.steps l.steps;
+  so_far : SoFar (kept_set l.initial.receiver) l.turn (g.P.Place.seen l.initial.place) (g.P.Place.seen l.place)
+      (coming (way_of l.from) (g.P.Place.seen l.initial.place) (g.K.Link.seen l.initial.link))
+      (coming (way_of l.from) (g.P.Place.seen l.place) (g.K.Link.seen l.link)) l.receiver l.initial.steps l.steps;
   sound : IsKeptSet (kept_set l.receiver);
   input : HasInput (way_of l.from) (g.P.Place.seen l.place);
   calm_place : (g.P.Place.seen l.place).faults ≡ (g.P.Place.seen l.initial.place).faults;

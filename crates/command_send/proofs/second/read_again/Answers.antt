@@ -12,7 +12,10 @@ pub returns-in_err-count-clause-part : goal.returns-in_err-count-clause-part
 returns-in_err-count-clause-part g c =
     let i = c.loop-read.invariant in
     on_any_err c.from_residual.result
-    (part_taken (way_of c.args.found.now.to) c.args.found.now.source c.args.found.now.marks.items i.stream c.loop-read.pass.change c.loop-read.pass.groups (routes g.P.Place g.K.Link c.args.place.now c.args.link.now) (routes g.P.Place g.K.Link c.loop-read.place c.loop-read.link) (routes g.P.Place g.K.Link c.take_portion.new.place c.loop-read.link)
+    (part_taken (way_of c.args.found.now.to) c.args.found.now.source c.args.found.now.marks.items i.stream
+    c.loop-read.pass.change c.loop-read.pass.groups (routes g.P.Place g.K.Link c.args.place.now c.args.link.now)
+    (routes g.P.Place g.K.Link c.loop-read.place c.loop-read.link)
+    (routes g.P.Place g.K.Link c.take_portion.new.place c.loop-read.link)
     i.rest c.take_portion.ensures.others refl i.stands)
 
 pub returns-then-count-eq0-clause-stands : goal.returns-then-count-eq0-clause-stands
@@ -20,8 +23,14 @@ returns-then-count-eq0-clause-stands g c =
     let seen = g.P.Place.seen in
     let i = c.loop-read.invariant in (
       i.stream,
-      taken_end i.stream c.take_portion.new.buffer c.in_ok-count.count (seen c.args.place.now) (seen c.loop-read.place) (seen c.take_portion.new.place) i.rest i.few c.in_ok-count.ensures.taken c.if-count-eq0.true c.in_ok-count.ensures.end,
-      stands_read (way_of c.args.found.now.to) c.args.found.now.source c.args.found.now.marks.items i.stream c.loop-read.pass.change c.loop-read.pass.groups (routes g.P.Place g.K.Link c.args.place.now c.args.link.now) (routes g.P.Place g.K.Link c.loop-read.place c.loop-read.link) (routes g.P.Place g.K.Link c.take_portion.new.place c.loop-read.link) c.take_portion.ensures.others refl i.stands,
+      taken_end i.stream c.take_portion.new.buffer c.in_ok-count.count (seen c.args.place.now) (seen c.loop-read.place)
+          (seen c.take_portion.new.place) i.rest i.few c.in_ok-count.ensures.taken c.if-count-eq0.true
+          c.in_ok-count.ensures.end,
+      stands_read (way_of c.args.found.now.to) c.args.found.now.source c.args.found.now.marks.items i.stream
+          c.loop-read.pass.change c.loop-read.pass.groups (routes g.P.Place g.K.Link c.args.place.now c.args.link.now)
+          (routes g.P.Place g.K.Link c.loop-read.place c.loop-read.link)
+          (routes g.P.Place g.K.Link c.take_portion.new.place c.loop-read.link) c.take_portion.ensures.others refl
+          i.stands,
     )
 
 pub feed-requires-clause-open : goal.feed-requires-clause-open
@@ -29,19 +38,29 @@ feed-requires-clause-open g c =
     let first = routes g.P.Place g.K.Link c.args.place.now c.args.link.now in
     let before = routes g.P.Place g.K.Link c.loop-read.place c.loop-read.link in
     let after = routes g.P.Place g.K.Link c.take_portion.new.place c.loop-read.link in
-    passes_open (way_of c.args.found.now.to) first after (passes_then first before after c.loop-read.invariant.others (passes_reads before after c.take_portion.ensures.others refl c.take_portion.ensures.cause.later)) c.requires.open
+    passes_open (way_of c.args.found.now.to) first after
+    (passes_then first before after c.loop-read.invariant.others
+    (passes_reads before after c.take_portion.ensures.others refl c.take_portion.ensures.cause.later)) c.requires.open
 
 pub feed-requires-clause-known : goal.feed-requires-clause-known
 feed-requires-clause-known g c =
-    stands_known (way_of c.args.found.now.to) c.args.found.now.source c.args.found.now.marks.items c.loop-read.invariant.stream c.loop-read.pass.change c.loop-read.pass.groups (routes g.P.Place g.K.Link c.args.place.now c.args.link.now) (routes g.P.Place g.K.Link c.loop-read.place c.loop-read.link) c.loop-read.invariant.stands
+    stands_known (way_of c.args.found.now.to) c.args.found.now.source c.args.found.now.marks.items
+    c.loop-read.invariant.stream c.loop-read.pass.change c.loop-read.pass.groups
+    (routes g.P.Place g.K.Link c.args.place.now c.args.link.now)
+    (routes g.P.Place g.K.Link c.loop-read.place c.loop-read.link) c.loop-read.invariant.stands
 
 pub returns-in_err-feed-clause-part : goal.returns-in_err-feed-clause-part
 returns-in_err-feed-clause-part g c =
     let i = c.loop-read.invariant in
     let first = routes g.P.Place g.K.Link c.args.place.now c.args.link.now in
     on_any_err c.from_residual-in_err-feed.result
-    (part_fed (way_of c.args.found.now.to) c.args.found.now.source c.args.found.now.marks.items i.stream (take c.in_ok-count.count c.take_portion.new.buffer) c.loop-read.pass.change c.loop-read.pass.groups first (routes g.P.Place g.K.Link c.loop-read.place c.loop-read.link) (routes g.P.Place g.K.Link c.take_portion.new.place c.loop-read.link) (routes g.P.Place g.K.Link c.feed.new.place c.feed.new.link)
-    i.rest c.in_ok-count.ensures.taken c.take_portion.ensures.others refl i.stands (c.in_err-feed.ensures.part i.stream first))
+    (part_fed (way_of c.args.found.now.to) c.args.found.now.source c.args.found.now.marks.items i.stream
+    (take c.in_ok-count.count c.take_portion.new.buffer) c.loop-read.pass.change c.loop-read.pass.groups first
+    (routes g.P.Place g.K.Link c.loop-read.place c.loop-read.link)
+    (routes g.P.Place g.K.Link c.take_portion.new.place c.loop-read.link)
+    (routes g.P.Place g.K.Link c.feed.new.place c.feed.new.link)
+    i.rest c.in_ok-count.ensures.taken c.take_portion.ensures.others refl i.stands
+    (c.in_err-feed.ensures.part i.stream first))
 
 pub loop-read-preserved : goal.loop-read-preserved
 loop-read-preserved g c =
@@ -54,14 +73,24 @@ loop-read-preserved g c =
     let now = routes g.P.Place g.K.Link c.feed.new.place c.feed.new.link in
     let n = c.in_ok-count.count in
     let portion = take n c.take_portion.new.buffer in
-    let len : length portion ≡ n = length-take-le n c.take_portion.new.buffer (omega (arith, c.in_ok-count.ensures.bound)) in
+    let len : length portion
+    ≡ n = length-take-le n c.take_portion.new.buffer (omega (arith, c.in_ok-count.ensures.bound)) in
     record {
       stream = i.stream ++ portion;
       count = omega (arith, length-append i.stream portion, len, i.count);
-      rest = rest_more i.stream portion first.place.rest before.place.rest now.place.rest i.rest (rw c.feed.ensures.others.place.rest c.in_ok-count.ensures.taken);
-      few = omega (arith, length-append i.stream portion, len, i.count, c.loop-read-test.true, c.in_ok-count.ensures.few);
-      stands = c.in_ok-feed.ensures.stands i.stream first (stands_read (way_of c.args.found.now.to) source marks i.stream c.loop-read.pass.change c.loop-read.pass.groups first before after c.take_portion.ensures.others refl i.stands);
-      others = passes_then first after now (passes_then first before after i.others (passes_reads before after c.take_portion.ensures.others refl c.take_portion.ensures.cause.later)) (passes_grows after now c.feed.ensures.others);
+      rest =
+          rest_more i.stream portion first.place.rest before.place.rest now.place.rest i.rest
+          (rw c.feed.ensures.others.place.rest c.in_ok-count.ensures.taken);
+      few =
+          omega (arith, length-append i.stream portion, len, i.count, c.loop-read-test.true, c.in_ok-count.ensures.few);
+      stands =
+          c.in_ok-feed.ensures.stands i.stream first
+          (stands_read (way_of c.args.found.now.to) source marks i.stream c.loop-read.pass.change
+          c.loop-read.pass.groups first before after c.take_portion.ensures.others refl i.stands);
+      others =
+          passes_then first after now (passes_then first before after i.others
+          (passes_reads before after c.take_portion.ensures.others refl c.take_portion.ensures.cause.later))
+          (passes_grows after now c.feed.ensures.others);
       calm_place = c.in_ok-feed.ensures.once_place ∙ c.in_ok-count.ensures.once ∙ i.calm_place;
       calm_link = c.in_ok-feed.ensures.once_link ∙ i.calm_link;
       left = omega (arith, i.left, c.in_ok-feed.ensures.left);

@@ -17,12 +17,14 @@ returns-in-NoMemory-clause-part g c stream first h =
     let source = c.args.found.now.source in
     let marks = c.args.found.now.marks.items in
     let now = routes g.P.Place g.K.Link c.args.place.now c.args.link.now in
-    part_found (way_of c.args.found.now.to) source marks stream first now (part_gone (way_of c.args.found.now.to) source marks stream c.args.groups.now first now h)
+    part_found (way_of c.args.found.now.to) source marks stream first now
+    (part_gone (way_of c.args.found.now.to) source marks stream c.args.groups.now first now h)
 
 pub send_left-requires-clause-whole : goal.send_left-requires-clause-whole
 send_left-requires-clause-whole g c =
     let priority = c.args.found.now.source.priority in
-    left_all (IsWhole (length priority.layers)) priority c.args.groups.now.cutter c.in-Ok.left.items c.deref.result.now (groups_whole priority)
+    left_all (IsWhole (length priority.layers)) priority c.args.groups.now.cutter c.in-Ok.left.items c.deref.result.now
+    (groups_whole priority)
     c.requires.known c.in-Ok.ensures.whole c.deref.ensures.value
 
 pub send_left-requires-clause-filled : goal.send_left-requires-clause-filled
@@ -38,7 +40,9 @@ returns-in-Ok-clause-all g c =
     IfOk-weaker c.send_left.result _ _
     (λ after h stream first gone none.
     let all = whole source.priority stream gone.groups gone.cut in
-    h stream first gone.groups gone.number (subst (λ (l : List CutGroup). AreAll source.priority stream (gone.groups ++ l)) (sym c.deref.ensures.value) all) gone.sent)
+    h stream first gone.groups gone.number (subst
+    (λ (l : List CutGroup). AreAll source.priority stream (gone.groups ++ l)) (sym c.deref.ensures.value) all)
+    gone.sent)
     c.send_left.ensures.all
 
 pub returns-in-Ok-clause-part : goal.returns-in-Ok-clause-part
@@ -48,7 +52,9 @@ returns-in-Ok-clause-part g c =
     on_err_weaker c.send_left.result
     (λ h stream first gone.
     let all = whole source.priority stream gone.groups gone.cut in
-    h stream first gone.groups gone.number (subst (λ (l : List CutGroup). AreAll source.priority stream (gone.groups ++ l)) (sym c.deref.ensures.value) all) gone.sent)
+    h stream first gone.groups gone.number (subst
+    (λ (l : List CutGroup). AreAll source.priority stream (gone.groups ++ l)) (sym c.deref.ensures.value) all)
+    gone.sent)
     c.send_left.ensures.part
 
 pub returns-in_default-clause-all : goal.returns-in_default-clause-all
@@ -56,8 +62,11 @@ returns-in_default-clause-all g c stream first gone none =
     let source = c.args.found.now.source in
     let marks = c.args.found.now.marks.items in
     let now = routes g.P.Place g.K.Link c.args.place.now c.args.link.now in
-    ends_lost (way_of c.args.found.now.to) source marks stream gone.groups c.args.groups.now.sent first now c.first_lost.result gone.number gone.sent
-    (all_refused source.priority stream gone.groups (given_ended c.args.groups.now.cutter source.priority stream gone.groups gone.cut)
-    (fault_refuses source.priority stream c.in-Err.fault c.in_default.not-NoMemory (c.in-Err.ensures.refused source.priority stream gone.groups gone.cut))
+    ends_lost (way_of c.args.found.now.to) source marks stream gone.groups c.args.groups.now.sent first now
+    c.first_lost.result gone.number gone.sent
+    (all_refused source.priority stream gone.groups
+    (given_ended c.args.groups.now.cutter source.priority stream gone.groups gone.cut)
+    (fault_refuses source.priority stream c.in-Err.fault c.in_default.not-NoMemory
+    (c.in-Err.ensures.refused source.priority stream gone.groups gone.cut))
     (c.in-Err.ensures.further source.priority stream gone.groups gone.cut none))
     c.first_lost.ensures.lost c.first_lost.ensures.none

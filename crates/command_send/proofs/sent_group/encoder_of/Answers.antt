@@ -13,19 +13,27 @@ message_of-requires c = record { whole = (length c.args.found.now.source.priorit
 pub new-requires-clause-message : goal.new-requires-clause-message
 new-requires-clause-message c =
     let g = c.args.group.now in
-    let bytes : c.deref.result.now ≡ message g.bytes g.cut.runs (length g.cut.lengths) = c.deref.ensures.value ∙ c.in_ok-bytes.ensures in
+    let bytes : c.deref.result.now ≡ message g.bytes g.cut.runs (length g.cut.lengths) =
+    c.deref.ensures.value ∙ c.in_ok-bytes.ensures in
     let table : c.in_ok-clone.field-0 ≡ table_of c.args.found.now.source.priority g.cut =
-    ok_same c.in_ok-clone.field-0 c.index.result.now c.clone.result c.in_ok-clone.was c.clone.ensures ∙ c.index.ensures ∙ there_at c.args.found.now.source.tables.items c.args.number _ _ c.requires.there in
-    ap length bytes ∙ message_words c.args.found.now.source.priority g c.requires.whole ∙ ap (λ (t : Sizes). length (needs_of t.layers) * 2) (sym table)
+    ok_same c.in_ok-clone.field-0 c.index.result.now c.clone.result c.in_ok-clone.was c.clone.ensures ∙ c.index.ensures
+    ∙ there_at c.args.found.now.source.tables.items c.args.number _ _ c.requires.there in
+    ap length bytes ∙ message_words c.args.found.now.source.priority g c.requires.whole
+    ∙ ap (λ (t : Sizes). length (needs_of t.layers) * 2) (sym table)
 
 pub returns : goal.returns
 returns c =
     let g = c.args.group.now in
     let source = c.args.found.now.source in
-    let bytes : c.deref.result.now ≡ message g.bytes g.cut.runs (length g.cut.lengths) = c.deref.ensures.value ∙ c.in_ok-bytes.ensures in
+    let bytes : c.deref.result.now ≡ message g.bytes g.cut.runs (length g.cut.lengths) =
+    c.deref.ensures.value ∙ c.in_ok-bytes.ensures in
     let table : c.in_ok-clone.field-0 ≡ table_of source.priority g.cut =
-    ok_same c.in_ok-clone.field-0 c.index.result.now c.clone.result c.in_ok-clone.was c.clone.ensures ∙ c.index.ensures ∙ there_at source.tables.items c.args.number _ _ c.requires.there in
+    ok_same c.in_ok-clone.field-0 c.index.result.now c.clone.result c.in_ok-clone.was c.clone.ensures ∙ c.index.ensures
+    ∙ there_at source.tables.items c.args.number _ _ c.requires.there in
     let many : c.len.result ≡ length source.tables.items = search rules in
-    encoder_is c.new.result source c.args.number g (head source.number c.len.result c.args.number c.in_ok-clone.field-0) c.deref.result.now c.new.ensures.header c.new.ensures.message
-    (header_is source.number c.len.result (length source.tables.items) c.args.number c.in_ok-clone.field-0 (table_of source.priority g.cut) many table)
+    encoder_is c.new.result source c.args.number g
+    (head source.number c.len.result c.args.number c.in_ok-clone.field-0) c.deref.result.now c.new.ensures.header
+    c.new.ensures.message
+    (header_is source.number c.len.result (length source.tables.items) c.args.number c.in_ok-clone.field-0
+    (table_of source.priority g.cut) many table)
     (bytes ∙ ap (λ k. message g.bytes g.cut.runs k) c.requires.whole.count)

@@ -7,5 +7,6 @@ pub returns : goal.returns
 returns c =
     let runs = c.group.inside.cut.runs in
     let n = length c.group.inside.cut.lengths in
-    c.in_ok-message.ensures.ok ∙ ap (λ l. l ++ message c.deref.result.now runs n) c.new-bytes.ensures.items ∙ ap (λ b. message b runs n) c.deref.ensures.value
+    c.in_ok-message.ensures.ok ∙ ap (λ l. l ++ message c.deref.result.now runs n) c.new-bytes.ensures.items
+    ∙ ap (λ b. message b runs n) c.deref.ensures.value
     ∙ ap (λ (x : CutGroup). message x.bytes x.cut.runs (length x.cut.lengths)) c.group.view_is

@@ -12,8 +12,15 @@ use Rattle.command_send.proofs.sent_group.put_packets.Goals as goal
 
 pub returns-in_err-encoder-clause-part : goal.returns-in_err-encoder-clause-part
 returns-in_err-encoder-clause-part g c =
-    on_any_err c.from_residual.result (part_nothing (way_of c.args.found.now.to) (group_datagrams (encoding_of c.args.found.now.source c.args.number c.args.group.now)) (routes g.P.Place g.K.Link c.args.place.now c.args.link.now) (routes g.P.Place g.K.Link c.args.place.now c.args.link.now) refl refl)
+    on_any_err c.from_residual.result (part_nothing (way_of c.args.found.now.to)
+    (group_datagrams (encoding_of c.args.found.now.source c.args.number c.args.group.now))
+    (routes g.P.Place g.K.Link c.args.place.now c.args.link.now)
+    (routes g.P.Place g.K.Link c.args.place.now c.args.link.now) refl refl)
 
 pub returns-clause-part : goal.returns-clause-part
 returns-clause-part g c =
-    subst (λ (e : Encoding). OnErr c.put_group.result (SendsPart (way_of c.args.found.now.to) (group_datagrams e) (routes g.P.Place g.K.Link c.args.place.now c.args.link.now) (routes g.P.Place g.K.Link c.put_group.new.place c.put_group.new.link))) c.in_ok-encoder.ensures c.put_group.ensures.part
+    subst (λ (e : Encoding). OnErr c.put_group.result
+    (SendsPart (way_of c.args.found.now.to) (group_datagrams e)
+    (routes g.P.Place g.K.Link c.args.place.now c.args.link.now)
+    (routes g.P.Place g.K.Link c.put_group.new.place c.put_group.new.link))) c.in_ok-encoder.ensures
+    c.put_group.ensures.part

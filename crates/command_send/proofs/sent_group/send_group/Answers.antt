@@ -15,11 +15,19 @@ pub returns-then-not-has_table-clause-sends : goal.returns-then-not-has_table-cl
 returns-then-not-has_table-clause-sends g c =
     let group = c.args.group.now in
     let same : c.first_mark-first.result ≡ c.of-second.result = search rules in
-    let second : c.of-second.result ≡ mark_of group.bytes = c.of-second.ensures ∙ ap mark_of (c.deref.ensures.value ∙ ap (λ (x : CutGroup). x.bytes) c.group.view_is) in
+    let second : c.of-second.result ≡ mark_of group.bytes =
+    c.of-second.ensures ∙ ap mark_of (c.deref.ensures.value ∙ ap (λ (x : CutGroup). x.bytes) c.group.view_is) in
     record {
       group = refl;
       first_is = c.first_mark-first.ensures;
-      marked = inr (c.none.ensures, sym c.first_mark-first.ensures ∙ same ∙ second, λ e. not_both (sym (c.has_table.ensures.1 (e ∙ ap (λ (x : CutGroup). Some (table_of c.args.found.now.source.priority x.cut)) (sym c.group.view_is))) ∙ c.if-not-has_table.true));
+      marked =
+          inr (
+            c.none.ensures,
+            sym c.first_mark-first.ensures ∙ same ∙ second,
+            λ e. not_both (sym (c.has_table.ensures.1
+                (e ∙ ap (λ (x : CutGroup). Some (table_of c.args.found.now.source.priority x.cut))
+                (sym c.group.view_is))) ∙ c.if-not-has_table.true),
+          );
       differ = λ e. mark_found group.bytes c.requires.filled (sym second ∙ sym same ∙ e ∙ c.none.ensures);
       still = refl {a = routes g.P.Place g.K.Link c.args.place.now c.args.link.now};
     }
@@ -28,11 +36,14 @@ pub returns-in_err-put_packets-clause-part : goal.returns-in_err-put_packets-cla
 returns-in_err-put_packets-clause-part g c =
     let group = c.args.group.now in
     let same : c.first_mark-first.result ≡ c.of-second.result = search rules in
-    let second : c.of-second.result ≡ mark_of group.bytes = c.of-second.ensures ∙ ap mark_of (c.deref.ensures.value ∙ ap (λ (x : CutGroup). x.bytes) c.group.view_is) in
+    let second : c.of-second.result ≡ mark_of group.bytes =
+    c.of-second.ensures ∙ ap mark_of (c.deref.ensures.value ∙ ap (λ (x : CutGroup). x.bytes) c.group.view_is) in
     on_any_err c.from_residual.result (
       record {
         mark = sym c.first_mark-first.ensures ∙ same ∙ second;
-        table = c.has_table.ensures.0 c.if-not-has_table.false ∙ ap (λ (x : CutGroup). Some (table_of c.args.found.now.source.priority x.cut)) c.group.view_is;
+        table =
+            c.has_table.ensures.0 c.if-not-has_table.false
+            ∙ ap (λ (x : CutGroup). Some (table_of c.args.found.now.source.priority x.cut)) c.group.view_is;
       },
       c.in_err-put_packets.ensures.part,
     )
@@ -41,10 +52,13 @@ pub returns-clause-sends : goal.returns-clause-sends
 returns-clause-sends g c =
     let group = c.args.group.now in
     let same : c.first_mark-first.result ≡ c.of-second.result = search rules in
-    let second : c.of-second.result ≡ mark_of group.bytes = c.of-second.ensures ∙ ap mark_of (c.deref.ensures.value ∙ ap (λ (x : CutGroup). x.bytes) c.group.view_is) in (
+    let second : c.of-second.result ≡ mark_of group.bytes =
+    c.of-second.ensures ∙ ap mark_of (c.deref.ensures.value ∙ ap (λ (x : CutGroup). x.bytes) c.group.view_is) in (
       record {
         mark = sym c.first_mark-first.ensures ∙ same ∙ second;
-        table = c.has_table.ensures.0 c.if-not-has_table.false ∙ ap (λ (x : CutGroup). Some (table_of c.args.found.now.source.priority x.cut)) c.group.view_is;
+        table =
+            c.has_table.ensures.0 c.if-not-has_table.false
+            ∙ ap (λ (x : CutGroup). Some (table_of c.args.found.now.source.priority x.cut)) c.group.view_is;
       },
       c.in_ok-put_packets.ensures.sends,
     )

@@ -5,4 +5,5 @@ pub returns-in-Ok-clause-completes : goal.returns-in-Ok-clause-completes
 returns-in-Ok-clause-completes g c = completes_video c.args.store.now c.args.out.now _ _ _ c.in-Ok.ensures.done
 
 pub returns-in-Err-clause-completes : goal.returns-in-Err-clause-completes
-returns-in-Err-clause-completes g c = completes_video c.args.store.now c.args.out.now _ _ c.in-Err.end c.in-Err.ensures.cause
+returns-in-Err-clause-completes g c =
+    completes_video c.args.store.now c.args.out.now _ _ c.in-Err.end c.in-Err.ensures.cause

@@ -8,7 +8,8 @@ use Rattle.command_video.proofs.files.put_groups.Given as goal
 
 abbrev pub invariant-loop-group : goal.invariant-loop-group
 invariant-loop-group g l = record {
-  shown : (video : List ℕ) × AreVideos (kept_set l.receiver) l.group video × Puts video (g.P.Place.seen l.initial.place) (g.P.Place.seen l.place) × (l.bytes ≡ length video);
+  shown : (video : List ℕ) × AreVideos (kept_set l.receiver) l.group video
+      × Puts video (g.P.Place.seen l.initial.place) (g.P.Place.seen l.place) × (l.bytes ≡ length video);
   few : l.bytes ≤ l.group * (MAX_GROUP_BYTES * MAX_GROUP_BYTES);
   others : OnlyWrites (g.P.Place.seen l.initial.place) (g.P.Place.seen l.place);
   calm : (g.P.Place.seen l.place).faults ≡ (g.P.Place.seen l.initial.place).faults;

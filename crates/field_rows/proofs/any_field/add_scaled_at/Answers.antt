@@ -9,7 +9,8 @@ returns-clause-sums g c =
     let row = c.args.row.now in
     let rows = c.args.rows.now in
     let new = c.add_scaled.new.into in
-    let long : length new ≡ c.args.at + length row - c.args.at = c.add_scaled.auto.into ∙ part_long c.args.at row rows c.requires.room in
+    let long : length new ≡ c.args.at + length row - c.args.at =
+    c.add_scaled.auto.into ∙ part_long c.args.at row rows c.requires.room in
     added_inside g.F.Field.coding.ops c.args.at row rows new c.args.by c.requires.room long c.add_scaled.ensures.places
 
 pub returns-clause-before : goal.returns-clause-before
@@ -17,7 +18,8 @@ returns-clause-before g c =
     let row = c.args.row.now in
     let rows = c.args.rows.now in
     let new = c.add_scaled.new.into in
-    let long : length new ≡ c.args.at + length row - c.args.at = c.add_scaled.auto.into ∙ part_long c.args.at row rows c.requires.room in
+    let long : length new ≡ c.args.at + length row - c.args.at =
+    c.add_scaled.auto.into ∙ part_long c.args.at row rows c.requires.room in
     added_before g.F.Field.coding.ops c.args.at row rows new c.args.by c.requires.room long c.add_scaled.ensures.places
 
 pub returns-clause-behind : goal.returns-clause-behind
@@ -25,7 +27,8 @@ returns-clause-behind g c =
     let row = c.args.row.now in
     let rows = c.args.rows.now in
     let new = c.add_scaled.new.into in
-    let long : length new ≡ c.args.at + length row - c.args.at = c.add_scaled.auto.into ∙ part_long c.args.at row rows c.requires.room in
+    let long : length new ≡ c.args.at + length row - c.args.at =
+    c.add_scaled.auto.into ∙ part_long c.args.at row rows c.requires.room in
     added_behind g.F.Field.coding.ops c.args.at row rows new c.args.by c.requires.room long c.add_scaled.ensures.places
 
 pub returns-clause-elements : goal.returns-clause-elements
@@ -37,5 +40,7 @@ returns-clause-elements g c =
     let new = c.add_scaled.new.into in
     let k = at + length row - at in
     let long : length new ≡ k = c.add_scaled.auto.into ∙ part_long at row rows c.requires.room in
-    part_elements F.coding.ops.nought at k rows new (part_room at row rows c.requires.room) long F.is_element c.requires.elements
-    (c.add_scaled.ensures.elements (All-take F.is_element k (drop at rows) (All-drop F.is_element at rows c.requires.elements)))
+    part_elements F.coding.ops.nought at k rows new
+    (part_room at row rows c.requires.room) long F.is_element c.requires.elements
+    (c.add_scaled.ensures.elements
+    (All-take F.is_element k (drop at rows) (All-drop F.is_element at rows c.requires.elements)))

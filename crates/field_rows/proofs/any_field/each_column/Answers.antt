@@ -16,7 +16,9 @@ loop-c-preserved g c =
     record {
       long = length-set c.loop-c.into c.loop-c.c c.column_value.result ∙ c.loop-c.invariant.long;
       values =
-          filled (λ k. value F.coding.ops (column F.coding.ops.nought (length c.args.into.now) c.args.count k c.args.rows.now) c.args.x) F.coding.ops.nought c.loop-c.into c.loop-c.c c.column_value.result
+          filled (λ k. value F.coding.ops (column F.coding.ops.nought
+          (length c.args.into.now) c.args.count k c.args.rows.now) c.args.x) F.coding.ops.nought c.loop-c.into
+          c.loop-c.c c.column_value.result
           (omega (arith, c.loop-c.invariant.long)) c.loop-c.invariant.values c.column_value.ensures.value;
       cost = omega (arith, c.column_value.ensures.cost, c.loop-c.invariant.cost, more_rows c.loop-c.c c.args.count);
     }
@@ -29,7 +31,13 @@ returns-clause-values g c =
 pub returns-clause-cost : goal.returns-clause-cost
 returns-clause-cost g c =
     let e : c.loop-c.c ≡ length c.args.into.now = omega arith in
-    omega (arith, c.loop-c.invariant.cost, ap (λ n. n * c.args.count) e, mul_comm c.args.count (length c.args.into.now), c.requires.whole)
+    omega (
+      arith,
+      c.loop-c.invariant.cost,
+      ap (λ n. n * c.args.count) e,
+      mul_comm c.args.count (length c.args.into.now),
+      c.requires.whole,
+    )
 
 pub returns-clause-elements : goal.returns-clause-elements
 returns-clause-elements g c =
@@ -39,8 +47,10 @@ returns-clause-elements g c =
     (λ k l.
     let m : k < w = omega (arith, c.loop-c.invariant.long) in
     rw (c.loop-c.invariant.values k (omega arith))
-    (value_is F.is_element F.coding.ops g.met.F.Field.lawful.field (column F.coding.ops.nought w c.args.count k c.args.rows.now) c.args.x
-    (column_elements F.is_element F.coding.ops.nought w c.args.count k c.args.rows.now m (omega (arith, c.requires.whole)) c.requires.elements) c.requires.point))
+    (value_is F.is_element F.coding.ops g.met.F.Field.lawful.field
+    (column F.coding.ops.nought w c.args.count k c.args.rows.now) c.args.x
+    (column_elements F.is_element F.coding.ops.nought w c.args.count k c.args.rows.now m
+    (omega (arith, c.requires.whole)) c.requires.elements) c.requires.point))
 
 pub loop-c-init : goal.loop-c-init
 loop-c-init g c = record { long = refl; values = λ k l. absurd (omega arith); cost = omega arith }

@@ -13,13 +13,16 @@ loop-c-preserved g c =
     let n = c.loop-c.c in
     let e = c.index-row-c.result in
     let x = c.args.factor in
-    let read : e ≡ get_or old n z = c.index-row-c.is ∙ get_or_default row n e z (omega (arith, c.loop-c.invariant.long)) ∙ c.loop-c.invariant.rest n (omega arith) in
+    let read : e ≡ get_or old n z = c.index-row-c.is
+    ∙ get_or_default row n e z (omega (arith, c.loop-c.invariant.long)) ∙ c.loop-c.invariant.rest n (omega arith) in
     record {
       long = length-set row n c.mul.result ∙ c.loop-c.invariant.long;
       done =
-          filled (λ k. o.times x (get_or old k z)) z row n c.mul.result (omega (arith, c.loop-c.invariant.long)) c.loop-c.invariant.done
+          filled (λ k. o.times x (get_or old k z)) z row n c.mul.result
+          (omega (arith, c.loop-c.invariant.long)) c.loop-c.invariant.done
           (c.mul.ensures.product ∙ ap (o.times x) read);
-      rest = λ k l. get_or-set_other row n k c.mul.result z (λ q. absurd (omega arith)) ∙ c.loop-c.invariant.rest k (omega arith);
+      rest = λ k l. get_or-set_other row n k c.mul.result z (λ q. absurd (omega arith))
+          ∙ c.loop-c.invariant.rest k (omega arith);
       cost = omega (arith, c.mul.ensures.cost, c.loop-c.invariant.cost);
     }
 
@@ -30,7 +33,8 @@ returns-clause-elements g c =
     (λ k l.
     let m : k < length c.args.row.now = omega (arith, c.loop-c.invariant.long) in
     rw (c.loop-c.invariant.done k (omega arith))
-    (g.met.F.Field.lawful.field.times_is c.args.factor (get_or c.args.row.now k F.coding.ops.nought) c.requires.factor (c.requires.elements k F.coding.ops.nought m)))
+    (g.met.F.Field.lawful.field.times_is c.args.factor (get_or c.args.row.now k F.coding.ops.nought) c.requires.factor
+    (c.requires.elements k F.coding.ops.nought m)))
 
 pub loop-c-init : goal.loop-c-init
 loop-c-init g c = record { long = refl; done = λ k l. absurd (omega arith); rest = λ k l. refl; cost = omega arith }
@@ -47,5 +51,7 @@ mul-requires g c =
     let l : n < length c.args.row.now = omega (arith, c.loop-c.invariant.long) in
     record {
       first = c.requires.factor;
-      second = rw (c.index-row-c.is ∙ get_or_default row n e z (omega (arith, c.loop-c.invariant.long)) ∙ c.loop-c.invariant.rest n (omega arith)) (c.requires.elements n z l);
+      second =
+          rw (c.index-row-c.is ∙ get_or_default row n e z (omega (arith, c.loop-c.invariant.long))
+          ∙ c.loop-c.invariant.rest n (omega arith)) (c.requires.elements n z l);
     }

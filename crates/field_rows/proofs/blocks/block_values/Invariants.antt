@@ -10,6 +10,8 @@ invariant-loop-i g l = record {
   place : l.at ≡ size_of (take l.i l.blocks);
   until : l.to ≡ width_of (take l.i l.blocks);
   long : length l.into ≡ width_of l.blocks;
-  done : take l.to l.into ≡ map (λ s. value g.F.Field.coding.ops s (g.F.Rows.element_of l.x)) (columns_of g.F.Field.coding.ops.nought (take l.i l.blocks) l.laid);
+  done : take l.to l.into
+      ≡ map (λ s. value g.F.Field.coding.ops s (g.F.Rows.element_of l.x))
+      (columns_of g.F.Field.coding.ops.nought (take l.i l.blocks) l.laid);
   cost : l.steps ≡ l.initial.steps + l.at;
 }

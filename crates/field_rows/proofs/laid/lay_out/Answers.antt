@@ -1,4 +1,5 @@
-use Rattle.std.proofs.Common.{◌≡◌, ◌+◌, ◌-◌, ◌*◌, ◌<◌, ◌≤◌, length, get_or, take, drop, refl, ap, sym, ◌∙◌, add-one, arith, rules}
+use Rattle.std.proofs.Common.{◌≡◌, ◌+◌, ◌-◌, ◌*◌, ◌<◌, ◌≤◌, length, get_or, take, drop, refl, ap, sym, ◌∙◌, add-one}
+use Rattle.std.proofs.Common.{arith, rules}
 use Rattle.std.proofs.lemmas.List.{length-take-le, length-drop, take_all}
 use Rattle.field_rows.specs.Blocks.{size_of}
 use Rattle.field_rows.proofs.FirstBlocks.{room_size, more_size, b0}
@@ -8,19 +9,22 @@ use Rattle.field_rows.proofs.laid.lay_out.Goals as goal
 pub overflow_mul-end : goal.overflow_mul-end
 overflow_mul-end g c =
     let b = get_or c.args.blocks.now c.loop-i.i b0 in
-    let room : c.loop-i.at + b.length * b.width ≤ length c.args.row.now = omega (arith, room_size c.args.blocks.now c.loop-i.i (omega arith), c.loop-i.invariant.place, c.requires.row) in
+    let room : c.loop-i.at + b.length * b.width ≤ length c.args.row.now =
+    omega (arith, room_size c.args.blocks.now c.loop-i.i (omega arith), c.loop-i.invariant.place, c.requires.row) in
     search rules
 
 pub overflow_add-end : goal.overflow_add-end
 overflow_add-end g c =
     let b = get_or c.args.blocks.now c.loop-i.i b0 in
-    let room : c.loop-i.at + b.length * b.width ≤ length c.args.row.now = omega (arith, room_size c.args.blocks.now c.loop-i.i (omega arith), c.loop-i.invariant.place, c.requires.row) in
+    let room : c.loop-i.at + b.length * b.width ≤ length c.args.row.now =
+    omega (arith, room_size c.args.blocks.now c.loop-i.i (omega arith), c.loop-i.invariant.place, c.requires.row) in
     search rules
 
 pub slice_bounds-transpose-end : goal.slice_bounds-transpose-end
 slice_bounds-transpose-end g c =
     let b = get_or c.args.blocks.now c.loop-i.i b0 in
-    let room : c.loop-i.at + b.length * b.width ≤ length c.args.row.now = omega (arith, room_size c.args.blocks.now c.loop-i.i (omega arith), c.loop-i.invariant.place, c.requires.row) in
+    let room : c.loop-i.at + b.length * b.width ≤ length c.args.row.now =
+    omega (arith, room_size c.args.blocks.now c.loop-i.i (omega arith), c.loop-i.invariant.place, c.requires.row) in
     search rules
 
 pub loop-i-preserved : goal.loop-i-preserved
@@ -33,13 +37,22 @@ loop-i-preserved g c =
     let laid = c.loop-i.laid in
     let new = c.transpose.new.into in
     let l : i < length bs = omega arith in
-    let room : at + b.length * b.width ≤ length row = omega (arith, room_size bs i l, c.loop-i.invariant.place, c.requires.row) in
-    let part : length new ≡ at + b.length * b.width - at = c.transpose.auto.into ∙ length-take-le (at + b.length * b.width - at) (drop at laid) (omega (arith, length-drop at laid, c.loop-i.invariant.long, c.requires.row)) in
+    let room : at + b.length * b.width ≤ length row =
+    omega (arith, room_size bs i l, c.loop-i.invariant.place, c.requires.row) in
+    let part : length new ≡ at + b.length * b.width - at =
+    c.transpose.auto.into
+    ∙ length-take-le (at + b.length * b.width - at) (drop at laid)
+    (omega (arith, length-drop at laid, c.loop-i.invariant.long, c.requires.row)) in
     record {
       within = room;
-      long = long_put at (at + b.length * b.width - at) laid new (omega (arith, c.loop-i.invariant.long, c.requires.row)) part ∙ c.loop-i.invariant.long;
-      place = ap (λ n. n + b.length * b.width) c.loop-i.invariant.place ∙ sym (ap (λ n. size_of (take n bs)) (add-one i) ∙ more_size bs i l);
-      done = λ d. laid_more d bs i at row laid new l c.loop-i.invariant.place c.requires.row c.loop-i.invariant.long c.transpose.auto.into (c.transpose.ensures d) (c.loop-i.invariant.done d);
+      long =
+          long_put at (at + b.length * b.width - at) laid new
+          (omega (arith, c.loop-i.invariant.long, c.requires.row)) part ∙ c.loop-i.invariant.long;
+      place =
+          ap (λ n. n + b.length * b.width) c.loop-i.invariant.place
+          ∙ sym (ap (λ n. size_of (take n bs)) (add-one i) ∙ more_size bs i l);
+      done = λ d. laid_more d bs i at row laid new l c.loop-i.invariant.place c.requires.row c.loop-i.invariant.long
+          c.transpose.auto.into (c.transpose.ensures d) (c.loop-i.invariant.done d);
     }
 
 pub loop-i-init : goal.loop-i-init

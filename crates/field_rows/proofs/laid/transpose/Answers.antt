@@ -14,15 +14,18 @@ loop-c-preserved g c =
     let start = c.loop-c.start in
     let size = start + k - start in
     let place : start ≡ n * k = c.loop-c.invariant.place in
-    let room : start + k ≤ length from = omega (arith, c.requires.from, mul_comm k w, more_rows n k, rows_le (n + 1) w k (omega arith)) in
-    let part : length (take size (drop start from)) ≡ k = length-take-le size (drop start from) (omega (arith, length-drop start from)) ∙ omega arith in
+    let room : start + k
+    ≤ length from = omega (arith, c.requires.from, mul_comm k w, more_rows n k, rows_le (n + 1) w k (omega arith)) in
+    let part : length (take size (drop start from)) ≡ k =
+    length-take-le size (drop start from) (omega (arith, length-drop start from)) ∙ omega arith in
     record {
       place = ap (λ t. t + k) place ∙ sym (more_rows n k);
       long = c.scatter.auto.into ∙ c.loop-c.invariant.long;
       done =
           λ d m j l h.
           elim (cases_lt m n) [
-            | inl p ↦ c.scatter.ensures.others d j m (omega arith) (λ q. absurd (omega arith)) ∙ c.loop-c.invariant.done d m j p h
+            | inl p ↦ c.scatter.ensures.others d j m (omega arith) (λ q. absurd (omega arith))
+                ∙ c.loop-c.invariant.done d m j p h
             | inr p ↦
                 let e : m ≡ n = omega arith in
                 ap (λ t. get_or c.scatter.new.into (j * w + t) d) e ∙ c.scatter.ensures.written d j (rw part h)

@@ -5,5 +5,6 @@ abbrev pub invariant-loop-c : goal.invariant-loop-c
 invariant-loop-c g l = record {
   place : l.start ≡ l.c * l.count;
   long : length l.into ≡ length l.initial.into;
-  done : (d : g.row.E.Denot) (n j : ℕ) → n < l.c → j < l.count → slice_index_or l.into (j * l.width + n) d ≡ slice_index_or l.from (n * l.count + j) d;
+  done : (d : g.row.E.Denot) (n j : ℕ) → n < l.c → j < l.count
+      → slice_index_or l.into (j * l.width + n) d ≡ slice_index_or l.from (n * l.count + j) d;
 }

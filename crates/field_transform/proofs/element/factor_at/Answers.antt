@@ -2,4 +2,5 @@ use Rattle.std.proofs.Common.{arith}
 use Rattle.field_transform.proofs.element.factor_at.Goals as goal
 
 pub returns-clause-element : goal.returns-clause-element
-returns-clause-element g c = rw c.factor_of.ensures (g.met.F.Subspaces.subspaces.constants.factor_is c.args.level (omega (arith, c.requires)))
+returns-clause-element g c =
+    rw c.factor_of.ensures (g.met.F.Subspaces.subspaces.constants.factor_is c.args.level (omega (arith, c.requires)))

@@ -6,6 +6,9 @@ abbrev pub invariant-loop-i : goal.invariant-loop-i
 invariant-loop-i g l = record {
   long : length l.into ≡ length l.initial.into;
   done : (k : ℕ) → k < l.i → slice_index_or l.into k g.F.Field.coding.ops.nought
-      ≡ g.F.Field.coding.ops.plus (slice_index_or l.initial.into k g.F.Field.coding.ops.nought) (slice_index_or l.other k g.F.Field.coding.ops.nought);
-  rest : (k : ℕ) → l.i ≤ k → slice_index_or l.into k g.F.Field.coding.ops.nought ≡ slice_index_or l.initial.into k g.F.Field.coding.ops.nought;
+      ≡ g.F.Field.coding.ops.plus (slice_index_or l.initial.into k g.F.Field.coding.ops.nought)
+      (slice_index_or l.other k g.F.Field.coding.ops.nought);
+  rest : (k : ℕ) → l.i ≤ k
+      → slice_index_or l.into k g.F.Field.coding.ops.nought
+      ≡ slice_index_or l.initial.into k g.F.Field.coding.ops.nought;
 }

@@ -9,7 +9,8 @@ returns-then-none-clause-low g c i l =
     let F = g.F.Field in
     let law = g.met.F.Field.lawful.field in
     let z = F.coding.ops.nought in
-    nothing_added F.is_element F.coding.ops law c.args.by (get_or c.args.low.now i z) (get_or c.args.high.now i z) (c.requires.nothing c.if-none.true)
+    nothing_added F.is_element F.coding.ops law c.args.by (get_or c.args.low.now i z) (get_or c.args.high.now i z)
+    (c.requires.nothing c.if-none.true)
     (c.requires.first i z (omega (arith, c.requires.same))) (c.requires.second i z l)
 
 pub returns-then-none-clause-high : goal.returns-then-none-clause-high
@@ -18,13 +19,16 @@ returns-then-none-clause-high g c i l =
     let law = g.met.F.Field.lawful.field in
     let z = F.coding.ops.nought in
     let m : i < length c.args.low.now = omega (arith, c.requires.same) in
-    c.add_words.ensures.sums i m ∙ law.plus_comm (get_or c.args.high.now i z) (get_or c.args.low.now i z) (c.requires.second i z l) (c.requires.first i z m)
+    c.add_words.ensures.sums i m
+    ∙ law.plus_comm (get_or c.args.high.now i z) (get_or c.args.low.now i z) (c.requires.second i z l)
+    (c.requires.first i z m)
 
 pub returns-else-none-clause-elements : goal.returns-else-none-clause-elements
 returns-else-none-clause-elements g c =
     let F = g.F.Field in
     let law = g.met.F.Field.lawful.field in
-    multiples_are F.is_element F.coding.ops law c.args.by c.args.low.now c.args.high.now c.butterfly_row.new.low c.requires.factor c.requires.first c.requires.second
+    multiples_are F.is_element F.coding.ops law c.args.by c.args.low.now c.args.high.now c.butterfly_row.new.low
+    c.requires.factor c.requires.first c.requires.second
     c.butterfly_row.auto.low c.requires.same c.butterfly_row.ensures.low
 
 pub returns-else-none-clause-others : goal.returns-else-none-clause-others
@@ -32,10 +36,13 @@ returns-else-none-clause-others g c =
     let F = g.F.Field in
     let law = g.met.F.Field.lawful.field in
     let low =
-    multiples_are F.is_element F.coding.ops law c.args.by c.args.low.now c.args.high.now c.butterfly_row.new.low c.requires.factor c.requires.first c.requires.second
+    multiples_are F.is_element F.coding.ops law c.args.by c.args.low.now c.args.high.now c.butterfly_row.new.low
+    c.requires.factor c.requires.first c.requires.second
     c.butterfly_row.auto.low c.requires.same c.butterfly_row.ensures.low in
-    sums_are F.is_element F.coding.ops law c.butterfly_row.new.low c.args.high.now c.butterfly_row.new.high low c.requires.second
-    (c.butterfly_row.auto.high ∙ sym (c.butterfly_row.auto.low ∙ c.requires.same)) (c.butterfly_row.auto.low ∙ c.requires.same) c.butterfly_row.ensures.high
+    sums_are F.is_element F.coding.ops law c.butterfly_row.new.low c.args.high.now c.butterfly_row.new.high low
+    c.requires.second
+    (c.butterfly_row.auto.high ∙ sym (c.butterfly_row.auto.low ∙ c.requires.same))
+    (c.butterfly_row.auto.low ∙ c.requires.same) c.butterfly_row.ensures.high
 
 pub returns-else-none-clause-low : goal.returns-else-none-clause-low
 returns-else-none-clause-low g c = c.butterfly_row.ensures.low

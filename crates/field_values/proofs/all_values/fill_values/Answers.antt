@@ -17,7 +17,8 @@ pub returns-then-not-fill_transformed-clause-rows : goal.returns-then-not-fill_t
 returns-then-not-fill_transformed-clause-rows g c = c.fill_rows.ensures.rows
 
 pub returns-then-not-fill_transformed-clause-cost : goal.returns-then-not-fill_transformed-clause-cost
-returns-then-not-fill_transformed-clause-cost g c = omega (arith, c.fill_rows.ensures.cost, c.fill_transformed.ensures.none c.if-not-fill_transformed.true)
+returns-then-not-fill_transformed-clause-cost g c =
+    omega (arith, c.fill_rows.ensures.cost, c.fill_transformed.ensures.none c.if-not-fill_transformed.true)
 
 pub returns-else-not-fill_transformed-clause-rows : goal.returns-else-not-fill_transformed-clause-rows
 returns-else-not-fill_transformed-clause-rows g c = c.fill_transformed.ensures.rows c.if-not-fill_transformed.false

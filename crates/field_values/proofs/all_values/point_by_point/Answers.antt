@@ -7,7 +7,8 @@ fill_rows-requires-clause-room g c = c.deref_mut.ensures.len ∙ c.in_ok-values.
 
 pub returns-clause-rows : goal.returns-clause-rows
 returns-clause-rows g c =
-    rw (take_at c.fill_rows.new.into (drop (length c.fill_rows.new.into) c.in_ok-values.values.items) c.in_ok-values.values.len (c.fill_rows.auto.into ∙ c.deref_mut.ensures.len))
+    rw (take_at c.fill_rows.new.into (drop (length c.fill_rows.new.into) c.in_ok-values.values.items)
+    c.in_ok-values.values.len (c.fill_rows.auto.into ∙ c.deref_mut.ensures.len))
     c.fill_rows.ensures.rows
 
 pub returns-clause-cost : goal.returns-clause-cost

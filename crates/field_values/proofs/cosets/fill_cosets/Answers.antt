@@ -12,7 +12,8 @@ loop-coset-preserved g c =
     let n = c.args.level in
     let k = c.loop-coset.coset in
     let F = g.F.Field in
-    let V = λ (rows : List g.row.F-Elem.Denot) (i x : ℕ). value_in_basis F.coding.ops g.F.Subspaces.inverse n (column F.coding.ops.nought w (2 ^ n) i rows) (F.coding.point_of x) in
+    let V = λ (rows : List g.row.F-Elem.Denot) (i x : ℕ). value_in_basis F.coding.ops g.F.Subspaces.inverse n
+    (column F.coding.ops.nought w (2 ^ n) i rows) (F.coding.point_of x) in
     let rows = c.args.rows.now in
     let copy : c.copy_from_slice.new.self ≡ rows = c.copy_from_slice.ensures.after in
     record {
@@ -20,7 +21,8 @@ loop-coset-preserved g c =
       spare = c.fill_coset.auto.rows ∙ c.copy_from_slice.ensures.len ∙ c.loop-coset.invariant.spare;
       values =
           λ p i l m h.
-          cosets_more F.coding.ops.nought (V rows) w (2 ^ n) k c.args.first c.args.count c.loop-coset.into c.fill_coset.new.into c.loop-coset.invariant.values
+          cosets_more F.coding.ops.nought (V rows) w
+          (2 ^ n) k c.args.first c.args.count c.loop-coset.into c.fill_coset.new.into c.loop-coset.invariant.values
           (λ q j a b d e. c.fill_coset.ensures.values q j a b d e ∙ ap (λ xs. V xs j (c.args.first + q)) copy)
           c.fill_coset.ensures.before p i l (omega (arith, more_rows k (2 ^ n))) h;
       cost =
@@ -33,7 +35,13 @@ loop-coset-preserved g c =
     }
 
 pub loop-coset-init : goal.loop-coset-init
-loop-coset-init g c = record { long = c.requires.room; spare = refl; values = λ p i l m h. absurd (omega (arith, c.requires.begins, m)); cost = omega arith }
+loop-coset-init g c =
+    record {
+      long = c.requires.room;
+      spare = refl;
+      values = λ p i l m h. absurd (omega (arith, c.requires.begins, m));
+      cost = omega arith;
+    }
 
 pub copy_from_slice-requires : goal.copy_from_slice-requires
 copy_from_slice-requires g c = c.loop-coset.invariant.spare ∙ c.requires.spare (omega arith) ∙ sym c.requires.size
@@ -46,8 +54,11 @@ returns-clause-values g c =
     let last = c.args.last in
     let is : c.loop-coset.coset ≡ last = omega (arith, c.requires.order) in
     λ p i l m.
-    cosets_more F.coding.ops.nought (λ j x. value_in_basis F.coding.ops g.F.Subspaces.inverse n (column F.coding.ops.nought w (2 ^ n) j c.args.rows.now) (F.coding.point_of x)) w (2 ^ n) last c.args.first c.args.count c.loop-coset.into c.fill_coset-2.new.into
-    (rw is at c.loop-coset.invariant.values) c.fill_coset-2.ensures.values c.fill_coset-2.ensures.before p i l (omega (arith, c.requires.ends, l)) m
+    cosets_more F.coding.ops.nought (λ j x. value_in_basis F.coding.ops g.F.Subspaces.inverse n
+    (column F.coding.ops.nought w (2 ^ n) j c.args.rows.now) (F.coding.point_of x)) w
+    (2 ^ n) last c.args.first c.args.count c.loop-coset.into c.fill_coset-2.new.into
+    (rw is at c.loop-coset.invariant.values) c.fill_coset-2.ensures.values c.fill_coset-2.ensures.before p i l
+    (omega (arith, c.requires.ends, l)) m
 
 pub returns-clause-cost : goal.returns-clause-cost
 returns-clause-cost g c =

@@ -3,7 +3,9 @@ use Rattle.field_values.proofs.cosets.transform.Goals as goal
 
 pub returns-clause-values : goal.returns-clause-values
 returns-clause-values g c = λ p i l m.
-    c.fill_cosets.ensures.values p i l m ∙ c.convert.ensures.coefficients i (g.F.Field.coding.point_of (c.args.first + p)) m (g.met.F.Field.lawful.points.point_is (c.args.first + p) (omega (arith, c.requires.points, l)))
+    c.fill_cosets.ensures.values p i l m
+    ∙ c.convert.ensures.coefficients i (g.F.Field.coding.point_of (c.args.first + p)) m
+    (g.met.F.Field.lawful.points.point_is (c.args.first + p) (omega (arith, c.requires.points, l)))
 
 pub returns-clause-cost : goal.returns-clause-cost
 returns-clause-cost g c = omega (arith, c.fill_cosets.ensures.cost, c.convert.ensures.bounded)

@@ -10,9 +10,12 @@ returns-clause-cost c =
     let wide = c.in-Some.wide in
     let wide_is : wide ≡ size * c.args.stripes = search rules in
     let known = c.args.known * c.args.stripes in
-    let few : 2 * (n * known + 2 * size) + (c.args.further + 1) * (n * wide + 4 * size) ≤ 2 * c.args.count * c.args.words =
-    subst (λ k. 2 * (n * known + 2 * size) + (k + 1) * (n * wide + 4 * size) ≤ 2 * c.args.count * c.args.words) c.from.ensures c.if-converted-from.false in
-    λ t. cost_fits n size c.args.known c.args.stripes wide c.args.further c.args.words c.args.count c.size_at-size.ensures.power wide_is few
+    let few : 2 * (n * known + 2 * size) + (c.args.further + 1) * (n * wide + 4 * size)
+    ≤ 2 * c.args.count * c.args.words =
+    subst (λ k. 2 * (n * known + 2 * size) + (k + 1) * (n * wide + 4 * size) ≤ 2 * c.args.count * c.args.words)
+    c.from.ensures c.if-converted-from.false in
+    λ t. cost_fits n size c.args.known c.args.stripes wide c.args.further c.args.words c.args.count
+    c.size_at-size.ensures.power wide_is few
 
 pub returns-in_default-clause-room : goal.returns-in_default-clause-room
 returns-in_default-clause-room c = λ t. absurd (false≢true t)

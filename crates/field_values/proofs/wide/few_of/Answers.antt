@@ -4,7 +4,9 @@ use Rattle.field_values.proofs.wide.few_of.Goals as goal
 
 pub loop-preserved : goal.loop-preserved
 loop-preserved g c = record {
-  items = c.in_ok-push.ensures.items ∙ ap (λ t. t ++ (c.args.element ∷ [])) c.loop.invariant.items ∙ replicate_more c.loop.counter c.args.element;
+  items =
+      c.in_ok-push.ensures.items ∙ ap (λ t. t ++ (c.args.element ∷ [])) c.loop.invariant.items
+      ∙ replicate_more c.loop.counter c.args.element;
   len = omega (arith, c.in_ok-push.ensures.len, c.loop.invariant.len);
 }
 

@@ -6,30 +6,37 @@ use Rattle.field_values.proofs.wide.place_blocks.Goals as goal
 
 pub overflow_mul-end : goal.overflow_mul-end
 overflow_mul-end g c =
-    let room = block_within c.args.blocks.now c.loop-i.i (omega arith) c.loop-i.at (length c.args.laid.now) c.loop-i.invariant.place c.requires.whole in
+    let room = block_within c.args.blocks.now c.loop-i.i (omega arith) c.loop-i.at
+    (length c.args.laid.now) c.loop-i.invariant.place c.requires.whole in
     search rules
 
 pub overflow_add-end : goal.overflow_add-end
 overflow_add-end g c =
-    let room = block_within c.args.blocks.now c.loop-i.i (omega arith) c.loop-i.at (length c.args.laid.now) c.loop-i.invariant.place c.requires.whole in
+    let room = block_within c.args.blocks.now c.loop-i.i (omega arith) c.loop-i.at
+    (length c.args.laid.now) c.loop-i.invariant.place c.requires.whole in
     search rules
 
 pub offset_bounds-laid-at : goal.offset_bounds-laid-at
 offset_bounds-laid-at g c =
-    let room = block_within c.args.blocks.now c.loop-i.i (omega arith) c.loop-i.at (length c.args.laid.now) c.loop-i.invariant.place c.requires.whole in
+    let room = block_within c.args.blocks.now c.loop-i.i (omega arith) c.loop-i.at
+    (length c.args.laid.now) c.loop-i.invariant.place c.requires.whole in
     omega (arith, room)
 
 pub slice_bounds-place_rows-end : goal.slice_bounds-place_rows-end
 slice_bounds-place_rows-end g c =
-    let room = block_within c.args.blocks.now c.loop-i.i (omega arith) c.loop-i.at (length c.args.laid.now) c.loop-i.invariant.place c.requires.whole in
+    let room = block_within c.args.blocks.now c.loop-i.i (omega arith) c.loop-i.at
+    (length c.args.laid.now) c.loop-i.invariant.place c.requires.whole in
     search rules
 
 pub place_rows-requires-clause-lane : goal.place_rows-requires-clause-lane
-place_rows-requires-clause-lane g c = lanes_within c.args.blocks.now c.loop-i.i (omega arith) c.loop-i.lane c.args.stripes c.loop-i.invariant.until c.requires.stripes
+place_rows-requires-clause-lane g c =
+    lanes_within c.args.blocks.now c.loop-i.i
+    (omega arith) c.loop-i.lane c.args.stripes c.loop-i.invariant.until c.requires.stripes
 
 pub overflow_add-lane : goal.overflow_add-lane
 overflow_add-lane g c =
-    let lanes = lanes_within c.args.blocks.now c.loop-i.i (omega arith) c.loop-i.lane c.args.stripes c.loop-i.invariant.until c.requires.stripes in
+    let lanes = lanes_within c.args.blocks.now c.loop-i.i
+    (omega arith) c.loop-i.lane c.args.stripes c.loop-i.invariant.until c.requires.stripes in
     search rules
 
 pub loop-i-preserved : goal.loop-i-preserved
@@ -44,17 +51,21 @@ loop-i-preserved g c =
     let placed = c.place_rows.ensures.placed c.args.zero in
     let others = c.place_rows.ensures.others c.args.zero in
     record {
-      place = ap (λ n. n + b.length * b.width) place ∙ sym (ap (λ n. size_of (take n bs)) (add-one i) ∙ more_size bs i l);
+      place =
+          ap (λ n. n + b.length * b.width) place ∙ sym (ap (λ n. size_of (take n bs)) (add-one i) ∙ more_size bs i l);
       until = ap (λ n. n + b.width) until ∙ sym (ap (λ n. width_of (take n bs)) (add-one i) ∙ more_width bs i l);
       done =
-          stripes_more c.args.zero bs i c.args.size c.args.stripes c.loop-i.lane c.loop-i.at c.args.laid.now c.loop-i.into c.place_rows.new.into l place until lanes placed others
+          stripes_more c.args.zero bs i c.args.size c.args.stripes c.loop-i.lane c.loop-i.at c.args.laid.now
+          c.loop-i.into c.place_rows.new.into l place until lanes placed others
           c.loop-i.invariant.done c.loop-i.invariant.rest;
       rest =
-          rest_more c.args.zero bs i c.args.size c.args.stripes c.loop-i.lane c.loop-i.at c.args.laid.now c.loop-i.into c.place_rows.new.into l place until lanes placed others
+          rest_more c.args.zero bs i c.args.size c.args.stripes c.loop-i.lane c.loop-i.at c.args.laid.now c.loop-i.into
+          c.place_rows.new.into l place until lanes placed others
           c.loop-i.invariant.done c.loop-i.invariant.rest;
     }
 
 pub returns : goal.returns
 returns g c =
-    all_placed c.args.zero c.args.blocks.now c.loop-i.i c.loop-i.lane c.args.size c.args.stripes c.args.laid.now c.loop-i.into (omega arith) c.loop-i.invariant.until c.requires.stripes
+    all_placed c.args.zero c.args.blocks.now c.loop-i.i c.loop-i.lane c.args.size c.args.stripes c.args.laid.now
+    c.loop-i.into (omega arith) c.loop-i.invariant.until c.requires.stripes
     (c.loop-i.auto.into ∙ c.requires.room) c.loop-i.invariant.done

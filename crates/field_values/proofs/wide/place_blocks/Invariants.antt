@@ -9,5 +9,6 @@ invariant-loop-i g l = record {
   until : l.lane ≡ width_of (take l.i l.blocks);
   done : (p c : ℕ) → p < l.size → c < l.lane → slice_index_or l.into (p * l.stripes + c) l.fn.zero
       ≡ slice_index_or (slice_index_or (columns_of l.fn.zero (take l.i l.blocks) l.laid) c []) p l.fn.zero;
-  rest : (p c : ℕ) → p < l.size → l.lane ≤ c → c < l.stripes → slice_index_or l.into (p * l.stripes + c) l.fn.zero ≡ l.fn.zero;
+  rest : (p c : ℕ) → p < l.size → l.lane ≤ c → c < l.stripes
+      → slice_index_or l.into (p * l.stripes + c) l.fn.zero ≡ l.fn.zero;
 }

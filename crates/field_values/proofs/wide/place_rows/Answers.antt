@@ -8,7 +8,13 @@ offset_bounds-into-to g c =
     let q = c.loop.counter in
     let l : q < c.args.size = omega (arith, c.requires.fewer) in
     let room : c.loop.at + c.args.lane + c.args.width ≤ length c.loop.into =
-    omega (arith, row_within q c.args.size c.args.stripes l, c.loop.invariant.at_is, c.loop.invariant.long, c.requires.lane) in
+    omega (
+      arith,
+      row_within q c.args.size c.args.stripes l,
+      c.loop.invariant.at_is,
+      c.loop.invariant.long,
+      c.requires.lane,
+    ) in
     search rules
 
 pub loop-preserved : goal.loop-preserved
@@ -24,20 +30,33 @@ loop-preserved g c =
       from_is = omega (arith, c.loop.invariant.from_is);
       at_is = omega (arith, c.loop.invariant.at_is);
       long =
-          new_long n w c.args.stripes c.args.lane c.args.size q c.loop.from c.loop.at rows into piece l c.requires.fewer c.requires.lane c.requires.rows c.loop.invariant.long c.loop.invariant.from_is c.loop.invariant.at_is (search rules)
+          new_long n w c.args.stripes c.args.lane c.args.size q c.loop.from c.loop.at rows into piece l
+          c.requires.fewer c.requires.lane c.requires.rows c.loop.invariant.long c.loop.invariant.from_is
+          c.loop.invariant.at_is (search rules)
           ∙ c.loop.invariant.long;
       placed =
           λ d.
-          placed_more n w c.args.stripes c.args.lane c.args.size q c.loop.from c.loop.at rows into piece l c.requires.fewer c.requires.lane c.requires.rows c.loop.invariant.long c.loop.invariant.from_is c.loop.invariant.at_is (search rules) d
+          placed_more n w c.args.stripes c.args.lane c.args.size q c.loop.from c.loop.at rows into piece l
+          c.requires.fewer c.requires.lane c.requires.rows c.loop.invariant.long c.loop.invariant.from_is
+          c.loop.invariant.at_is (search rules) d
           (c.loop.invariant.placed d);
       others =
           λ d.
-          others_more n w c.args.stripes c.args.lane c.args.size q c.loop.from c.loop.at rows into piece l c.requires.fewer c.requires.lane c.requires.rows c.loop.invariant.long c.loop.invariant.from_is c.loop.invariant.at_is (search rules) d
+          others_more n w c.args.stripes c.args.lane c.args.size q c.loop.from c.loop.at rows into piece l
+          c.requires.fewer c.requires.lane c.requires.rows c.loop.invariant.long c.loop.invariant.from_is
+          c.loop.invariant.at_is (search rules) d
           c.args.into.now (c.loop.invariant.others d);
     }
 
 pub loop-init : goal.loop-init
-loop-init g c = record { from_is = omega arith; at_is = omega arith; long = c.requires.into; placed = λ d p n l m. absurd (omega arith); others = λ d p n l h. refl }
+loop-init g c =
+    record {
+      from_is = omega arith;
+      at_is = omega arith;
+      long = c.requires.into;
+      placed = λ d p n l m. absurd (omega arith);
+      others = λ d p n l h. refl;
+    }
 
 pub returns-clause-placed : goal.returns-clause-placed
 returns-clause-placed g c = λ d p n l m. c.loop.invariant.placed d p n (omega arith) m
@@ -48,37 +67,67 @@ returns-clause-others g c = λ d p n l h. c.loop.invariant.others d p n l (λ m.
 pub offset_bounds-rows-from : goal.offset_bounds-rows-from
 offset_bounds-rows-from g c =
     let room : c.loop.from + c.args.width ≤ length c.args.rows.now =
-    omega (arith, row_within c.loop.counter c.args.count c.args.width (omega arith), c.loop.invariant.from_is, c.requires.rows) in
+    omega (
+      arith,
+      row_within c.loop.counter c.args.count c.args.width (omega arith),
+      c.loop.invariant.from_is,
+      c.requires.rows,
+    ) in
     search rules
 
 pub overflow_add-from : goal.overflow_add-from
 overflow_add-from g c =
     let room : c.loop.from + c.args.width ≤ length c.args.rows.now =
-    omega (arith, row_within c.loop.counter c.args.count c.args.width (omega arith), c.loop.invariant.from_is, c.requires.rows) in
+    omega (
+      arith,
+      row_within c.loop.counter c.args.count c.args.width (omega arith),
+      c.loop.invariant.from_is,
+      c.requires.rows,
+    ) in
     search rules
 
 pub overflow_add-from-in-loop : goal.overflow_add-from-in-loop
 overflow_add-from-in-loop g c =
     let room : c.loop.from + c.args.width ≤ length c.args.rows.now =
-    omega (arith, row_within c.loop.counter c.args.count c.args.width (omega arith), c.loop.invariant.from_is, c.requires.rows) in
+    omega (
+      arith,
+      row_within c.loop.counter c.args.count c.args.width (omega arith),
+      c.loop.invariant.from_is,
+      c.requires.rows,
+    ) in
     search rules
 
 pub slice_bounds-copy_from_slice-end : goal.slice_bounds-copy_from_slice-end
 slice_bounds-copy_from_slice-end g c =
     let room : c.loop.from + c.args.width ≤ length c.args.rows.now =
-    omega (arith, row_within c.loop.counter c.args.count c.args.width (omega arith), c.loop.invariant.from_is, c.requires.rows) in
+    omega (
+      arith,
+      row_within c.loop.counter c.args.count c.args.width (omega arith),
+      c.loop.invariant.from_is,
+      c.requires.rows,
+    ) in
     search rules
 
 pub overflow_add-to : goal.overflow_add-to
 overflow_add-to g c =
     let l : c.loop.counter < c.args.size = omega (arith, c.requires.fewer) in
     let room : c.loop.at + c.args.stripes ≤ length c.loop.into =
-    omega (arith, row_within c.loop.counter c.args.size c.args.stripes l, c.loop.invariant.at_is, c.loop.invariant.long) in
+    omega (
+      arith,
+      row_within c.loop.counter c.args.size c.args.stripes l,
+      c.loop.invariant.at_is,
+      c.loop.invariant.long,
+    ) in
     search rules
 
 pub overflow_add-at : goal.overflow_add-at
 overflow_add-at g c =
     let l : c.loop.counter < c.args.size = omega (arith, c.requires.fewer) in
     let room : c.loop.at + c.args.stripes ≤ length c.loop.into =
-    omega (arith, row_within c.loop.counter c.args.size c.args.stripes l, c.loop.invariant.at_is, c.loop.invariant.long) in
+    omega (
+      arith,
+      row_within c.loop.counter c.args.size c.args.stripes l,
+      c.loop.invariant.at_is,
+      c.loop.invariant.long,
+    ) in
     search rules

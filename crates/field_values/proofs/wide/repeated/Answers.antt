@@ -17,7 +17,8 @@ loop-done-preserved g c =
     record {
       items =
           c.in_ok-extend_from_slice.ensures.items ∙ ap (λ l. c.loop-done.row.items ++ l) part
-          ∙ ap (λ l. l ++ replicate more x) c.loop-done.invariant.items ∙ replicate-append-replicate c.loop-done.done more x;
+          ∙ ap (λ l. l ++ replicate more x) c.loop-done.invariant.items
+          ∙ replicate-append-replicate c.loop-done.done more x;
       len =
           omega (
             arith,

@@ -1,7 +1,7 @@
 use Rattle.std.proofs.Common.{◌≡◌, ◌<◌, ◌+◌, ◌-◌, ◌*◌, ◌%◌, ◌/◌, ℕ, bit_xor, length, get_or, drop, ap, ◌∙◌, arith}
 use Rattle.field_elements.specs.Gf16.{gf16}
 use Rattle.field_elements.specs.BinaryField.{times}
-use Rattle.pet_poly.specs.Horner.{horner_from}
+use Rattle.pet_poly.specs.inside.Horner.{horner_from}
 use Rattle.field_rows.specs.Columns.{column}
 use Rattle.field_rows.specs.laws.PlaceLaws.{row_place}
 use Rattle.field_vectors.proofs.ColumnLoop.{horner_below, start_low, start_high, next, done}
@@ -14,8 +14,10 @@ loop-j-init c =
     let hx : c.args.products.now.factor < 65536 = c.args.products.now.right.element in
     record {
       place = c.requires.whole;
-      low = λ i l. start_low rows w c.args.count c.args.products.now.factor i c.requires.whole l c.type_inv.rows hx (omega arith);
-      high = λ i l. start_high rows w c.args.count c.args.products.now.factor i c.requires.whole l c.type_inv.rows hx (omega arith);
+      low = λ i l. start_low rows w c.args.count c.args.products.now.factor i c.requires.whole l c.type_inv.rows hx
+          (omega arith);
+      high = λ i l. start_high rows w c.args.count c.args.products.now.factor i c.requires.whole l c.type_inv.rows hx
+          (omega arith);
     }
 
 pub loop-j-preserved : goal.loop-j-preserved
@@ -32,8 +34,11 @@ loop-j-preserved c =
     λ i l. c.load.ensures.lanes i (omega (arith, c.requires.narrow)) ∙ ap (λ n. get_or rows (n + i) 0) place in
     let is : (i : ℕ) → i < w → bit_xor (times 16 0x1100B x (H i j)) (get_or c.load.result i 0) ≡ H i (j - 1) =
     λ i l.
-    ap (bit_xor (times 16 0x1100B x (H i j))) (loaded i l) ∙ next rows w k x i c.requires.whole l c.type_inv.rows hx j (omega arith) (omega arith) in
-    let both = λ (i : ℕ) (l : i < w). c.step.ensures i (H i j) (omega (arith, c.requires.narrow)) (horner_below rows w k x i c.requires.whole l c.type_inv.rows hx j) (c.loop-j.invariant.low i l) (c.loop-j.invariant.high i l) in
+    ap (bit_xor (times 16 0x1100B x (H i j))) (loaded i l)
+    ∙ next rows w k x i c.requires.whole l c.type_inv.rows hx j (omega arith) (omega arith) in
+    let both = λ (i : ℕ) (l : i < w). c.step.ensures i (H i j) (omega (arith, c.requires.narrow))
+    (horner_below rows w k x i c.requires.whole l c.type_inv.rows hx j) (c.loop-j.invariant.low i l)
+    (c.loop-j.invariant.high i l) in
     record {
       place = place;
       low = λ i l. (both i l).0 ∙ ap (λ n. n % 256) (is i l);
@@ -44,5 +49,7 @@ pub returns : goal.returns
 returns c =
     λ i l.
     c.unload.ensures i l
-    ∙ done c.args.rows.now (length c.args.into.now) c.args.count c.args.products.now.factor i c.requires.whole l c.type_inv.rows (c.args.products.now.right.element) c.loop-j.j c.loop-j.low c.loop-j.high c.join.result
-    (omega arith) c.loop-j.auto.low.0 c.loop-j.auto.high.0 (omega (arith, c.requires.narrow)) c.join.ensures (c.loop-j.invariant.low i l) (c.loop-j.invariant.high i l)
+    ∙ done c.args.rows.now (length c.args.into.now) c.args.count c.args.products.now.factor i c.requires.whole l
+    c.type_inv.rows (c.args.products.now.right.element) c.loop-j.j c.loop-j.low c.loop-j.high c.join.result
+    (omega arith) c.loop-j.auto.low.0 c.loop-j.auto.high.0 (omega (arith, c.requires.narrow)) c.join.ensures
+    (c.loop-j.invariant.low i l) (c.loop-j.invariant.high i l)

@@ -6,7 +6,8 @@ abbrev pub invariant-loop-at : goal.invariant-loop-at
 invariant-loop-at g l = record {
   inside : l.at ≤ length l.other;
   long : length l.into ≡ length l.other;
-  done : (i : ℕ) → i < l.at → slice_index l.into i ≡ bit_xor (slice_index l.initial.into i) (gf16.times l.by.factor (slice_index l.other i));
+  done : (i : ℕ) → i < l.at
+      → slice_index l.into i ≡ bit_xor (slice_index l.initial.into i) (gf16.times l.by.factor (slice_index l.other i));
   others : (i : ℕ) → l.at ≤ i → slice_index l.into i ≡ slice_index l.initial.into i;
 }
 

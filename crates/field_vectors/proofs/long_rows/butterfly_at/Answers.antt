@@ -14,9 +14,11 @@ returns-clause-low c k l m =
     let at = c.args.at in
     let products = c.times.result in
     c.store.ensures.inside k l (omega (arith, c.requires.same))
-    ∙ sum_lane k (get_or c.args.low.now (at + k) 0) (gf16.times x (get_or c.args.high.now (at + k) 0)) to.result products to.ensures.long
+    ∙ sum_lane k (get_or c.args.low.now (at + k) 0)
+    (gf16.times x (get_or c.args.high.now (at + k) 0)) to.result products to.ensures.long
     (ap length c.times.ensures ∙ length-map from.result (gf16.times x) ∙ from.ensures.long) l (to.ensures.lanes k l)
-    (product_lane x k (get_or c.args.high.now (at + k) 0) from.result products from.ensures.long l c.times.ensures (from.ensures.lanes k l))
+    (product_lane x k (get_or c.args.high.now (at + k) 0) from.result products from.ensures.long l c.times.ensures
+    (from.ensures.lanes k l))
 
 pub returns-clause-high : goal.returns-clause-high
 returns-clause-high c k l m =
@@ -24,8 +26,10 @@ returns-clause-high c k l m =
     let to = c.load in
     let at = c.args.at in
     let products = c.times.result in
-    let long : length products ≡ 32 = ap length c.times.ensures ∙ length-map from.result (gf16.times c.args.by.now.factor) ∙ from.ensures.long in
+    let long : length products ≡ 32 = ap length c.times.ensures
+    ∙ length-map from.result (gf16.times c.args.by.now.factor) ∙ from.ensures.long in
     c.store-2.ensures.inside k l m
-    ∙ sum_lane k (get_or c.args.high.now (at + k) 0) (get_or c.store.new.rows (at + k) 0) from.result (zip2 bit_xor to.result products) from.ensures.long
+    ∙ sum_lane k (get_or c.args.high.now (at + k) 0) (get_or c.store.new.rows (at + k) 0) from.result
+    (zip2 bit_xor to.result products) from.ensures.long
     (length-zip2 bit_xor to.result products (to.ensures.long ∙ sym long) ∙ to.ensures.long) l (from.ensures.lanes k l)
     (sym (c.store.ensures.inside k l (omega (arith, c.requires.same))))

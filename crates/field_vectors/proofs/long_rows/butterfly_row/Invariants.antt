@@ -7,8 +7,13 @@ invariant-loop-at g l = record {
   inside : l.at ≤ length l.high;
   long : length l.high ≡ length l.initial.high;
   long_low : length l.low ≡ length l.initial.high;
-  low : (i : ℕ) → i < l.at → slice_index l.low i ≡ bit_xor (slice_index l.initial.low i) (gf16.times l.by.factor (slice_index l.initial.high i));
-  high : (i : ℕ) → i < l.at → slice_index l.high i ≡ bit_xor (slice_index l.initial.high i) (bit_xor (slice_index l.initial.low i) (gf16.times l.by.factor (slice_index l.initial.high i)));
+  low : (i : ℕ) → i < l.at
+      → slice_index l.low i
+      ≡ bit_xor (slice_index l.initial.low i) (gf16.times l.by.factor (slice_index l.initial.high i));
+  high : (i : ℕ) → i < l.at
+      → slice_index l.high i
+      ≡ bit_xor (slice_index l.initial.high i)
+      (bit_xor (slice_index l.initial.low i) (gf16.times l.by.factor (slice_index l.initial.high i)));
   others_low : (i : ℕ) → l.at ≤ i → slice_index l.low i ≡ slice_index l.initial.low i;
   others_high : (i : ℕ) → l.at ≤ i → slice_index l.high i ≡ slice_index l.initial.high i;
 }

@@ -16,5 +16,6 @@ returns-clause-lanes c =
     elim c.if-rows-at-ge32.branch [
       | then-rows-at-ge32 w ↦ ap (λ t. get_or t k 0) w.result-is ∙ get_or-chunk at 32 rows k 0 l
       | else-rows-at-ge32 w ↦
-          ap (λ t. get_or t k 0) w.result-is ∙ w.part.ensures k l ∙ ap (λ t. get_or t k 0) rest ∙ get_or-drop at rows k 0
+          ap (λ t. get_or t k 0) w.result-is ∙ w.part.ensures k l ∙ ap (λ t. get_or t k 0) rest
+          ∙ get_or-drop at rows k 0
     ]

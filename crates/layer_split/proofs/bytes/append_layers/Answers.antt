@@ -5,7 +5,8 @@ use Rattle.layer_split.proofs.Beginning.{begins_after, length_at, message_more}
 use Rattle.layer_split.proofs.bytes.append_layers.Goals as goal
 
 pub append_padded-requires-clause-len : goal.append_padded-requires-clause-len
-append_padded-requires-clause-len c = length_at c.args.runs.now c.args.lengths.now c.loop-layer.layer c.requires.lengths c.loop-layer-test.true
+append_padded-requires-clause-len c =
+    length_at c.args.runs.now c.args.lengths.now c.loop-layer.layer c.requires.lengths c.loop-layer-test.true
 
 pub returns-in_err-append_padded-clause-begins : goal.returns-in_err-append_padded-clause-begins
 returns-in_err-append_padded-clause-begins c =
@@ -18,4 +19,5 @@ loop-layer-preserved c =
     let more = padded (layer_bytes c.args.stream.now c.args.runs.now c.loop-layer.layer) in
     c.in_ok-append_padded.ensures.ok
     ∙ (ap (λ l. l ++ more) c.loop-layer.invariant
-    ∙ (append_assoc c.args.into.now.items so_far more ∙ ap (λ l. c.args.into.now.items ++ l) (sym (message_more c.args.stream.now c.args.runs.now c.loop-layer.layer))))
+    ∙ (append_assoc c.args.into.now.items so_far more
+    ∙ ap (λ l. c.args.into.now.items ++ l) (sym (message_more c.args.stream.now c.args.runs.now c.loop-layer.layer))))

@@ -6,4 +6,5 @@ use Rattle.layer_split.proofs.bytes.append_table.Given as goal
 
 -- the number of runs, and the entries so far
 abbrev pub invariant-loop-run : goal.invariant-loop-run
-invariant-loop-run l = l.into.items ≡ l.fn.into.items ++ (to_be_bytes w32 (length l.runs) ++ flat_map run_entry (take l.run-index l.runs))
+invariant-loop-run l =
+    l.into.items ≡ l.fn.into.items ++ (to_be_bytes w32 (length l.runs) ++ flat_map run_entry (take l.run-index l.runs))

@@ -8,4 +8,5 @@ use Rattle.layer_split.proofs.lengths.layer_length.Given as goal
 abbrev pub invariant-loop-run : goal.invariant-loop-run
 invariant-loop-run l =
     layer_length l.runs l.layer ≤ MAX_GROUP_BYTES
-    → l.length ≡ (if l.layer == 0 then run_table_size (length l.runs) else 0) + sum_by (λ run. run.len) (runs_in l.layer (take l.run-index l.runs))
+    → l.length ≡ (if l.layer == 0 then run_table_size (length l.runs) else 0)
+    + sum_by (λ run. run.len) (runs_in l.layer (take l.run-index l.runs))

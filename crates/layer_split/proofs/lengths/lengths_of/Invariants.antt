@@ -10,5 +10,6 @@ abbrev pub invariant-loop-layer : goal.invariant-loop-layer
 invariant-loop-layer l = record {
   count : array_vec_len l.lengths ≡ l.layer;
   small : l.layer ≤ MAX_LAYERS;
-  so_far : run_table_size (length l.runs) + sum_by (λ run. run.len) l.runs ≤ MAX_GROUP_BYTES → l.lengths.items ≡ lengths_of l.runs l.layer;
+  so_far : run_table_size (length l.runs) + sum_by (λ run. run.len) l.runs ≤ MAX_GROUP_BYTES
+      → l.lengths.items ≡ lengths_of l.runs l.layer;
 }

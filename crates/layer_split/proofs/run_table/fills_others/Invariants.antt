@@ -7,4 +7,6 @@ use Rattle.layer_split.proofs.run_table.fills_others.Given as goal
 -- the layers from here on decide
 abbrev pub invariant-loop-layer : goal.invariant-loop-layer
 invariant-loop-layer l =
-    fills_others l.lengths l.runs ≡ list_all (λ layer. bytes_in layer l.runs == slice_index l.lengths layer) (range_with_len l.layer (length l.lengths - l.layer))
+    fills_others l.lengths l.runs
+    ≡ list_all (λ layer. bytes_in layer l.runs == slice_index l.lengths layer)
+    (range_with_len l.layer (length l.lengths - l.layer))

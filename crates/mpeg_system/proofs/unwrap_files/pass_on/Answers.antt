@@ -1,7 +1,7 @@
 use Rattle.std.proofs.Common.{◌≡◌, ◌++◌, ap, subst}
 use Rattle.std.proofs.lemmas.Result.{on_ok_weaker, IfErr-weaker}
 use Rattle.mpeg_system.specs.Unwrapping.{added}
-use Rattle.mpeg_system.specs.Feeding.{WasFed}
+use Rattle.mpeg_system.specs.inside.Feeding.{WasFed}
 use Rattle.mpeg_system.proofs.Feeding.{fed_more, fed_again}
 use Rattle.mpeg_system.proofs.unwrap_files.pass_on.Goals as goal
 

@@ -1,7 +1,7 @@
 use Rattle.std.proofs.Common.{◌≡◌, ◌+◌, ◌-◌, ◌≤◌, ℕ, List, true, length}
 use Rattle.pet_base.specs.declared.limits.TheConstants.{MAX_STREAM}
 use Rattle.outside_files.specs.declared.input.TheConstants.{MAX_PORTION}
-use Rattle.mpeg_system.specs.Feeding.{Stands, WasFed}
+use Rattle.mpeg_system.specs.inside.Feeding.{Stands, WasFed}
 use Rattle.mpeg_system.proofs.unwrap_files.unwrap_opened.Given as goal
 
 -- a stream was taken, and what the reader gives of it was put

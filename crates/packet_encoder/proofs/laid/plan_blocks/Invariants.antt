@@ -9,6 +9,7 @@ abbrev pub invariant-loop-length : goal.invariant-loop-length
 invariant-loop-length l = record {
   can : goal.iterator-loop-length.can_next l.length-iterator;
   ends : goal.iterator-loop-length.is_finite l.length-iterator;
-  lengths : lengths_of l.blocks.items ++ map (λ s. s.1) (stripes_left l.length-iterator) ≡ stripe_lengths l.table.layers;
+  lengths : lengths_of l.blocks.items ++ map (λ s. s.1) (stripes_left l.length-iterator)
+      ≡ stripe_lengths l.table.layers;
   narrow : All (λ b. b.width ≤ MAX_WIDTH) l.blocks.items;
 }

@@ -21,5 +21,7 @@ returns-clause-values g c =
     let F = g.F.Field in
     let new = c.block_values.new.into in
     let old = c.in_ok-values.values in
-    take_at new (drop (length new) old.items) old.len (c.block_values.auto.into ∙ c.deref_mut.ensures.len) ∙ c.block_values.ensures.values
-    ∙ ap (λ x. map (λ s. value F.coding.ops s x) (columns_of F.coding.ops.nought c.args.blocks.now c.args.laid.now)) c.prepare-factor.ensures
+    take_at new (drop (length new) old.items) old.len (c.block_values.auto.into ∙ c.deref_mut.ensures.len)
+    ∙ c.block_values.ensures.values
+    ∙ ap (λ x. map (λ s. value F.coding.ops s x) (columns_of F.coding.ops.nought c.args.blocks.now c.args.laid.now))
+    c.prepare-factor.ensures

@@ -8,7 +8,8 @@ use Rattle.packet_frame.proofs.byte.read_byte_frame.Goals as goal
 pub returns-clause-ranges : goal.returns-clause-ranges
 returns-clause-ranges c =
     let read = c.read_fields in
-    is_frame_ok BYTE_FORMAT byte_format_is c.args.bytes.now byte_view read.result _ read.ensures.refused read.ensures.fields
+    is_frame_ok BYTE_FORMAT byte_format_is c.args.bytes.now byte_view read.result _ read.ensures.refused
+    read.ensures.fields
 
 pub returns-clause-spelled : goal.returns-clause-spelled
 returns-clause-spelled c =
@@ -19,4 +20,5 @@ returns-clause-spelled c =
 pub returns-clause-read : goal.returns-clause-read
 returns-clause-read c =
     let read = c.read_fields in
-    is_read_ok BYTE_FORMAT byte_format_is byte_view c.args.bytes.now read.result read.ensures.refused read.ensures.fields
+    is_read_ok BYTE_FORMAT byte_format_is byte_view c.args.bytes.now read.result read.ensures.refused
+    read.ensures.fields

@@ -17,7 +17,8 @@ returns-clause-fields c =
     let parts = c.in_ok-parts.parts in
     let table = c.known-table in
     let layers = table.ensures.1 ∙ c.deref.ensures.0 in
-    with_table parts.head table.result.packets parts.layers.items table.result.layers parts.payload.now _ table.ensures.0
+    with_table parts.head table.result.packets parts.layers.items table.result.layers parts.payload.now _
+    table.ensures.0
     layers c.in_ok-parts.ensures.fields
 
 pub known-table-requires : goal.known-table-requires

@@ -15,7 +15,8 @@ returns-clause-refused c = c.in_ok-parts.ensures.refused
 pub returns-clause-fields : goal.returns-clause-fields
 returns-clause-fields c =
     let parts = c.in_ok-parts.parts in
-    with_table parts.head c.known-table.result.packets parts.layers.items c.known-table.result.layers parts.payload.now _ c.known-table.ensures.0 (c.known-table.ensures.1 ∙ c.deref.ensures.0) c.in_ok-parts.ensures.fields
+    with_table parts.head c.known-table.result.packets parts.layers.items c.known-table.result.layers parts.payload.now
+    _ c.known-table.ensures.0 (c.known-table.ensures.1 ∙ c.deref.ensures.0) c.in_ok-parts.ensures.fields
 
 pub known-table-requires : goal.known-table-requires
 known-table-requires c = rw c.deref.ensures.0 c.in_ok-parts.ensures.table

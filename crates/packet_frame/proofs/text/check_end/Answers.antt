@@ -11,14 +11,16 @@ returns-then-bytes-format c =
     let layers = (fields_in c.args.format.now c.args.bytes.now).layers in
     let count = layers_length (count_of c.args.bytes.now) (drop HEAD_LENGTH c.args.bytes.now) in
     let words = ap (λ k. c.args.format.now.word * k) c.requires.stripes in
-    end_unlike c.args.format.now c.args.bytes.now layers (λ same. absurd (omega (arith, same, count, words, c.requires.count, c.from.ensures, c.if-bytes-format.true)))
+    end_unlike c.args.format.now c.args.bytes.now layers
+    (λ same. absurd (omega (arith, same, count, words, c.requires.count, c.from.ensures, c.if-bytes-format.true)))
 
 pub returns-then-not-has_tag : goal.returns-then-not-has_tag
 returns-then-not-has_tag c =
     let layers = (fields_in c.args.format.now c.args.bytes.now).layers in
     let count = layers_length (count_of c.args.bytes.now) (drop HEAD_LENGTH c.args.bytes.now) in
     let words = ap (λ k. c.args.format.now.word * k) c.requires.stripes in
-    let like = end_like c.args.format.now c.args.bytes.now layers (omega (arith, count, words, c.requires.count, c.from.ensures, c.if-bytes-format.false)) c.requires.table.narrow in
+    let like = end_like c.args.format.now c.args.bytes.now layers
+    (omega (arith, count, words, c.requires.count, c.from.ensures, c.if-bytes-format.false)) c.requires.table.narrow in
     like ∙ ap (λ ends. cond (not ends) (Some Tag) None) (sym c.has_tag.ensures ∙ c.if-not-has_tag.true)
 
 pub returns : goal.returns
@@ -26,5 +28,6 @@ returns c =
     let layers = (fields_in c.args.format.now c.args.bytes.now).layers in
     let count = layers_length (count_of c.args.bytes.now) (drop HEAD_LENGTH c.args.bytes.now) in
     let words = ap (λ k. c.args.format.now.word * k) c.requires.stripes in
-    let like = end_like c.args.format.now c.args.bytes.now layers (omega (arith, count, words, c.requires.count, c.from.ensures, c.if-bytes-format.false)) c.requires.table.narrow in
+    let like = end_like c.args.format.now c.args.bytes.now layers
+    (omega (arith, count, words, c.requires.count, c.from.ensures, c.if-bytes-format.false)) c.requires.table.narrow in
     like ∙ ap (λ ends. cond (not ends) (Some Tag) None) (sym c.has_tag.ensures ∙ c.if-not-has_tag.false)

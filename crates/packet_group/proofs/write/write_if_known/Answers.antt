@@ -5,7 +5,9 @@ pub coefficients-requires-clause-enough : goal.coefficients-requires-clause-enou
 coefficients-requires-clause-enough g c = omega (arith, c.requires.size, c.from.ensures, c.met.ensures)
 
 pub returns-then-from-met-clause-same : goal.returns-then-from-met-clause-same
-returns-then-from-met-clause-same g c other = absurd (omega (arith, other, c.requires.size, c.from.ensures, c.met.ensures))
+returns-then-from-met-clause-same g c other =
+    absurd (omega (arith, other, c.requires.size, c.from.ensures, c.met.ensures))
 
 pub returns-else-from-met-clause-written : goal.returns-else-from-met-clause-written
-returns-else-from-met-clause-written g c same = absurd (omega (arith, same, c.requires.size, c.from.ensures, c.met.ensures))
+returns-else-from-met-clause-written g c same =
+    absurd (omega (arith, same, c.requires.size, c.from.ensures, c.met.ensures))

@@ -10,11 +10,13 @@ abbrev pub invariant-loop-stripe : goal.invariant-loop-stripe
 invariant-loop-stripe g l = record {
   can : (goal.iterator-loop-stripe g).can_next l.stripe-iterator;
   ends : (goal.iterator-loop-stripe g).is_finite l.stripe-iterator;
-  rest : stripes_left (enumerate_source l.stripe-iterator) ≡ drop (enumerate_count l.stripe-iterator) (plan_stripes l.table.layers);
+  rest : stripes_left (enumerate_source l.stripe-iterator)
+      ≡ drop (enumerate_count l.stripe-iterator) (plan_stripes l.table.layers);
   room : length l.message ≡ length l.initial.message;
   bytes : All (λ b. b < 256) l.message;
   known : (j : ℕ) → j < enumerate_count l.stripe-iterator → length (stripe_of l.progress j) ≡ l.progress.met
       → slice_index_or (stripes_in g.F.Field.coding l.table.layers l.message) j [] ≡ stripe_of l.progress j;
   others : (j : ℕ) → j < length l.progress.stripes → length (stripe_of l.progress j) ≢ l.progress.met
-      → slice_index_or (stripes_in g.F.Field.coding l.table.layers l.message) j [] ≡ slice_index_or (stripes_in g.F.Field.coding l.table.layers l.initial.message) j [];
+      → slice_index_or (stripes_in g.F.Field.coding l.table.layers l.message) j []
+      ≡ slice_index_or (stripes_in g.F.Field.coding l.table.layers l.initial.message) j [];
 }

@@ -19,8 +19,10 @@ loop-shown-init g c =
 pub returns-in_err-put_record-clause-part : goal.returns-in_err-put_record-clause-part
 returns-in_err-put_record-clause-part g c =
     on_any_err c.from_residual.result
-    (part_here c.args.arrival c.args.group c.args.layers.now c.loop-shown.shown-index _ (g.P.Place.seen c.args.place.now) (g.P.Place.seen c.loop-shown.place) (g.P.Place.seen c.put_record.new.place)
-    c.loop-shown-test.true c.loop-shown.invariant.others.target c.loop-shown.invariant.puts c.in_err-put_record.ensures.part)
+    (part_here c.args.arrival c.args.group c.args.layers.now c.loop-shown.shown-index _
+    (g.P.Place.seen c.args.place.now) (g.P.Place.seen c.loop-shown.place) (g.P.Place.seen c.put_record.new.place)
+    c.loop-shown-test.true c.loop-shown.invariant.others.target c.loop-shown.invariant.puts
+    c.in_err-put_record.ensures.part)
 
 pub loop-shown-preserved : goal.loop-shown-preserved
 loop-shown-preserved g c =
@@ -30,7 +32,8 @@ loop-shown-preserved g c =
     record {
       puts =
           puts_here c.args.arrival c.args.group c.args.layers.now c.loop-shown.shown-index _ first before after
-          c.loop-shown-test.true c.loop-shown.invariant.others.target c.loop-shown.invariant.puts c.in_ok-put_record.ensures.files;
+          c.loop-shown-test.true c.loop-shown.invariant.others.target c.loop-shown.invariant.puts
+          c.in_ok-put_record.ensures.files;
       others = OnlyWrites-then first before after c.loop-shown.invariant.others c.put_record.ensures.others;
       later = omega (arith, c.loop-shown.invariant.later, c.put_record.ensures.cause.later);
       calm = c.in_ok-put_record.ensures.once ∙ c.loop-shown.invariant.calm;

@@ -6,7 +6,8 @@ use Rattle.packet_met.proofs.records.put_records.Given as goal
 
 abbrev pub invariant-loop-shown : goal.invariant-loop-shown
 invariant-loop-shown g l = record {
-  puts : Puts (records_text l.arrival l.group (take l.shown-index l.layers)) (g.P.Place.seen l.initial.place) (g.P.Place.seen l.place);
+  puts : Puts (records_text l.arrival l.group (take l.shown-index l.layers)) (g.P.Place.seen l.initial.place)
+      (g.P.Place.seen l.place);
   others : OnlyWrites (g.P.Place.seen l.initial.place) (g.P.Place.seen l.place);
   later : (g.P.Place.seen l.initial.place).faults ≤ (g.P.Place.seen l.place).faults;
   calm : (g.P.Place.seen l.place).faults ≡ (g.P.Place.seen l.initial.place).faults;

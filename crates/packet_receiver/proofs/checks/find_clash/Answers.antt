@@ -2,36 +2,46 @@ use Rattle.std.specs.Prelude.{option_copied}
 use Rattle.std.proofs.Common.{◌≡◌, ℕ, Option, List, ◌∷◌, sym, ap, ◌∙◌}
 use Rattle.packet_set.specs.Packets.{Packets}
 use Rattle.packet_verdicts.specs.GroupClash.{first_clash_in}
-use Rattle.packet_receiver.specs.Joining.{clash_from, clash_or, packets_by, packets_at}
+use Rattle.packet_receiver.specs.inside.Joining.{clash_from, clash_or, packets_by, packets_at}
 use Rattle.packet_receiver.proofs.Clashes.{clash_next, clash_end}
 use Rattle.packet_receiver.proofs.checks.find_clash.Goals as goal
 
 -- one group more
-step : {X : Type 0} (kept : X → Packets) (told : Option ℕ) (mine : List (ℕ × Packets)) (it : List (ℕ × X)) (e : ℕ × X) (rest : List (ℕ × X)) (o : Option Packets) (p : Packets) (r : Option ℕ)
-    → it ≡ e ∷ rest → o ≡ packets_at mine e.0 → p ≡ kept e.1 → r ≡ first_clash_in told o p → clash_from told mine (packets_by kept it) ≡ clash_or e.0 r (clash_from told mine (packets_by kept rest))
+step : {X : Type 0} (kept : X → Packets) (told : Option ℕ) (mine : List (ℕ × Packets)) (it : List (ℕ × X)) (e : ℕ × X)
+    (rest : List (ℕ × X)) (o : Option Packets) (p : Packets) (r : Option ℕ)
+    → it ≡ e ∷ rest → o ≡ packets_at mine e.0 → p ≡ kept e.1 → r ≡ first_clash_in told o p
+    → clash_from told mine (packets_by kept it) ≡ clash_or e.0 r (clash_from told mine (packets_by kept rest))
 step kept told mine it e rest o p r is here packets found =
     let later = packets_by kept rest in
     ap (λ x. clash_from told mine (packets_by kept x)) is ∙ clash_next mine told (e.0, kept e.1) later
-    ∙ ap (λ x. clash_or e.0 x (clash_from told mine later)) (sym (found ∙ ap (λ x. first_clash_in told x p) here ∙ ap (first_clash_in told (packets_at mine e.0)) packets))
+    ∙ ap (λ x. clash_or e.0 x (clash_from told mine later))
+    (sym (found ∙ ap (λ x. first_clash_in told x p) here ∙ ap (first_clash_in told (packets_at mine e.0)) packets))
 
 pub loop-group-preserved : goal.loop-group-preserved
 loop-group-preserved g c =
     let kept = g.G.HasPackets.kept in
     let es = packets_by kept c.args.groups.now.entries in
-    let one = step kept c.args.told es c.loop-group.group-iterator (c.in-Some.group.now, c.in-Some.other.now) c.next.new.self (option_copied c.packets_in.result) c.packets.result.now c.clash_in.result
+    let one = step kept c.args.told es c.loop-group.group-iterator
+    (c.in-Some.group.now, c.in-Some.other.now) c.next.new.self
+    (option_copied c.packets_in.result) c.packets.result.now c.clash_in.result
     c.in-Some.ensures.steps c.packets_in.ensures c.packets.ensures c.clash_in.ensures in
-    sym (one ∙ ap (λ x. clash_or c.in-Some.group.now x (clash_from c.args.told es (packets_by kept c.next.new.self))) c.in_default.is) ∙ c.loop-group.invariant
+    sym (one ∙ ap (λ x. clash_or c.in-Some.group.now x (clash_from c.args.told es (packets_by kept c.next.new.self)))
+    c.in_default.is) ∙ c.loop-group.invariant
 
 pub returns-in-Some-clash_in : goal.returns-in-Some-clash_in
 returns-in-Some-clash_in g c =
     let kept = g.G.HasPackets.kept in
     let es = packets_by kept c.args.groups.now.entries in
-    let one = step kept c.args.told es c.loop-group.group-iterator (c.in-Some.group.now, c.in-Some.other.now) c.next.new.self (option_copied c.packets_in.result) c.packets.result.now c.clash_in.result
+    let one = step kept c.args.told es c.loop-group.group-iterator
+    (c.in-Some.group.now, c.in-Some.other.now) c.next.new.self
+    (option_copied c.packets_in.result) c.packets.result.now c.clash_in.result
     c.in-Some.ensures.steps c.packets_in.ensures c.packets.ensures c.clash_in.ensures in
-    sym (one ∙ ap (λ x. clash_or c.in-Some.group.now x (clash_from c.args.told es (packets_by kept c.next.new.self))) c.in-Some-clash_in.is) ∙ c.loop-group.invariant
+    sym (one ∙ ap (λ x. clash_or c.in-Some.group.now x (clash_from c.args.told es (packets_by kept c.next.new.self)))
+    c.in-Some-clash_in.is) ∙ c.loop-group.invariant
 
 pub returns : goal.returns
 returns g c =
     let kept = g.G.HasPackets.kept in
     let es = packets_by kept c.args.groups.now.entries in
-    sym (clash_end es c.args.told) ∙ ap (λ x. clash_from c.args.told es (packets_by kept x)) (sym c.in-None.ensures.steps.0) ∙ c.loop-group.invariant
+    sym (clash_end es c.args.told)
+    ∙ ap (λ x. clash_from c.args.told es (packets_by kept x)) (sym c.in-None.ensures.steps.0) ∙ c.loop-group.invariant

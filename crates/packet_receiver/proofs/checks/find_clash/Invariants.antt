@@ -1,5 +1,5 @@
 use Rattle.std.proofs.Common.{◌≡◌}
-use Rattle.packet_receiver.specs.Joining.{packets_by, clash_from}
+use Rattle.packet_receiver.specs.inside.Joining.{packets_by, clash_from}
 use Rattle.packet_receiver.proofs.checks.find_clash.Given as goal
 
 abbrev pub invariant-loop-group : goal.invariant-loop-group

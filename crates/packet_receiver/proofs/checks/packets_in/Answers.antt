@@ -8,9 +8,11 @@ use Rattle.packet_receiver.proofs.checks.packets_in.Goals as goal
 pub returns-in-Some : goal.returns-in-Some
 returns-in-Some g c =
     let value = g.G.HasPackets.kept in
-    ap (λ (p : Packets). Some p) c.packets.ensures ∙ ap (option_map value) c.in-Some.ensures.value ∙ sym (lookup_values value (is_at (nat_cmp c.args.group)) c.args.groups.now.entries)
+    ap (λ (p : Packets). Some p) c.packets.ensures ∙ ap (option_map value) c.in-Some.ensures.value
+    ∙ sym (lookup_values value (is_at (nat_cmp c.args.group)) c.args.groups.now.entries)
 
 pub returns-in-None : goal.returns-in-None
 returns-in-None g c =
     let value = g.G.HasPackets.kept in
-    ap (option_map value) c.in-None.ensures.value ∙ sym (lookup_values value (is_at (nat_cmp c.args.group)) c.args.groups.now.entries)
+    ap (option_map value) c.in-None.ensures.value
+    ∙ sym (lookup_values value (is_at (nat_cmp c.args.group)) c.args.groups.now.entries)

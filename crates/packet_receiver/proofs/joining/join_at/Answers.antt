@@ -10,6 +10,8 @@ returns-in-Some g c =
     let es = c.args.groups.now.entries in
     let found : lookup (is_at (nat_cmp c.args.group)) es ≡ Some c.in-Some.open.now = sym c.in-Some.ensures.value in
     record {
-      joined = joined_one F.is_element F.coding es c.args.group c.args.theirs.now c.args.steps.now c.in-Some.open.now c.join_open.new.mine _ c.join_open.new.steps
+      joined =
+          joined_one F.is_element F.coding es c.args.group c.args.theirs.now c.args.steps.now c.in-Some.open.now
+          c.join_open.new.mine _ c.join_open.new.steps
           c.get_mut.ensures.ordered found c.join_open.ensures (search rules);
     }

@@ -7,12 +7,15 @@ use Rattle.packet_receiver.proofs.Filling.{payload_long}
 use Rattle.packet_receiver.proofs.joining.join_number.Goals as goal
 
 pub keep-requires-clause-points : goal.keep-requires-clause-points
-keep-requires-clause-points g c = let same = ap (λ (h : Header). h.table.packets) c.requires.ready.header in omega (arith, same, c.requires.points)
+keep-requires-clause-points g c =
+    let same = ap (λ (h : Header). h.table.packets) c.requires.ready.header in omega (arith, same, c.requires.points)
 
 -- a payload has a word of the field for each stripe
 pub keep-requires-clause-payload : goal.keep-requires-clause-payload
 keep-requires-clause-payload g c =
     let t = c.args.theirs.now in
-    let layers : layers_of c.args.mine.now.packets ≡ layers_of t = ap (λ (h : Header). h.table.layers) c.requires.ready.header in
+    let layers : layers_of c.args.mine.now.packets ≡ layers_of t =
+    ap (λ (h : Header). h.table.layers) c.requires.ready.header in
     let words = c.requires.ready.same_word ∙ sym c.requires.ready.word in
-    payload_long t c.in-Some.ensures.bounds c.args.number c.in-Some.payload.now c.in-Some.ensures.value ∙ ap₂ (λ w (l : List LayerSize). w * length (plan_ends l)) words (sym layers)
+    payload_long t c.in-Some.ensures.bounds c.args.number c.in-Some.payload.now c.in-Some.ensures.value
+    ∙ ap₂ (λ w (l : List LayerSize). w * length (plan_ends l)) words (sym layers)

@@ -11,4 +11,5 @@ on_err (Err x) P p = p
 pub returns-then-is_err-clause-err : goal.returns-then-is_err-clause-err
 returns-then-is_err-clause-err g c =
     on_err c.open_each-opened.result (c.close_empty.new.groups.entries ≡ c.args.groups.now.entries)
-    (c.close_empty.ensures ∙ c.open_each-opened.ensures.same ∙ filter_all (λ e. nat_lt 0 (count_in e.1.packets)) c.args.groups.now.entries c.requires.some)
+    (c.close_empty.ensures ∙ c.open_each-opened.ensures.same
+    ∙ filter_all (λ e. nat_lt 0 (count_in e.1.packets)) c.args.groups.now.entries c.requires.some)

@@ -3,7 +3,7 @@ use Rattle.std.proofs.Common.{◌≡◌, ℕ, Bool, sym, ap, ◌∙◌, subst}
 use Rattle.packet_frame.specs.declared.frame.Header.{Header}
 use Rattle.packet_set.specs.Packets.{Packets, count_in}
 use Rattle.packet_receiver.specs.Arrivals.{GroupState}
-use Rattle.packet_receiver.specs.Joining.{OpensOne, OpensAll}
+use Rattle.packet_receiver.specs.inside.Joining.{OpensOne, OpensAll}
 use Rattle.packet_receiver.proofs.Opened.{opens_next, opens_same, opens_end}
 use Rattle.packet_receiver.proofs.joining.open_each.Goals as goal
 
@@ -12,21 +12,28 @@ loop-group-preserved g c =
     let F = g.F.Field in
     let es = c.loop-group.groups.entries in
     let mid = c.open_missing.new.groups.entries in
-    let header : c.header.result.now ≡ c.in-Some.other.now.packets.header = c.header.ensures.value ∙ ap (λ (p : Packets). p.header) c.packets.ensures in
+    let header : c.header.result.now ≡ c.in-Some.other.now.packets.header =
+    c.header.ensures.value ∙ ap (λ (p : Packets). p.header) c.packets.ensures in
     record {
       opened =
           λ after all.
-          let one = subst (λ (h : Header). OpensOne F.is_element F.coding es c.in-Some.group.now h mid) header c.in_ok-open_missing.ensures.opened in
-          c.loop-group.invariant.opened after (subst (λ it. OpensAll F.is_element F.coding es it after) (sym c.in-Some.ensures.steps)
-          (opens_next F.is_element F.coding es mid after (c.in-Some.group.now, c.in-Some.other.now) c.next.new.self one all));
-      same = opens_same F.is_element F.coding es mid c.in-Some.group.now c.header.result.now c.in_ok-open_missing.ensures.opened ∙ c.loop-group.invariant.same;
+          let one = subst (λ (h : Header). OpensOne F.is_element F.coding es c.in-Some.group.now h mid) header
+          c.in_ok-open_missing.ensures.opened in
+          c.loop-group.invariant.opened after
+          (subst (λ it. OpensAll F.is_element F.coding es it after) (sym c.in-Some.ensures.steps)
+          (opens_next F.is_element F.coding es mid after
+          (c.in-Some.group.now, c.in-Some.other.now) c.next.new.self one all));
+      same =
+          opens_same F.is_element F.coding es mid c.in-Some.group.now c.header.result.now
+          c.in_ok-open_missing.ensures.opened ∙ c.loop-group.invariant.same;
     }
 
 pub returns-clause-opened : goal.returns-clause-opened
 returns-clause-opened g c =
     let F = g.F.Field in
     let es = c.loop-group.groups.entries in
-    c.loop-group.invariant.opened es (subst (λ it. OpensAll F.is_element F.coding es it es) (sym c.in-None.ensures.steps.0) (opens_end F.is_element F.coding es))
+    c.loop-group.invariant.opened es (subst (λ it. OpensAll F.is_element F.coding es it es)
+    (sym c.in-None.ensures.steps.0) (opens_end F.is_element F.coding es))
 
 pub returns-in_err-open_missing-clause-same : goal.returns-in_err-open_missing-clause-same
 returns-in_err-open_missing-clause-same g c =

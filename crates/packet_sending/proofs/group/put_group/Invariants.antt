@@ -8,8 +8,10 @@ use Rattle.packet_sending.proofs.group.put_group.Given as goal
 abbrev pub invariant-loop-first : goal.invariant-loop-first
 invariant-loop-first g l = record {
   within : l.first ≤ l.packets;
-  sends : Sends (way_of l.to) (first_datagrams l.encoder l.first) (routes g.P.Place g.K.Link l.initial.place l.initial.link) (routes g.P.Place g.K.Link l.place l.link);
-  others : OnlyGrows (routes g.P.Place g.K.Link l.initial.place l.initial.link) (routes g.P.Place g.K.Link l.place l.link);
+  sends : Sends (way_of l.to) (first_datagrams l.encoder l.first)
+      (routes g.P.Place g.K.Link l.initial.place l.initial.link) (routes g.P.Place g.K.Link l.place l.link);
+  others : OnlyGrows (routes g.P.Place g.K.Link l.initial.place l.initial.link)
+      (routes g.P.Place g.K.Link l.place l.link);
   calm_place : (g.P.Place.seen l.place).faults ≡ (g.P.Place.seen l.initial.place).faults;
   calm_link : (g.K.Link.seen l.link).faults ≡ (g.K.Link.seen l.initial.link).faults;
   cost : l.steps ≤ l.initial.steps + l.first * length (needs_of l.encoder.header.table.layers);

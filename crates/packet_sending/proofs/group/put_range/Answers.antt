@@ -11,7 +11,8 @@ use Rattle.packet_sending.proofs.group.put_range.Goals as goal
 pub returns-in_err-range-clause-part : goal.returns-in_err-range-clause-part
 returns-in_err-range-clause-part g c =
     let r = routes g.P.Place g.K.Link c.args.place.now c.args.link.now in
-    on_any_err c.from_residual.result (part_nothing (way_of c.args.to) (range_datagrams c.args.encoder.now c.args.first c.args.count) r r refl refl)
+    on_any_err c.from_residual.result
+    (part_nothing (way_of c.args.to) (range_datagrams c.args.encoder.now c.args.first c.args.count) r r refl refl)
 
 pub loop-init : goal.loop-init
 loop-init g c =
@@ -28,8 +29,10 @@ pub slice_bounds-put_packet-end : goal.slice_bounds-put_packet-end
 slice_bounds-put_packet-end g c =
     let len = c.datagram_length-length.result in
     let room : c.loop.at + len ≤ length c.deref.result.now =
-    piece_within c.args.encoder.now c.args.first c.args.count len c.in_ok-range.ensures.ranges _ c.header.ensures.value c.datagram_length-length.ensures.length
-    _ _ c.deref.result.now c.clear.ensures.items c.in_ok-range.ensures.ok c.deref.ensures.value c.loop.counter c.loop.at (omega arith) c.loop.invariant.place in
+    piece_within c.args.encoder.now c.args.first c.args.count len c.in_ok-range.ensures.ranges _ c.header.ensures.value
+    c.datagram_length-length.ensures.length
+    _ _ c.deref.result.now c.clear.ensures.items c.in_ok-range.ensures.ok c.deref.ensures.value c.loop.counter
+    c.loop.at (omega arith) c.loop.invariant.place in
     search rules
 
 pub returns-in_err-put_packet-clause-part : goal.returns-in_err-put_packet-clause-part
@@ -39,11 +42,15 @@ returns-in_err-put_packet-clause-part g c =
     let at = c.loop.at in
     let l : c.loop.counter < c.args.count = omega arith in
     let piece =
-    piece_is e c.args.first c.args.count len c.in_ok-range.ensures.ranges _ c.header.ensures.value c.datagram_length-length.ensures.length
-    _ _ c.deref.result.now c.clear.ensures.items c.in_ok-range.ensures.ok c.deref.ensures.value c.loop.counter at (at + len - at) l c.loop.invariant.place (omega arith) in
+    piece_is e c.args.first c.args.count len c.in_ok-range.ensures.ranges _ c.header.ensures.value
+    c.datagram_length-length.ensures.length
+    _ _ c.deref.result.now c.clear.ensures.items c.in_ok-range.ensures.ok c.deref.ensures.value c.loop.counter at
+    (at + len - at) l c.loop.invariant.place (omega arith) in
     on_any_err c.from_residual-in_err-put_packet.result
-    (part_packet (way_of c.args.to) e c.args.first c.loop.counter c.args.count (take (at + len - at) (drop at c.deref.result.now))
-    (routes g.P.Place g.K.Link c.args.place.now c.args.link.now) (routes g.P.Place g.K.Link c.loop.place c.loop.link) (routes g.P.Place g.K.Link c.put_packet.new.place c.put_packet.new.link)
+    (part_packet (way_of c.args.to) e c.args.first c.loop.counter c.args.count
+    (take (at + len - at) (drop at c.deref.result.now))
+    (routes g.P.Place g.K.Link c.args.place.now c.args.link.now) (routes g.P.Place g.K.Link c.loop.place c.loop.link)
+    (routes g.P.Place g.K.Link c.put_packet.new.place c.put_packet.new.link)
     piece l c.loop.invariant.others.place.target c.loop.invariant.sends c.in_err-put_packet.ensures.part)
 
 pub loop-preserved : goal.loop-preserved
@@ -55,9 +62,13 @@ loop-preserved g c =
     let after = routes g.P.Place g.K.Link c.put_packet.new.place c.put_packet.new.link in
     record {
       place = omega (arith, c.loop.invariant.place);
-      sends = sends_packet (way_of c.args.to) c.args.encoder.now c.args.first c.loop.counter (take (at + len - at) (drop at c.deref.result.now)) first before after
-          (piece_is c.args.encoder.now c.args.first c.args.count len c.in_ok-range.ensures.ranges _ c.header.ensures.value c.datagram_length-length.ensures.length
-          _ _ c.deref.result.now c.clear.ensures.items c.in_ok-range.ensures.ok c.deref.ensures.value c.loop.counter at (at + len - at) (omega arith) c.loop.invariant.place (omega arith))
+      sends =
+          sends_packet (way_of c.args.to) c.args.encoder.now c.args.first c.loop.counter
+          (take (at + len - at) (drop at c.deref.result.now)) first before after
+          (piece_is c.args.encoder.now c.args.first c.args.count len c.in_ok-range.ensures.ranges _
+          c.header.ensures.value c.datagram_length-length.ensures.length
+          _ _ c.deref.result.now c.clear.ensures.items c.in_ok-range.ensures.ok c.deref.ensures.value c.loop.counter at
+          (at + len - at) (omega arith) c.loop.invariant.place (omega arith))
           c.loop.invariant.others.place.target c.loop.invariant.sends c.in_ok-put_packet.ensures.sends;
       others = grows_then first before after c.loop.invariant.others c.put_packet.ensures.others;
       calm_place = c.in_ok-put_packet.ensures.once_place ∙ c.loop.invariant.calm_place;

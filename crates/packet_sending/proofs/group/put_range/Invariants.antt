@@ -7,8 +7,10 @@ use Rattle.packet_sending.proofs.group.put_range.Given as goal
 abbrev pub invariant-loop : goal.invariant-loop
 invariant-loop g l = record {
   place : l.at ≡ l.counter * l.length;
-  sends : Sends (way_of l.to) (range_datagrams l.encoder l.first l.counter) (routes g.P.Place g.K.Link l.initial.place l.initial.link) (routes g.P.Place g.K.Link l.place l.link);
-  others : OnlyGrows (routes g.P.Place g.K.Link l.initial.place l.initial.link) (routes g.P.Place g.K.Link l.place l.link);
+  sends : Sends (way_of l.to) (range_datagrams l.encoder l.first l.counter)
+      (routes g.P.Place g.K.Link l.initial.place l.initial.link) (routes g.P.Place g.K.Link l.place l.link);
+  others : OnlyGrows (routes g.P.Place g.K.Link l.initial.place l.initial.link)
+      (routes g.P.Place g.K.Link l.place l.link);
   calm_place : (g.P.Place.seen l.place).faults ≡ (g.P.Place.seen l.initial.place).faults;
   calm_link : (g.K.Link.seen l.link).faults ≡ (g.K.Link.seen l.initial.link).faults;
 }

@@ -14,6 +14,7 @@ pub returns-in-None : goal.returns-in-None
 returns-in-None c =
     let f = view c.args.frame.now in
     next_verdict f c.args.packets.now c.shown_in_next.result
-    (ap (λ (h : Header). not (same_table h.table c.args.frame.now.header.table)) (sym c.header.ensures.value) ∙ sym c.if-ne.ensures)
+    (ap (λ (h : Header). not (same_table h.table c.args.frame.now.header.table)) (sym c.header.ensures.value)
+    ∙ sym c.if-ne.ensures)
     (sym c.payload.ensures.value ∙ ap (option_map (λ bytes. bytes.now)) c.in-None.is)
     c.shown_in_next.ensures

@@ -1,5 +1,5 @@
 use Rattle.std.proofs.Common.{ℕ, Bool, ◌+◌, ◌^◌, cond, get_or, sym, ap, ap₂, ◌∙◌}
-use Rattle.packet_verdicts.specs.ByCounts.{is_between}
+use Rattle.packet_verdicts.specs.inside.ByCounts.{is_between}
 use Rattle.packet_verdicts.specs.laws.LayerSetLaws.{bits_more}
 use Rattle.packet_verdicts.proofs.judge.shown_by_next.Goals as goal
 

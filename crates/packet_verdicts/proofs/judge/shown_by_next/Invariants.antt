@@ -1,5 +1,5 @@
 use Rattle.std.proofs.Common.{◌≡◌, ◌<◌, ◌+◌, ◌^◌, get_or}
-use Rattle.packet_verdicts.specs.ByCounts.{is_between}
+use Rattle.packet_verdicts.specs.inside.ByCounts.{is_between}
 use Rattle.packet_verdicts.specs.laws.LayerSetLaws.{bits_below}
 use Rattle.packet_verdicts.proofs.judge.shown_by_next.Given as goal
 

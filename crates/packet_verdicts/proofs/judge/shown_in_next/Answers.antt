@@ -1,7 +1,7 @@
 use Rattle.std.proofs.Common.{◌+◌, ap, ap₂, ◌∙◌}
 use Rattle.packet_set.specs.Packets.{layers_of, count_in}
 use Rattle.packet_verdicts.specs.Verdicts.{layer_set}
-use Rattle.packet_verdicts.specs.ByCounts.{shown_by}
+use Rattle.packet_verdicts.specs.inside.ByCounts.{shown_by}
 use Rattle.packet_verdicts.proofs.ByCounts.{shown_by_counts}
 use Rattle.packet_verdicts.proofs.judge.shown_in_next.Goals as goal
 

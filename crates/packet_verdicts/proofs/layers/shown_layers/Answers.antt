@@ -5,4 +5,11 @@ use Rattle.packet_verdicts.proofs.layers.shown_layers.Goals as goal
 
 pub overflow_add-shown : goal.overflow_add-shown
 overflow_add-shown c =
-    omega (arith, c.loop-needed.invariant.few, c.loop-needed-test.true, c.counts-needed-items.ensures.few, c.one_if-shown.ensures, one-le (nat_le (get_or c.counts-needed-items.result.now c.loop-needed.needed-index 0) c.len-held.result))
+    omega (
+      arith,
+      c.loop-needed.invariant.few,
+      c.loop-needed-test.true,
+      c.counts-needed-items.ensures.few,
+      c.one_if-shown.ensures,
+      one-le (nat_le (get_or c.counts-needed-items.result.now c.loop-needed.needed-index 0) c.len-held.result),
+    )

@@ -7,10 +7,13 @@ use Rattle.packet_verdicts.specs.Union.{is_new}
 use Rattle.packet_verdicts.specs.laws.LayerSetLaws.{filter_more, one-le}
 use Rattle.packet_verdicts.proofs.shown.count_new.Goals as goal
 
-length_more : (p : ℕ → Bool) (n : ℕ) → length (filter p (range_with_len 0 (n + 1))) ≡ length (filter p (range_with_len 0 n)) + cond (p n) 1 0
+length_more : (p : ℕ → Bool) (n : ℕ)
+    → length (filter p (range_with_len 0 (n + 1))) ≡ length (filter p (range_with_len 0 n)) + cond (p n) 1 0
 length_more p n = ap length (filter_more p n) ∙ by (p n)
   where
-    by : (b : Bool) → length (filter p (range_with_len 0 n) ++ cond b (n ∷ []) []) ≡ length (filter p (range_with_len 0 n)) + cond b 1 0
+    by : (b : Bool)
+        → length (filter p (range_with_len 0 n) ++ cond b (n ∷ []) [])
+        ≡ length (filter p (range_with_len 0 n)) + cond b 1 0
     by true = omega (arith, length-append (filter p (range_with_len 0 n)) (n ∷ []))
     by false = omega (arith, length-append {A = ℕ} (filter p (range_with_len 0 n)) [])
 

@@ -10,7 +10,8 @@ invariant-loop-j g l = record {
   elements : All (λ a. a < 65536) l.rows;
   long : length l.rows ≡ length l.initial.rows;
   sums : (i c : ℕ) → i < l.j → c < length l.row → slice_index l.rows (i * length l.row + c)
-      ≡ bit_xor (slice_index l.initial.rows (i * length l.row + c)) (gf16.times (slice_index (factors_of l.factors) i) (slice_index l.row c));
+      ≡ bit_xor (slice_index l.initial.rows (i * length l.row + c))
+      (gf16.times (slice_index (factors_of l.factors) i) (slice_index l.row c));
   rest : (i : ℕ) → l.j * length l.row ≤ i → slice_index l.rows i ≡ slice_index l.initial.rows i;
   cost : l.steps ≡ l.initial.steps + l.j * length l.row;
 }

@@ -19,7 +19,8 @@ pub offset_bounds-exponents-from : goal.offset_bounds-exponents-from
 offset_bounds-exponents-from c = omega (arith, c.from.ensures, c.loop-k.invariant.current, power_below c.loop-k.k)
 
 pub bounds-exponents-from : goal.bounds-exponents-from
-bounds-exponents-from c = omega (arith, c.from.ensures, c.loop-k.invariant.current, power_below c.loop-k.k, c.loop-k.invariant.full)
+bounds-exponents-from c =
+    omega (arith, c.from.ensures, c.loop-k.invariant.current, power_below c.loop-k.k, c.loop-k.invariant.full)
 
 pub loop-k-preserved : goal.loop-k-preserved
 loop-k-preserved c =
@@ -29,12 +30,16 @@ loop-k-preserved c =
     record {
       many = length-set c.loop-k.powers c.loop-k.k c.loop-k.power ∙ i.many;
       full = length-set c.loop-k.exponents c.from.result c.loop-k.k ∙ i.full;
-      current = c.twice-power.ensures ∙ ap (gf16.times 2) i.current ∙ sym (power-suc c.loop-k.k) ∙ ap power_of_x (sym next);
-      filled = rw (c.from.ensures, next) (filled_more c.loop-k.k c.loop-k.power c.loop-k.powers c.loop-k.exponents i.filled i.current (omega arith) room);
+      current =
+          c.twice-power.ensures ∙ ap (gf16.times 2) i.current ∙ sym (power-suc c.loop-k.k) ∙ ap power_of_x (sym next);
+      filled =
+          rw (c.from.ensures, next) (filled_more c.loop-k.k c.loop-k.power c.loop-k.powers c.loop-k.exponents i.filled
+          i.current (omega arith) room);
     }
 
 pub returns : goal.returns
 returns c =
     let i = c.loop-k.invariant in
     let done : c.loop-k.k ≡ 65536 = omega arith in
-    filled_all c.loop-k.powers c.loop-k.exponents i.many i.full (subst (λ k. AreFilled k c.loop-k.powers c.loop-k.exponents) done i.filled)
+    filled_all c.loop-k.powers c.loop-k.exponents i.many i.full
+    (subst (λ k. AreFilled k c.loop-k.powers c.loop-k.exponents) done i.filled)

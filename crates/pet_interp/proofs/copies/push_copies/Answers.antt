@@ -10,7 +10,8 @@ loop-i-preserved g c =
     let old = c.args.into.now.items in
     let i = c.loop-i.i in
     let v = c.args.value in
-    c.in_ok-push.ensures.items ∙ ap (λ t. t ++ (v ∷ [])) c.loop-i.invariant ∙ append_assoc old (replicate i v) (v ∷ []) ∙ ap (λ t. old ++ t) (replicate_more i v)
+    c.in_ok-push.ensures.items ∙ ap (λ t. t ++ (v ∷ [])) c.loop-i.invariant ∙ append_assoc old (replicate i v) (v ∷ [])
+    ∙ ap (λ t. old ++ t) (replicate_more i v)
 
 pub returns : goal.returns
 returns g c =

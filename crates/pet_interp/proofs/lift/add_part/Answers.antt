@@ -1,12 +1,15 @@
 use Rattle.std.proofs.Common.{◌≡◌, ◌∙◌, ◌<◌, ◌++◌, length, map, get_or, take, refl, ap, ap₂, sym, arith}
 use Rattle.std.proofs.lemmas.List.{length-set, length-map, map-append}
 use Rattle.pet_interp.specs.Blocks.{HeldBlock, stripes_in, no_block}
-use Rattle.pet_interp.specs.Lifted.{grown}
-use Rattle.pet_interp.proofs.Passes.{blocks_kept, block_ahead, cost_block, stripes_more, stripes_more_set, rest_more, all_stripes, all_cost}
+use Rattle.pet_interp.specs.inside.Lifted.{grown}
+use Rattle.pet_interp.proofs.Passes.{blocks_kept, block_ahead, cost_block, stripes_more, stripes_more_set, rest_more}
+use Rattle.pet_interp.proofs.Passes.{all_stripes, all_cost}
 use Rattle.pet_interp.proofs.lift.add_part.Goals as goal
 
 pub add_multiples-requires-clause-waits : goal.add_multiples-requires-clause-waits
-add_multiples-requires-clause-waits g c = (c.loop-i.invariant.blocks c.requires.blocks.0 c.requires.blocks.1 c.loop-i.i c.index-blocks-i.result (omega (arith, c.loop-i.invariant.long))).waits
+add_multiples-requires-clause-waits g c =
+    (c.loop-i.invariant.blocks c.requires.blocks.0 c.requires.blocks.1 c.loop-i.i c.index-blocks-i.result
+    (omega (arith, c.loop-i.invariant.long))).waits
 
 pub loop-i-preserved : goal.loop-i-preserved
 loop-i-preserved g c =
@@ -23,16 +26,20 @@ loop-i-preserved g c =
     let few0 : i < length old = c.loop-i-test.true in
     let few : i < length now = omega (arith, inv.long) in
     let same = block_ahead now old i b no_block few inv.rest in
-    let count : length new.stripes ≡ length (get_or now i b).stripes = ap length did.stripes ∙ length-map (get_or now i b).stripes G in
+    let count : length new.stripes ≡ length (get_or now i b).stripes =
+    ap length did.stripes ∙ length-map (get_or now i b).stripes G in
     record {
       long = length-set now i new ∙ inv.long;
       blocks = λ room h. blocks_kept P met room now i b new (inv.blocks room h) few did.size did.waits count did.each;
       done =
           stripes_more_set now i new few
           ∙ ap₂ ◌++◌ inv.done (did.stripes ∙ ap (λ (v : HeldBlock g.row.F-Elem.Denot). map G v.stripes) same)
-          ∙ sym (map-append G (stripes_in (take i old)) (get_or old i no_block).stripes) ∙ ap (map G) (sym (stripes_more old i few0));
+          ∙ sym (map-append G (stripes_in (take i old)) (get_or old i no_block).stripes)
+          ∙ ap (map G) (sym (stripes_more old i few0));
       rest = rest_more now old i new inv.rest;
-      cost = cost_block met (length c.args.factors.now) now old i b c.args.steps.now c.loop-i.steps c.add_multiples.new.steps few0 same inv.cost did.cost;
+      cost =
+          cost_block met (length c.args.factors.now) now old i b c.args.steps.now c.loop-i.steps
+          c.add_multiples.new.steps few0 same inv.cost did.cost;
     }
 
 pub loop-i-init : goal.loop-i-init
@@ -43,8 +50,11 @@ returns-clause-blocks g c = c.loop-i.invariant.blocks
 
 pub returns-clause-stripes : goal.returns-clause-stripes
 returns-clause-stripes g c =
-    all_stripes (map (grown g.F.Field.coding.ops c.args.met c.args.from (map g.F.Rows.element_of c.args.factors.now))) c.loop-i.blocks c.args.blocks.now c.loop-i.i c.loop-i.invariant.long
+    all_stripes (map (grown g.F.Field.coding.ops c.args.met c.args.from (map g.F.Rows.element_of c.args.factors.now)))
+    c.loop-i.blocks c.args.blocks.now c.loop-i.i c.loop-i.invariant.long
     c.loop-i-test.false c.loop-i.invariant.done
 
 pub returns-clause-cost : goal.returns-clause-cost
-returns-clause-cost g c = all_cost c.args.met (length c.args.factors.now) c.args.steps.now c.loop-i.steps c.args.blocks.now c.loop-i.i c.loop-i-test.false c.loop-i.invariant.cost
+returns-clause-cost g c =
+    all_cost c.args.met (length c.args.factors.now) c.args.steps.now c.loop-i.steps c.args.blocks.now c.loop-i.i
+    c.loop-i-test.false c.loop-i.invariant.cost

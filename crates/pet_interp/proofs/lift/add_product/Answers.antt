@@ -3,12 +3,13 @@ use Rattle.std.proofs.lemmas.List.{length-append, length-drop, length-take-le, t
 use Rattle.std.proofs.lemmas.List.Elements.{All-take, All-drop, All-same}
 use Rattle.pet_interp.specs.Progressive.{longer_than}
 use Rattle.pet_interp.specs.Blocks.{stripes_in}
-use Rattle.pet_interp.specs.Lifted.{grown_to}
+use Rattle.pet_interp.specs.inside.Lifted.{grown_to}
 use Rattle.pet_interp.proofs.Passes.{grown_part, grown_nothing, lengths_grown, cost_part}
 use Rattle.pet_interp.proofs.lift.add_product.Goals as goal
 
 -- what was prepared is the front that is handed on
-part_taken : {A : Type 0} (n : ℕ) (prepared factors : List A) → length prepared ≡ length (take n factors) → n ≤ length factors → take n (prepared ++ drop n factors) ≡ prepared
+part_taken : {A : Type 0} (n : ℕ) (prepared factors : List A) → length prepared ≡ length (take n factors)
+    → n ≤ length factors → take n (prepared ++ drop n factors) ≡ prepared
 part_taken n prepared factors e l = take_at prepared (drop n factors) n (e ∙ length-take-le n factors l)
 
 pub loop-from-init : goal.loop-from-init
@@ -23,7 +24,8 @@ loop-from-init g c = record {
 }
 
 pub add_part-requires-clause-blocks : goal.add_part-requires-clause-blocks
-add_part-requires-clause-blocks g c = (c.requires.blocks.0, c.loop-from.invariant.blocks c.requires.blocks.0 c.requires.blocks.1)
+add_part-requires-clause-blocks g c =
+    (c.requires.blocks.0, c.loop-from.invariant.blocks c.requires.blocks.0 c.requires.blocks.1)
 
 pub loop-from-preserved : goal.loop-from-preserved
 loop-from-preserved g c =
@@ -43,16 +45,22 @@ loop-from-preserved g c =
     let used : given ≡ prepared = part_taken n prepared factors c.prepare.auto.factors fits in
     let long : length prepared ≡ n = c.prepare.auto.factors ∙ length-take-le n factors fits in
     let size : from + n - from ≡ n = omega arith in
-    let part : map element given ≡ take n (drop from product) = ap (map element) used ∙ c.prepare.ensures ∙ ap (λ k. take k (drop from product)) size in
+    let part : map element given ≡ take n (drop from product) =
+    ap (map element) used ∙ c.prepare.ensures ∙ ap (λ k. take k (drop from product)) size in
     record {
       within = omega arith;
       met = refl;
       some = length-append prepared (drop n factors) ∙ omega (arith, long, length-drop n factors, inv.some, fits);
       blocks = λ room h. c.add_part.ensures.blocks room (inv.blocks room h);
-      done = grown_part o met from n element product given ss now (stripes_in c.add_part.new.blocks) part inv.within inv.within c.add_part.ensures.stripes inv.done;
-      lengths = ap (map length) c.add_part.ensures.stripes ∙ lengths_grown o met from (map element given) now inv.within ∙ inv.lengths;
+      done =
+          grown_part o met from n element product given ss now
+          (stripes_in c.add_part.new.blocks) part inv.within inv.within c.add_part.ensures.stripes inv.done;
+      lengths =
+          ap (map length) c.add_part.ensures.stripes ∙ lengths_grown o met from (map element given) now inv.within
+          ∙ inv.lengths;
       cost =
-          cost_part c.args.steps.now c.loop-from.steps c.add_part.new.steps (longer_than met (map length ss)) (longer_than met (map length now)) from n (length given) inv.cost
+          cost_part c.args.steps.now c.loop-from.steps c.add_part.new.steps (longer_than met (map length ss))
+          (longer_than met (map length now)) from n (length given) inv.cost
           c.add_part.ensures.cost (ap (longer_than met) inv.lengths) (ap length used ∙ long);
     }
 
@@ -68,7 +76,8 @@ pub returns-clause-stripes : goal.returns-clause-stripes
 returns-clause-stripes g c =
     let product = c.args.product.now in
     let all : take c.loop-from.from product ≡ product = take_all c.loop-from.from product (omega arith) in
-    c.loop-from.invariant.done ∙ ap (λ t. map (grown_to g.F.Field.coding.ops (length product) t) (stripes_in c.args.blocks.now)) all
+    c.loop-from.invariant.done
+    ∙ ap (λ t. map (grown_to g.F.Field.coding.ops (length product) t) (stripes_in c.args.blocks.now)) all
 
 pub returns-clause-cost : goal.returns-clause-cost
 returns-clause-cost g c =
@@ -101,25 +110,37 @@ prepare-requires-clause-long g c =
     let from = c.loop-from.from in
     let n = c.min-count.result in
     let rest = drop from c.args.product.now in
-    length-take-le (from + n - from) rest (omega (arith, length-drop from c.args.product.now)) ∙ omega (arith, length-take-le n c.loop-from.factors (omega arith))
+    length-take-le (from + n - from) rest (omega (arith, length-drop from c.args.product.now))
+    ∙ omega (arith, length-take-le n c.loop-from.factors (omega arith))
 
 pub slice_bounds-add_part-end : goal.slice_bounds-add_part-end
 slice_bounds-add_part-end g c =
     let n = c.min-count.result in
     let factors = c.loop-from.factors in
-    omega (arith, length-append c.prepare.new.factors (drop n factors), c.prepare.auto.factors, length-take-le n factors (omega arith))
+    omega (
+      arith,
+      length-append c.prepare.new.factors (drop n factors),
+      c.prepare.auto.factors,
+      length-take-le n factors (omega arith),
+    )
 
 pub slice_bounds-add_part-end-in-loop-from : goal.slice_bounds-add_part-end-in-loop-from
 slice_bounds-add_part-end-in-loop-from g c =
     let n = c.min-count.result in
     let factors = c.loop-from.factors in
-    sym (ap length (part_taken n c.prepare.new.factors factors c.prepare.auto.factors (omega arith)) ∙ c.prepare.auto.factors ∙ length-take-le n factors (omega arith))
+    sym (ap length (part_taken n c.prepare.new.factors factors c.prepare.auto.factors (omega arith))
+    ∙ c.prepare.auto.factors ∙ length-take-le n factors (omega arith))
 
 pub add_part-requires-clause-room : goal.add_part-requires-clause-room
 add_part-requires-clause-room g c =
     let n = c.min-count.result in
     let factors = c.loop-from.factors in
-    omega (arith, ap length (part_taken n c.prepare.new.factors factors c.prepare.auto.factors (omega arith)), c.prepare.auto.factors, length-take-le n factors (omega arith))
+    omega (
+      arith,
+      ap length (part_taken n c.prepare.new.factors factors c.prepare.auto.factors (omega arith)),
+      c.prepare.auto.factors,
+      length-take-le n factors (omega arith),
+    )
 
 pub add_part-requires-clause-factors : goal.add_part-requires-clause-factors
 add_part-requires-clause-factors g c =
@@ -130,8 +151,10 @@ add_part-requires-clause-factors g c =
     let prepared = c.prepare.new.factors in
     let part = take (from + n - from) (drop from c.args.product.now) in
     All-same P (map g.F.Rows.element_of (take n (prepared ++ drop n factors))) part
-    (ap (map g.F.Rows.element_of) (part_taken n prepared factors c.prepare.auto.factors (omega arith)) ∙ c.prepare.ensures)
-    (All-take P (from + n - from) (drop from c.args.product.now) (All-drop P from c.args.product.now c.requires.products))
+    (ap (map g.F.Rows.element_of) (part_taken n prepared factors c.prepare.auto.factors (omega arith))
+    ∙ c.prepare.ensures)
+    (All-take P (from + n - from) (drop from c.args.product.now)
+    (All-drop P from c.args.product.now c.requires.products))
 
 pub loop-from-smaller : goal.loop-from-smaller
 loop-from-smaller g c = omega (arith, c.requires.some (omega arith))

@@ -7,7 +7,8 @@ loop-i-init g c = record { long = refl; done = refl }
 
 pub prepare-requires : goal.prepare-requires
 prepare-requires g c =
-    subst g.F.Field.is_element (sym c.index-elements-i.is) (c.requires.elements c.loop-i.i c.index-elements-i.result (omega arith))
+    subst g.F.Field.is_element (sym c.index-elements-i.is)
+    (c.requires.elements c.loop-i.i c.index-elements-i.result (omega arith))
 
 pub bounds-elements-i : goal.bounds-elements-i
 bounds-elements-i g c = c.loop-i-test.true
@@ -42,4 +43,5 @@ returns g c =
     let factors = c.loop-i.factors in
     let i = c.loop-i.i in
     let all : i ≡ length elements = omega arith in
-    ap (map g.F.Rows.element_of) (sym (take_all i factors (omega (arith, c.loop-i.invariant.long, c.requires.long)))) ∙ c.loop-i.invariant.done ∙ take_all i elements (omega arith)
+    ap (map g.F.Rows.element_of) (sym (take_all i factors (omega (arith, c.loop-i.invariant.long, c.requires.long))))
+    ∙ c.loop-i.invariant.done ∙ take_all i elements (omega arith)

@@ -13,14 +13,23 @@ returns g c =
     let F = g.F.Field in
     let made = c.in_ok-block.ensures in
     let size = c.from-count.ensures in
-    subst (λ n. HasRoom F.is_element (lengths ++ replicate c.args.width n) c.push.new.self.items c.grow.new.into.items c.grow-2.new.into.items) size
-    (room_grown F.is_element lengths c.from-count.result c.args.width c.args.blocks.now.items c.push.new.self.items c.in_ok-block.block c.args.product.now.items c.grow.new.into.items
-    c.args.spare.now.items c.grow-2.new.into.items c.zero.result c.zero-2.result h (made.size ∙ sym size) made.width (made.waits ∙ ap (nat_lt 0) (sym size)) made.each c.requires.some
-    c.in_ok-push.ensures.items c.in_ok-grow.ensures (rw c.zero.ensures g.met.F.Field.lawful.field.zero_is) c.in_ok-grow-2.ensures)
+    subst (λ n. HasRoom F.is_element
+    (lengths ++ replicate c.args.width n) c.push.new.self.items c.grow.new.into.items c.grow-2.new.into.items) size
+    (room_grown F.is_element lengths c.from-count.result c.args.width c.args.blocks.now.items c.push.new.self.items
+    c.in_ok-block.block c.args.product.now.items c.grow.new.into.items
+    c.args.spare.now.items c.grow-2.new.into.items c.zero.result c.zero-2.result h (made.size ∙ sym size) made.width
+    (made.waits ∙ ap (nat_lt 0) (sym size)) made.each c.requires.some
+    c.in_ok-push.ensures.items c.in_ok-grow.ensures
+    (rw c.zero.ensures g.met.F.Field.lawful.field.zero_is) c.in_ok-grow-2.ensures)
 
 pub overflow_mul-count : goal.overflow_mul-count
 overflow_mul-count g c =
-    omega (arith, c.ranges.size, c.requires.narrow, mul-le c.from-count.result c.args.width 65536 MAX_WIDTH (omega (arith, c.from-count.ensures)) c.requires.narrow)
+    omega (
+      arith,
+      c.ranges.size,
+      c.requires.narrow,
+      mul-le c.from-count.result c.args.width 65536 MAX_WIDTH (omega (arith, c.from-count.ensures)) c.requires.narrow,
+    )
 
 pub returns-in_err-grow : goal.returns-in_err-grow
 returns-in_err-grow g c = IfOk-from_err c.from_residual.result _ c.from_residual.ensures.0

@@ -1,5 +1,5 @@
 use Rattle.std.proofs.Common.{ap, ◌∙◌}
-use Rattle.pet_poly.specs.Horner.{horner_from}
+use Rattle.pet_poly.specs.inside.Horner.{horner_from}
 use Rattle.pet_poly.specs.laws.HornerLaws.{value_monic_by_horner}
 use Rattle.pet_poly.proofs.value.eval_monic.Goals as goal
 
@@ -7,4 +7,5 @@ pub returns-clause-value : goal.returns-clause-value
 returns-clause-value g c =
     let F = g.F.Field in
     c.fold.ensures.value ∙ ap (λ t. horner_from F.coding.ops t c.args.low.now c.args.x) c.one.ensures
-    ∙ value_monic_by_horner F.is_element F.coding.ops g.met.F.Field.lawful.field c.args.low.now c.args.x c.requires.elements c.requires.point
+    ∙ value_monic_by_horner F.is_element F.coding.ops g.met.F.Field.lawful.field c.args.low.now c.args.x
+    c.requires.elements c.requires.point

@@ -12,17 +12,22 @@ loop-at-preserved c =
     let held = c.loop-at.invariant in
     record {
       eight = length-set c.loop-at.session c.loop-at.at c.in_ok-session.field-0 ∙ held.eight;
-      so_far = byte_more c.as_bytes-digits.result.now c.loop-at.session c.loop-at.at c.loop-at-test.true held.eight c.if-digits-ne16.false held.so_far c.in_ok-session.field-0 (sym c.read_byte.ensures ∙ c.in_ok-session.was);
+      so_far =
+          byte_more c.as_bytes-digits.result.now c.loop-at.session c.loop-at.at c.loop-at-test.true held.eight
+          c.if-digits-ne16.false held.so_far c.in_ok-session.field-0 (sym c.read_byte.ensures ∙ c.in_ok-session.was);
     }
 
 pub returns-in_err-session : goal.returns-in_err-session
 returns-in_err-session c =
     let held = c.loop-at.invariant in
-    of_sixteen c.as_bytes-digits.result.now c.args.word.now c.from_residual.result c.if-digits-ne16.false c.as_bytes-digits.ensures.value
-    (no_byte c.as_bytes-digits.result.now c.loop-at.session c.loop-at.at c.loop-at-test.true held.eight c.if-digits-ne16.false held.so_far (sym c.read_byte.ensures ∙ c.in_err-session.was) ∙ sym c.from_residual.ensures)
+    of_sixteen c.as_bytes-digits.result.now c.args.word.now c.from_residual.result c.if-digits-ne16.false
+    c.as_bytes-digits.ensures.value
+    (no_byte c.as_bytes-digits.result.now c.loop-at.session c.loop-at.at c.loop-at-test.true held.eight
+    c.if-digits-ne16.false held.so_far (sym c.read_byte.ensures ∙ c.in_err-session.was) ∙ sym c.from_residual.ensures)
 
 pub returns : goal.returns
 returns c =
     let held = c.loop-at.invariant in
     of_sixteen c.as_bytes-digits.result.now c.args.word.now _ c.if-digits-ne16.false c.as_bytes-digits.ensures.value
-    (all_read c.as_bytes-digits.result.now c.loop-at.session c.loop-at.at (omega arith) held.eight c.if-digits-ne16.false held.so_far)
+    (all_read c.as_bytes-digits.result.now c.loop-at.session c.loop-at.at
+    (omega arith) held.eight c.if-digits-ne16.false held.so_far)

@@ -8,5 +8,10 @@ use Rattle.pet_tool.proofs.commands.run_check.Goals as goal
 
 pub returns-clause-does : goal.returns-clause-does
 returns-clause-does g c told status tells =
-    runs_with Check (OnRead (λ old new. Checks old new c.args.stream.now c.args.priority.now c.args.plan.now)) _ _ (seen c.args.outside.now) _ told status c.check.result (check_agrees c.check.result)
-    (record { only = record { link = refl; written = refl; out_faults = refl; did = c.check.ensures.checks }; files = c.check.ensures.files; steps = refl }) (record { place = c.check.ensures.once; link = refl }) tells
+    runs_with Check (OnRead (λ old new. Checks old new c.args.stream.now c.args.priority.now c.args.plan.now)) _ _
+    (seen c.args.outside.now) _ told status c.check.result (check_agrees c.check.result)
+    (record {
+      only = record { link = refl; written = refl; out_faults = refl; did = c.check.ensures.checks };
+      files = c.check.ensures.files;
+      steps = refl;
+    }) (record { place = c.check.ensures.once; link = refl }) tells

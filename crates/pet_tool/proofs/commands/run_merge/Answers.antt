@@ -8,5 +8,7 @@ use Rattle.pet_tool.proofs.commands.run_merge.Goals as goal
 
 pub returns-clause-does : goal.returns-clause-does
 returns-clause-does g c told status tells =
-    runs_with Merge (OnFiles (Merges c.args.first.now c.args.second.now c.args.out.now)) _ _ (seen c.args.outside.now) _ told status c.merge.result (merge_agrees c.merge.result)
-    (record { link = refl; written = refl; out_faults = refl; did = c.merge.ensures.merges }) (record { place = c.merge.ensures.once; link = refl }) tells
+    runs_with Merge (OnFiles (Merges c.args.first.now c.args.second.now c.args.out.now)) _ _
+    (seen c.args.outside.now) _ told status c.merge.result (merge_agrees c.merge.result)
+    (record { link = refl; written = refl; out_faults = refl; did = c.merge.ensures.merges })
+    (record { place = c.merge.ensures.once; link = refl }) tells

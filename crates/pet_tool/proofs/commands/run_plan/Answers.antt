@@ -8,5 +8,10 @@ use Rattle.pet_tool.proofs.commands.run_plan.Goals as goal
 
 pub returns-clause-does : goal.returns-clause-does
 returns-clause-does g c told status tells =
-    runs_with Plan (OnRead (PlanEnds c.args.stream.now c.args.priority.now)) _ _ (seen c.args.outside.now) _ told status c.plan.result (plan_agrees c.plan.result)
-    (record { only = record { link = refl; written = refl; out_faults = refl; did = c.plan.ensures.plans.ends }; files = c.plan.ensures.plans.files; steps = refl }) (record { place = c.plan.ensures.once; link = refl }) tells
+    runs_with Plan (OnRead (PlanEnds c.args.stream.now c.args.priority.now)) _ _
+    (seen c.args.outside.now) _ told status c.plan.result (plan_agrees c.plan.result)
+    (record {
+      only = record { link = refl; written = refl; out_faults = refl; did = c.plan.ensures.plans.ends };
+      files = c.plan.ensures.plans.files;
+      steps = refl;
+    }) (record { place = c.plan.ensures.once; link = refl }) tells

@@ -7,5 +7,8 @@ use Rattle.pet_tool.proofs.commands.run_receive.Goals as goal
 
 pub returns-clause-does : goal.returns-clause-does
 returns-clause-does g c told status tells =
-    runs_with Receive (Receives (way_of c.args.from) c.args.session c.args.layers.now c.args.store.now) _ _ (seen c.args.outside.now) (seen c.receive.new.outside) told status c.receive.result (receive_agrees c.receive.result)
-    c.receive.ensures.receives (record { place = c.receive.ensures.once_place; link = c.receive.ensures.once_link }) tells
+    runs_with Receive (Receives (way_of c.args.from) c.args.session c.args.layers.now c.args.store.now) _ _
+    (seen c.args.outside.now) (seen c.receive.new.outside) told status c.receive.result
+    (receive_agrees c.receive.result)
+    c.receive.ensures.receives
+    (record { place = c.receive.ensures.once_place; link = c.receive.ensures.once_link }) tells

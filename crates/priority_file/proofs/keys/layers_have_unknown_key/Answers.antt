@@ -6,4 +6,5 @@ use Rattle.priority_file.proofs.keys.layers_have_unknown_key.Goals as goal
 
 pub returns : goal.returns
 returns c =
-    c.any_has_unknown_key.ensures ∙ sym (any_table layer_has_unknown_key c.layers_of.result.now) ∙ ap (list_any layer_has_unknown_key) c.layers_of.ensures
+    c.any_has_unknown_key.ensures ∙ sym (any_table layer_has_unknown_key c.layers_of.result.now)
+    ∙ ap (list_any layer_has_unknown_key) c.layers_of.ensures

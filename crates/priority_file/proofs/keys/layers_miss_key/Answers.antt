@@ -6,4 +6,5 @@ use Rattle.priority_file.proofs.keys.layers_miss_key.Goals as goal
 
 pub returns : goal.returns
 returns c =
-    c.any_misses_key.ensures ∙ sym (any_table layer_misses_key c.layers_of.result.now) ∙ ap (list_any layer_misses_key) c.layers_of.ensures
+    c.any_misses_key.ensures ∙ sym (any_table layer_misses_key c.layers_of.result.now)
+    ∙ ap (list_any layer_misses_key) c.layers_of.ensures

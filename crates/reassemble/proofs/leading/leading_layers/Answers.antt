@@ -20,15 +20,19 @@ loop-layer-preserved g c =
       shown =
           λ layer lt.
           elim (cases_eq layer c.loop-layer.layer) [
-            | inl here ↦ subst (IsShown (kept_set c.args.receiver.now) c.args.group) (sym here) (c.in-Some.ensures.shown.0 refl)
+            | inl here ↦ subst (IsShown (kept_set c.args.receiver.now) c.args.group) (sym here)
+                (c.in-Some.ensures.shown.0 refl)
             | inr other ↦ c.loop-layer.invariant.shown layer (omega arith)
           ];
       bytes =
           λ order p kept opened.
-          bytes_more F.is_element F.coding p (numbers_of order c.args.group) layers c.push.new.self.items one c.loop-layer.layer c.loop-layer.invariant.many items
+          bytes_more F.is_element F.coding p (numbers_of order c.args.group) layers c.push.new.self.items one
+          c.loop-layer.layer c.loop-layer.invariant.many items
           (c.loop-layer.invariant.bytes order p kept opened) (c.in-Some.ensures.bytes order p kept opened);
       agreed =
           λ p message opened is agrees.
-          map_more (bytes_of_layer F.coding.width (layers_of p) message) layers c.push.new.self.items one c.loop-layer.layer items
-          (c.loop-layer.invariant.agreed p message opened is agrees) (c.in-Some.ensures.agreed p message opened is agrees);
+          map_more (bytes_of_layer F.coding.width (layers_of p) message) layers c.push.new.self.items one
+          c.loop-layer.layer items
+          (c.loop-layer.invariant.agreed p message opened is agrees)
+          (c.in-Some.ensures.agreed p message opened is agrees);
     }

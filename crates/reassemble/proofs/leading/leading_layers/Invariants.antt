@@ -14,9 +14,14 @@ invariant-loop-layer g l = record {
   many : length l.layers.items ≡ l.layer;
   shown : (layer : ℕ) → layer < l.layer → IsShown (kept_set l.receiver) l.group layer;
   bytes :
-      (order : Order) (p : Packets) → HasKept g.F.Field.is_element g.F.Field.coding l.receiver order → open_group (kept_set l.receiver) l.group ≡ Some p
-      → AreShownBytes g.F.Field.is_element g.F.Field.coding p (numbers_of order l.group) (map (λ e. e.bytes.now) l.layers.items);
+      (order : Order) (p : Packets) → HasKept g.F.Field.is_element g.F.Field.coding l.receiver order
+      → open_group (kept_set l.receiver) l.group ≡ Some p
+      → AreShownBytes g.F.Field.is_element g.F.Field.coding p (numbers_of order l.group)
+      (map (λ e. e.bytes.now) l.layers.items);
   agreed :
-      (p : Packets) (message : List ℕ) → open_group (kept_set l.receiver) l.group ≡ Some p → IsMessage g.F.Field.coding.width (layers_of p) message
-      → Agrees g.F.Field.coding p message → map (λ e. e.bytes.now) l.layers.items ≡ map (bytes_of_layer g.F.Field.coding.width (layers_of p) message) (range_with_len 0 l.layer);
+      (p : Packets) (message : List ℕ) → open_group (kept_set l.receiver) l.group ≡ Some p
+      → IsMessage g.F.Field.coding.width (layers_of p) message
+      → Agrees g.F.Field.coding p message
+      → map (λ e. e.bytes.now) l.layers.items
+      ≡ map (bytes_of_layer g.F.Field.coding.width (layers_of p) message) (range_with_len 0 l.layer);
 }

@@ -10,7 +10,7 @@ use Rattle.pet_receive.specs.Arrivals.{kept_set, numbers_of, layers_of}
 use Rattle.packet_verdicts.specs.KeptSet.{open_group}
 use Rattle.reassemble.specs.declared.leading.ShownLayer.{ShownLayer}
 use Rattle.reassemble.specs.Leading.{lengths_in}
-use Rattle.reassemble.specs.Taking.{bytes_each, first_of}
+use Rattle.reassemble.specs.inside.Taking.{bytes_each, first_of}
 use Rattle.reassemble.specs.Video.{group_video}
 use Rattle.reassemble.proofs.Layers.{opened, lent, lengths_read, fits_so, shown_in, shown_length, on_ok}
 use Rattle.reassemble.proofs.video.assemble.Goals as goal
@@ -19,7 +19,8 @@ pub leading_layers-layers-requires : goal.leading_layers-layers-requires
 leading_layers-layers-requires g c = record {
   few =
       λ p is.
-      let h = lent (open_group (kept_set c.args.receiver.now) c.args.group) c.in-Some.header.now p c.in-Some.ensures is in
+      let h = lent
+      (open_group (kept_set c.args.receiver.now) c.args.group) c.in-Some.header.now p c.in-Some.ensures is in
       let same : c.layers.result.now ≡ layers_of p = c.layers.ensures.value ∙ ap (λ (x : Header). x.table.layers) h in
       omega (arith, ap length same, ap length c.layers.ensures.value, c.layers.ensures.bounds.few_layers);
 }
@@ -36,9 +37,13 @@ put_together-requires-clause-sized g c layer within =
     let lt : layer < length items = omega (arith, within, ap length shown) in
     let bytes = c.leading_layers-layers.ensures.bytes c.requires.held.0 p c.requires.held.1 o.1 layer (omega arith) in
     let known = (shown_in set c.args.group layer p o.1 (c.leading_layers-layers.ensures.leading.shown layer lt)).0 in
-    let long = shown_length F.is_element F.coding p (numbers_of c.requires.held.0 c.args.group) layer (get_or (bytes_each items) layer []) c.requires.width known bytes in
-    let lengths = lengths_read (open_group set c.args.group) c.in-Some.header.now p c.layers.result.now c.as_slice-2.result.now c.in-Some.ensures o.1 c.layers.ensures.value (c.as_slice-2.ensures.value ∙ c.lengths_of-lengths.ensures) in
-    ap (λ (l : List ShownLayer). length (get_or (bytes_each l) layer [])) shown ∙ (long ∙ ap (λ l. get_or l layer 0) (sym lengths))
+    let long = shown_length F.is_element F.coding p (numbers_of c.requires.held.0 c.args.group) layer
+    (get_or (bytes_each items) layer []) c.requires.width known bytes in
+    let lengths = lengths_read (open_group set c.args.group) c.in-Some.header.now p c.layers.result.now
+    c.as_slice-2.result.now c.in-Some.ensures o.1 c.layers.ensures.value
+    (c.as_slice-2.ensures.value ∙ c.lengths_of-lengths.ensures) in
+    ap (λ (l : List ShownLayer). length (get_or (bytes_each l) layer [])) shown
+    ∙ (long ∙ ap (λ l. get_or l layer 0) (sym lengths))
 
 pub returns-clause-bad_table : goal.returns-clause-bad_table
 returns-clause-bad_table g c e order p kept is =
@@ -47,11 +52,15 @@ returns-clause-bad_table g c e order p kept is =
     let items : List ShownLayer = c.leading_layers-layers.result.items in
     let many : length (bytes_each items) ≡ length items = length-map items (λ (e : ShownLayer). e.bytes.now) in
     let some : 0 < length items = grind (arith, c.is_empty.ensures, c.if-is_empty.false) in
-    let lengths = lengths_read (open_group set c.args.group) c.in-Some.header.now p c.layers.result.now c.as_slice-2.result.now c.in-Some.ensures is c.layers.ensures.value (c.as_slice-2.ensures.value ∙ c.lengths_of-lengths.ensures) in
+    let lengths = lengths_read (open_group set c.args.group) c.in-Some.header.now p c.layers.result.now
+    c.as_slice-2.result.now c.in-Some.ensures is c.layers.ensures.value
+    (c.as_slice-2.ensures.value ∙ c.lengths_of-lengths.ensures) in
     record {
       first = first_of (bytes_each items);
       bytes = c.leading_layers-layers.ensures.bytes order p kept is 0 (omega arith);
-      unfit = fits_so items c.as_slice.result.now c.as_slice-2.result.now p false c.as_slice.ensures.value lengths (c.put_together.ensures.bad_table e);
+      unfit =
+          fits_so items c.as_slice.result.now c.as_slice-2.result.now p false c.as_slice.ensures.value lengths
+          (c.put_together.ensures.bad_table e);
     }
 
 pub returns-clause-bad_message : goal.returns-clause-bad_message
@@ -61,11 +70,16 @@ returns-clause-bad_message g c e p message is message_is agrees =
     let items : List ShownLayer = c.leading_layers-layers.result.items in
     let many : length (bytes_each items) ≡ length items = length-map items (λ (e : ShownLayer). e.bytes.now) in
     let some : 0 < length items = grind (arith, c.is_empty.ensures, c.if-is_empty.false) in
-    let lengths = lengths_read (open_group set c.args.group) c.in-Some.header.now p c.layers.result.now c.as_slice-2.result.now c.in-Some.ensures is c.layers.ensures.value (c.as_slice-2.ensures.value ∙ c.lengths_of-lengths.ensures) in
+    let lengths = lengths_read (open_group set c.args.group) c.in-Some.header.now p c.layers.result.now
+    c.as_slice-2.result.now c.in-Some.ensures is c.layers.ensures.value
+    (c.as_slice-2.ensures.value ∙ c.lengths_of-lengths.ensures) in
     let f : ℕ → List ℕ = bytes_of_layer F.coding.width (layers_of p) message in
     let first : first_of (bytes_each items) ≡ f 0 =
-    ap first_of (c.leading_layers-layers.ensures.agreed p message is message_is agrees) ∙ get_or-map-range_with_len f 0 (length items) 0 0 [] some refl in
-    ap (λ b. fits b (lengths_in p)) (sym first) ∙ fits_so items c.as_slice.result.now c.as_slice-2.result.now p false c.as_slice.ensures.value lengths (c.put_together.ensures.bad_table e)
+    ap first_of (c.leading_layers-layers.ensures.agreed p message is message_is agrees)
+    ∙ get_or-map-range_with_len f 0 (length items) 0 0 [] some refl in
+    ap (λ b. fits b (lengths_in p)) (sym first)
+    ∙ fits_so items c.as_slice.result.now c.as_slice-2.result.now p false c.as_slice.ensures.value lengths
+    (c.put_together.ensures.bad_table e)
 
 pub returns-clause-video : goal.returns-clause-video
 returns-clause-video g c =
@@ -74,7 +88,9 @@ returns-clause-video g c =
     let shown : c.as_slice.result.now ≡ items = c.as_slice.ensures.value in
     on_ok c.put_together.result c.put_together.ensures.many c.put_together.ensures.fits c.put_together.ensures.video
     (λ k many fit video order p kept is.
-    let lengths = lengths_read (open_group set c.args.group) c.in-Some.header.now p c.layers.result.now c.as_slice-2.result.now c.in-Some.ensures is c.layers.ensures.value (c.as_slice-2.ensures.value ∙ c.lengths_of-lengths.ensures) in
+    let lengths = lengths_read (open_group set c.args.group) c.in-Some.header.now p c.layers.result.now
+    c.as_slice-2.result.now c.in-Some.ensures is c.layers.ensures.value
+    (c.as_slice-2.ensures.value ∙ c.lengths_of-lengths.ensures) in
     record {
       layers = bytes_each items;
       many = length-map items (λ (e : ShownLayer). e.bytes.now) ∙ sym (many ∙ ap length shown);

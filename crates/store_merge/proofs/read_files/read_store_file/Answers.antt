@@ -11,10 +11,13 @@ returns-in_err-store_of-clause-stop g c =
     let new = g.P.Place.seen c.read_file.new.place in
     each_err_and c.from_residual-in_err-store_of.result _ _
     (λ stop is. subst (IsStop old new c.args.name.now) (sym is)
-    (stop_refused old new c.args.name.now c.as_slice.result.now c.in_ok-bytes.bytes.items c.in_err-store_of.field-0.0 c.as_slice.ensures.value c.in_ok-bytes.ensures.read c.in_err-store_of.ensures.refused))
+    (stop_refused old new c.args.name.now c.as_slice.result.now c.in_ok-bytes.bytes.items c.in_err-store_of.field-0.0
+    c.as_slice.ensures.value c.in_ok-bytes.ensures.read c.in_err-store_of.ensures.refused))
     c.from_residual-in_err-store_of.ensures.1
 
 pub returns-clause-read : goal.returns-clause-read
 returns-clause-read g c =
-    store_of_file (g.P.Place.seen c.args.place.now).files c.args.name.now c.as_slice.result.now c.in_ok-bytes.bytes.items (Ok (kept_set c.in_ok-store_of.field-0)) c.as_slice.ensures.value c.in_ok-bytes.ensures.read
+    store_of_file (g.P.Place.seen c.args.place.now).files c.args.name.now c.as_slice.result.now
+    c.in_ok-bytes.bytes.items
+    (Ok (kept_set c.in_ok-store_of.field-0)) c.as_slice.ensures.value c.in_ok-bytes.ensures.read
     c.in_ok-store_of.ensures.read

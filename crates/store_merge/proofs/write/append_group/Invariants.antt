@@ -8,6 +8,7 @@ use Rattle.store_merge.proofs.write.append_group.Given as goal
 
 abbrev pub invariant-loop-number : goal.invariant-loop-number
 invariant-loop-number g l = record {
-  text : (p : Packets) → open_group (kept_set l.receiver) l.group ≡ Some p → l.into.items ≡ l.initial.into.items ++ entries_text (first_frames p l.number);
+  text : (p : Packets) → open_group (kept_set l.receiver) l.group ≡ Some p
+      → l.into.items ≡ l.initial.into.items ++ entries_text (first_frames p l.number);
   front : take (length l.initial.into.items) l.into.items ≡ l.initial.into.items;
 }

@@ -14,8 +14,11 @@ loop-read-preserved g c =
       stream = i.stream ++ take n buffer;
       count = omega (arith, length-append i.stream (take n buffer), len, i.count);
       taken =
-          taken_more MAX_STREAM i.stream (take n buffer) (g.P.Place.seen c.args.place.now) (g.P.Place.seen c.loop-read.place) (g.P.Place.seen c.take_portion.new.place)
-          i.taken c.in_ok-count.ensures.taken (few_more MAX_STREAM c.loop-read.read n _ _ i.count len c.loop-read-test.true c.in_ok-count.ensures.few) c.take_portion.ensures.others c.take_portion.ensures.cause.later;
+          taken_more MAX_STREAM i.stream (take n buffer) (g.P.Place.seen c.args.place.now)
+          (g.P.Place.seen c.loop-read.place) (g.P.Place.seen c.take_portion.new.place)
+          i.taken c.in_ok-count.ensures.taken (few_more MAX_STREAM c.loop-read.read n _ _ i.count len
+          c.loop-read-test.true c.in_ok-count.ensures.few) c.take_portion.ensures.others
+          c.take_portion.ensures.cause.later;
       calm = c.in_ok-count.ensures.once ∙ i.calm;
       passed = λ priority file held. c.in_ok-read.ensures priority file i.stream (i.passed priority file held);
     }

@@ -10,7 +10,8 @@ invariant-loop-read g l = record {
   count : l.read ≡ length stream;
   taken : HasTaken MAX_STREAM stream (g.P.Place.seen l.initial.place) (g.P.Place.seen l.place);
   calm : (g.P.Place.seen l.place).faults ≡ (g.P.Place.seen l.initial.place).faults;
-  passed : (priority : Priorities) (file : List ℕ) → g.R.StreamReader.has_read l.initial.reader priority file [] → g.R.StreamReader.has_read l.reader priority file stream;
+  passed : (priority : Priorities) (file : List ℕ) → g.R.StreamReader.has_read l.initial.reader priority file []
+      → g.R.StreamReader.has_read l.reader priority file stream;
 }
 
 abbrev pub decreases-loop-read : goal.decreases-loop-read

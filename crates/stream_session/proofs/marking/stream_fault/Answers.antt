@@ -3,4 +3,6 @@ use Rattle.stream_session.proofs.KeptInOrder.{groups_told}
 use Rattle.stream_session.proofs.marking.stream_fault.Goals as goal
 
 pub returns-in-Groups : goal.returns-in-Groups
-returns-in-Groups c priority stream is = groups_told priority stream c.args.fault c.in-Groups.fault c.refusal_of.result c.in-Groups.is is c.refusal_of.ensures
+returns-in-Groups c priority stream is =
+    groups_told priority stream c.args.fault c.in-Groups.fault c.refusal_of.result c.in-Groups.is is
+    c.refusal_of.ensures

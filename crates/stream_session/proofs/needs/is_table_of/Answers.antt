@@ -16,6 +16,8 @@ returns-then-own-packets c =
     let xs = c.as_slice-then-own-packets.result.now in
     let ys = c.layers.result.now in
     let is = c.as_slice-then-own-packets.ensures.value ∙ (c.sizes_of-sizes.ensures
-    ∙ (ap₂ sizes_by (c.as_slice.ensures.value ∙ ap (λ (k : Cut). k.lengths) c.cut.view_is) (c.as_slice-2.ensures.value ∙ own.needs) ∙ by_rules cut.lengths priority.layers)) in
-    table_decides priority cut c.args.table.now xs ys c.eq.result (slice_eq-Decides same_layer-Decides xs ys c.eq.result c.eq.ensures) is c.layers.ensures.value
+    ∙ (ap₂ sizes_by (c.as_slice.ensures.value ∙ ap (λ (k : Cut). k.lengths) c.cut.view_is)
+    (c.as_slice-2.ensures.value ∙ own.needs) ∙ by_rules cut.lengths priority.layers)) in
+    table_decides priority cut c.args.table.now xs ys c.eq.result
+    (slice_eq-Decides same_layer-Decides xs ys c.eq.result c.eq.ensures) is c.layers.ensures.value
     (sym own.packets ∙ c.if-own-packets.true ∙ c.packets.ensures.value)

@@ -6,4 +6,5 @@ use Rattle.stream_session.proofs.pass.add_all.Given as goal
 
 abbrev pub invariant-loop-piece : goal.invariant-loop-piece
 invariant-loop-piece l =
-    (priority : Priorities) (given : List Piece) → HasPlanned l.initial.planner priority given → HasPlanned l.planner priority (given ++ take l.piece-index l.pieces)
+    (priority : Priorities) (given : List Piece) → HasPlanned l.initial.planner priority given
+    → HasPlanned l.planner priority (given ++ take l.piece-index l.pieces)

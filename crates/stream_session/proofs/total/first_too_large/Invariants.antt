@@ -1,13 +1,14 @@
 use Rattle.std.proofs.Common.{◌≡◌, ◌≤◌, drop, map}
 use Rattle.pet_base.specs.declared.limits.TheConstants.{MAX_SESSION}
 use Rattle.stream_session.specs.Refusals.{first_above}
-use Rattle.stream_session.specs.Planning.{table_cost, above_from}
+use Rattle.stream_session.specs.inside.Planning.{table_cost, above_from}
 use Rattle.stream_session.proofs.total.first_too_large.Given as goal
 
 -- the first group is looked for behind those so far, which are not too large together
 abbrev pub invariant-loop-group : goal.invariant-loop-group
 invariant-loop-group l = record {
-  rest : first_above MAX_SESSION 0 (map table_cost l.tables) ≡ above_from l.group MAX_SESSION l.total (map table_cost (drop l.group l.tables));
+  rest : first_above MAX_SESSION 0 (map table_cost l.tables)
+      ≡ above_from l.group MAX_SESSION l.total (map table_cost (drop l.group l.tables));
   fits : l.total ≤ MAX_SESSION;
   each : l.group ≤ l.total;
 }

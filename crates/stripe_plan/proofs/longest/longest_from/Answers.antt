@@ -14,19 +14,30 @@ loop-later-init c =
       past = omega (arith, more, c.requires.first, c.layer_words.ensures, c.requires.past);
       short = search rules;
       so_far = rw c.from-longest.ensures
-          (layer_begun c.args.layers.now c.args.here.layer no_layer c.args.at c.args.here.first (c.args.here.first + c.layer_words.result) c.requires.known c.requires.needed c.requires.first c.requires.before
-          (omega (arith, c.layer_words.ensures)) (omega (arith, more, c.requires.first, c.layer_words.ensures, c.requires.past)));
+          (layer_begun c.args.layers.now c.args.here.layer no_layer c.args.at c.args.here.first
+          (c.args.here.first + c.layer_words.result) c.requires.known c.requires.needed c.requires.first
+          c.requires.before
+          (omega (arith, c.layer_words.ensures))
+          (omega (arith, more, c.requires.first, c.layer_words.ensures, c.requires.past)));
     }
 
 pub returns-then-longest-first-clause-longest : goal.returns-then-longest-first-clause-longest
 returns-then-longest-first-clause-longest c =
     let i = c.loop-later.invariant in
-    longest_enough (needs_of c.args.layers.now) c.args.at c.loop-later.longest c.loop-later.first i.so_far (omega (arith, i.past, c.if-longest-first.true))
+    longest_enough (needs_of c.args.layers.now) c.args.at c.loop-later.longest c.loop-later.first i.so_far
+    (omega (arith, i.past, c.if-longest-first.true))
     (omega (arith, i.first_is, words_inside c.args.layers.now c.loop-later.later, length-needs_of c.args.layers.now))
 
 pub overflow_add-end : goal.overflow_add-end
 overflow_add-end c =
-    omega (arith, c.loop-later.invariant.first_is, c.layer_words-in-loop-later.ensures, c.requires.few, words_inside c.args.layers.now (c.loop-later.later + 1), words_more c.args.layers.now c.loop-later.later no_layer c.loop-later-test.true)
+    omega (
+      arith,
+      c.loop-later.invariant.first_is,
+      c.layer_words-in-loop-later.ensures,
+      c.requires.few,
+      words_inside c.args.layers.now (c.loop-later.later + 1),
+      words_more c.args.layers.now c.loop-later.later no_layer c.loop-later-test.true,
+    )
 
 pub loop-later-preserved : goal.loop-later-preserved
 loop-later-preserved c =
@@ -41,9 +52,14 @@ loop-later-preserved c =
         | else-first-end w ↦ omega (arith, w.longest-is, i.short)
       ];
       so_far = elim c.if-first-end.branch [
-        | then-first-end w ↦ layer_more c.args.layers.now c.loop-later.later no_layer c.args.at c.loop-later.first c.loop-later.longest (c.loop-later.first + c.layer_words-in-loop-later.result) c.if-first-end.longest c.loop-later-test.true c.requires.needed i.first_is i.so_far i.past (omega (arith, c.layer_words-in-loop-later.ensures)) w.if-first-end.true (omega (arith, w.longest-is, w.min-longest.ensures, w.max.ensures, w.from.ensures))
+        | then-first-end w ↦ layer_more c.args.layers.now c.loop-later.later no_layer c.args.at c.loop-later.first
+            c.loop-later.longest (c.loop-later.first + c.layer_words-in-loop-later.result) c.if-first-end.longest
+            c.loop-later-test.true c.requires.needed i.first_is i.so_far i.past
+            (omega (arith, c.layer_words-in-loop-later.ensures)) w.if-first-end.true
+            (omega (arith, w.longest-is, w.min-longest.ensures, w.max.ensures, w.from.ensures))
         | else-first-end w ↦
-            let none : c.loop-later.first + c.layer_words-in-loop-later.result ≡ c.loop-later.first = omega (arith, w.if-first-end.false) in
+            let none : c.loop-later.first + c.layer_words-in-loop-later.result ≡ c.loop-later.first =
+            omega (arith, w.if-first-end.false) in
             rw (w.longest-is, none) i.so_far
       ];
     }
@@ -52,5 +68,6 @@ pub returns-clause-longest : goal.returns-clause-longest
 returns-clause-longest c =
     let i = c.loop-later.invariant in
     let all : c.loop-later.later ≡ length c.args.layers.now = omega (arith, i.inside, c.loop-later-test.false) in
-    rw c.min.ensures (longest_all (needs_of c.args.layers.now) c.args.at c.loop-later.longest c.loop-later.first i.so_far i.past
+    rw c.min.ensures
+    (longest_all (needs_of c.args.layers.now) c.args.at c.loop-later.longest c.loop-later.first i.so_far i.past
     (i.first_is ∙ words_all c.args.layers.now c.loop-later.later all ∙ sym (length-needs_of c.args.layers.now)))

@@ -12,7 +12,8 @@ invariant-loop-at l = record {
   long : length l.counts.items ≡ length l.layers;
   some : (layer : ℕ) → layer < length l.layers → 0 < get_or l.counts.items layer 0;
   whole : (layer : ℕ) → layer < length l.layers → (rest : List ℕ) → IsPlan (needs_of l.layers) l.at rest
-      → max (get_or l.counts.items layer 0) (longest_meeting (words_before l.layers layer) (words_before l.layers (layer + 1)) (stripes_of l.at rest)) ≡ count_of l.layers layer;
+      → max (get_or l.counts.items layer 0) (longest_meeting (words_before l.layers layer)
+      (words_before l.layers (layer + 1)) (stripes_of l.at rest)) ≡ count_of l.layers layer;
 }
 
 abbrev pub decreases-loop-at : goal.decreases-loop-at

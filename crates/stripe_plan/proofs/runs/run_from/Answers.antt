@@ -10,10 +10,13 @@ returns-clause-run c =
     let layer = c.args.here.layer in
     let more = words_more layers layer no_layer c.requires.known in
     let within = words_inside layers (layer + 1) in
-    run_more (needs_of layers) c.args.at c.longest_from-size.result (c.args.here.first + c.layer_words.result - c.args.at) (get_or layers layer no_layer).need c.max.result
+    run_more (needs_of layers) c.args.at c.longest_from-size.result
+    (c.args.here.first + c.layer_words.result - c.args.at) (get_or layers layer no_layer).need c.max.result
     c.longest_from-size.ensures.longest
     (omega (arith, length-needs_of layers, more, within, c.layer_words.ensures, c.requires.first, c.requires.past))
-    (λ word from below. needs_of-at layers layer no_layer word c.requires.known (omega (arith, c.requires.first, c.requires.before)) (omega (arith, c.layer_words.ensures, c.requires.first, c.requires.past, more)))
+    (λ word from below. needs_of-at layers layer no_layer word c.requires.known
+    (omega (arith, c.requires.first, c.requires.before))
+    (omega (arith, c.layer_words.ensures, c.requires.first, c.requires.past, more)))
     (omega (arith, c.max.ensures))
 
 pub returns-clause-inside : goal.returns-clause-inside
@@ -22,5 +25,7 @@ returns-clause-inside c =
     omega (
       arith,
       length-needs_of layers,
-      run_inside (needs_of layers) c.args.at c.longest_from-size.result c.max.result (omega (arith, length-needs_of layers, c.requires.past, words_inside layers (c.args.here.layer + 1))) (returns-clause-run c),
+      run_inside (needs_of layers) c.args.at c.longest_from-size.result c.max.result
+          (omega (arith, length-needs_of layers, c.requires.past, words_inside layers (c.args.here.layer + 1)))
+          (returns-clause-run c),
     )

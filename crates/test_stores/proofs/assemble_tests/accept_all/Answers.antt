@@ -11,6 +11,9 @@ loop-number-preserved g c =
     let so_far = c.loop-number.invariant in
     elim (cases_Bool (is_kept c.in_ok-accept.field-0)) [
       | inl kept ↦ (_, c.in_ok-accept.ensures.order kept so_far.0 so_far.1)
-      | inr other ↦
-          (so_far.0, subst (λ (r : ReceiverState g.row.F-Elem.Denot). HasKept g.F.Field.is_element g.F.Field.coding r so_far.0) (sym (c.in_ok-accept.ensures.unchanged other).0) so_far.1)
+      | inr other ↦ (
+        so_far.0,
+        subst (λ (r : ReceiverState g.row.F-Elem.Denot). HasKept g.F.Field.is_element g.F.Field.coding r so_far.0)
+            (sym (c.in_ok-accept.ensures.unchanged other).0) so_far.1,
+      )
     ]

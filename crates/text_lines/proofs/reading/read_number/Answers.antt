@@ -12,7 +12,9 @@ returns-in_err-value c =
     let value = c.loop-digit.value in
     let ahead = drop-cons digits at 0 c.loop-digit-test.true in
     c.from_residual.ensures
-    ∙ refused_digit c.args.most digits value (get_or digits at 0) (drop (suc at) digits) (c.loop-digit.invariant.digits ∙ ap (list_all is_digit) ahead) (c.loop-digit.invariant.value ∙ ap (value_from value) ahead) c.in_err-value.ensures
+    ∙ refused_digit c.args.most digits value (get_or digits at 0) (drop (suc at) digits)
+    (c.loop-digit.invariant.digits ∙ ap (list_all is_digit) ahead)
+    (c.loop-digit.invariant.value ∙ ap (value_from value) ahead) c.in_err-value.ensures
 
 pub returns : goal.returns
 returns c = grind (arith, common_steps)

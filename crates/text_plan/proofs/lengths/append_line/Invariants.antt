@@ -11,7 +11,9 @@ invariant-loop-size l = record {
   can : goal.iterator-loop-size.can_next l.size-iterator;
   ends : goal.iterator-loop-size.is_finite l.size-iterator;
   few : l.row.times + length (stripes_left l.size-iterator) ≤ length (plan_stripes l.table.layers);
-  text : l.into.items ++ (flat_map row_text (rows_of (replicate l.row.times l.row.size ++ map (λ s. s.1) (stripes_left l.size-iterator))) ++ codes "\n")
+  text : l.into.items
+      ++ (flat_map row_text
+      (rows_of (replicate l.row.times l.row.size ++ map (λ s. s.1) (stripes_left l.size-iterator))) ++ codes "\n")
       ≡ l.fn.into.items ++ lengths_text (plan_lengths l.table.layers);
   front : take (length l.fn.into.items) l.into.items ≡ l.fn.into.items;
 }

@@ -11,14 +11,22 @@ items_of list = list.items
 
 pub returns-then-not-starts_with-clause-ok : goal.returns-then-not-starts_with-clause-ok
 returns-then-not-starts_with-clause-ok c later =
-    line_skipped (map (λ list. list.items) c.args.lists.now.items) c.args.number c.args.line.now later (sym c.starts_with.ensures.value ∙ c.if-not-starts_with.true)
+    line_skipped (map (λ list. list.items) c.args.lists.now.items) c.args.number c.args.line.now later
+    (sym c.starts_with.ensures.value ∙ c.if-not-starts_with.true)
 
 pub returns-in_default-clause-refused : goal.returns-in_default-clause-refused
-returns-in_default-clause-refused c other =
-    (refl, λ later. line_refused c.args.number c.args.line.now later _ (sym c.starts_with.ensures.value ∙ c.if-not-starts_with.false) c.in_ok-list.ensures (ap (option_map items_of) c.in_default.is))
+returns-in_default-clause-refused c other = (
+  refl,
+  λ later. line_refused c.args.number c.args.line.now later _
+      (sym c.starts_with.ensures.value ∙ c.if-not-starts_with.false) c.in_ok-list.ensures
+      (ap (option_map items_of) c.in_default.is),
+)
 
 pub returns-clause-ok : goal.returns-clause-ok
 returns-clause-ok c later =
     let lists = c.args.lists.now.items in
-    line_read (map items_of lists) c.args.number c.args.line.now later c.in-Some.list.items _ (sym c.starts_with.ensures.value ∙ c.if-not-starts_with.false) c.in_ok-list.ensures (ap (option_map items_of) c.in-Some.is)
-    ∙ ap (λ ls. behind_lists ls later) (sym (ap (map items_of) c.in_ok-push.ensures.items ∙ map-append items_of lists (c.in-Some.list ∷ [])))
+    line_read (map items_of lists) c.args.number c.args.line.now later c.in-Some.list.items _
+    (sym c.starts_with.ensures.value ∙ c.if-not-starts_with.false) c.in_ok-list.ensures
+    (ap (option_map items_of) c.in-Some.is)
+    ∙ ap (λ ls. behind_lists ls later)
+    (sym (ap (map items_of) c.in_ok-push.ensures.items ∙ map-append items_of lists (c.in-Some.list ∷ [])))

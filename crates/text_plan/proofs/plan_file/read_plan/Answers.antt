@@ -16,7 +16,9 @@ loop-rest-preserved c =
     let number = c.loop-rest.number + 1 in
     record {
       counted = omega arith;
-      lists = c.loop-rest.invariant.lists ∙ ap (λ (lines : List (List ℕ)). behind_lists before (lists_from number lines)) c.first_line.ensures.lines
+      lists =
+          c.loop-rest.invariant.lists
+          ∙ ap (λ (lines : List (List ℕ)). behind_lists before (lists_from number lines)) c.first_line.ensures.lines
           ∙ c.in_ok-read_line.ensures.ok (lists_from (number + 1) (lines_of c.first_line.result.1.now));
     }
 
@@ -24,5 +26,6 @@ pub returns-in_err-read_line-clause-refused : goal.returns-in_err-read_line-clau
 returns-in_err-read_line-clause-refused c =
     let p = err_from_is_err_and c.from_residual.result c.from_residual.ensures.1 in
     rw (p.1, p.2)
-    (refused_at c.args.bytes.now (map (λ list. list.items) c.loop-rest.lists.items) c.loop-rest.number c.first_line.result.0.now c.loop-rest.rest.now c.first_line.result.1.now c.in_err-read_line.field-0.0
+    (refused_at c.args.bytes.now (map (λ list. list.items) c.loop-rest.lists.items) c.loop-rest.number
+    c.first_line.result.0.now c.loop-rest.rest.now c.first_line.result.1.now c.in_err-read_line.field-0.0
     c.loop-rest.invariant.lists c.first_line.ensures.lines c.in_err-read_line.ensures.refused)

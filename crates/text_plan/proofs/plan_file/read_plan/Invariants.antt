@@ -5,7 +5,8 @@ use Rattle.text_plan.proofs.plan_file.read_plan.Given as goal
 abbrev pub invariant-loop-rest : goal.invariant-loop-rest
 invariant-loop-rest l = record {
   counted : l.number + length l.rest ≤ length l.bytes;
-  lists : lists_of l.bytes ≡ behind_lists (map (λ list. list.items) l.lists.items) (lists_from (l.number + 1) (lines_of l.rest));
+  lists : lists_of l.bytes
+      ≡ behind_lists (map (λ list. list.items) l.lists.items) (lists_from (l.number + 1) (lines_of l.rest));
 }
 
 abbrev pub decreases-loop-rest : goal.decreases-loop-rest

@@ -6,4 +6,5 @@ pub returns-then-is_some : goal.returns-then-is_some
 returns-then-is_some c =
     let first = at_some c.cut.result.1 c.in_ok-behind.field-0 _ _ c.in_ok-behind.was c.cut.ensures.parts in
     let second = of_some c.cut-2.result.1 _ _ (sym c.is_some.ensures ∙ c.if-is_some.true) c.cut-2.ensures.parts in
-    three_parts c.args.word.now c.cut.result.0.now c.in_ok-behind.field-0.now c.cut-2.result.0.now second.0.now first second.1
+    three_parts c.args.word.now c.cut.result.0.now c.in_ok-behind.field-0.now c.cut-2.result.0.now second.0.now first
+    second.1

@@ -5,7 +5,8 @@ use Rattle.text_plan.proofs.plan_lines.plan_session_line.Goals as goal
 
 pub returns-clause-ok : goal.returns-clause-ok
 returns-clause-ok c =
-    let rest = codes " groups " ++ (decimal c.args.groups ++ (codes " packets " ++ (decimal c.args.packets ++ codes "\n"))) in
+    let rest = codes " groups "
+    ++ (decimal c.args.groups ++ (codes " packets " ++ (decimal c.args.packets ++ codes "\n"))) in
     c.in_ok-extend_from_slice.ensures.items
     ∙ ap (λ bytes. c.args.into.now.items ++ bytes) (c.as_bytes.ensures.value ∙ (c.in_ok-line.ensures.ok
     ∙ (ap (λ text. codes "session " ++ (text ++ rest)) c.in_ok-session.ensures ∙ seven

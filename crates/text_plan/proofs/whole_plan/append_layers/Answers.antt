@@ -10,6 +10,8 @@ loop-layer-preserved c =
     let new = c.append_layer.new.into.items in
     let line = c.in_ok-append_layer.ensures.ok in
     record {
-      text = layer_next c.args.priority.now.layers c.args.table.now.layers c.loop-layer.layer old into new line c.loop-layer.invariant.text;
+      text =
+          layer_next c.args.priority.now.layers c.args.table.now.layers c.loop-layer.layer old into new line
+          c.loop-layer.invariant.text;
       front = front_kept old into _ new line c.loop-layer.invariant.front;
     }

@@ -1,5 +1,5 @@
 use Rattle.std.proofs.Common.{◌≡◌, ◌++◌, length, take}
-use Rattle.text_plan.specs.LayerLines.{layer_lines}
+use Rattle.text_plan.specs.inside.LayerLines.{layer_lines}
 use Rattle.text_plan.proofs.whole_plan.append_layers.Given as goal
 
 abbrev pub invariant-loop-layer : goal.invariant-loop-layer

@@ -9,10 +9,15 @@ pub returns-in_err-self-clause-part : goal.returns-in_err-self-clause-part
 returns-in_err-self-clause-part g c =
     let none = sym c.is_some.ensures ∙ c.if-is_some.false in
     on_any_err c.from_residual.result
-    (λ stream first h. c.in_err-self.ensures.part stream first (stands_none (way_of c.args.found.now.to) c.args.found.now.source c.args.found.now.marks.items stream c.args.self.now.change c.args.self.now.groups first (routes g.P.Place g.K.Link c.args.place.now c.args.link.now) none h).0)
+    (λ stream first h. c.in_err-self.ensures.part stream first
+    (stands_none (way_of c.args.found.now.to) c.args.found.now.source c.args.found.now.marks.items stream
+    c.args.self.now.change c.args.self.now.groups first
+    (routes g.P.Place g.K.Link c.args.place.now c.args.link.now) none h).0)
 
 pub returns-clause-all : goal.returns-clause-all
 returns-clause-all g c stream first h =
     let none = sym c.is_some.ensures ∙ c.if-is_some.false in
-    let gone = stands_none (way_of c.args.found.now.to) c.args.found.now.source c.args.found.now.marks.items stream c.args.self.now.change c.args.self.now.groups first (routes g.P.Place g.K.Link c.args.place.now c.args.link.now) none h in
+    let gone = stands_none (way_of c.args.found.now.to) c.args.found.now.source c.args.found.now.marks.items stream
+    c.args.self.now.change c.args.self.now.groups first
+    (routes g.P.Place g.K.Link c.args.place.now c.args.link.now) none h in
     c.in_ok-self.ensures.all stream first gone.0 gone.1

@@ -8,6 +8,8 @@ invert_modulo-requires-clause-irreducible g c = gf16_irreducible
 
 pub returns-clause-inverse : goal.returns-clause-inverse
 returns-clause-inverse g c =
-    product_unique 16 0x1100B gf16_modulus.some gf16_modulus.degree c.args.a c.invert_modulo.result (times 16 0x1100B c.args.a c.invert_modulo.result) 1
-    (times_is 16 0x1100B gf16_modulus.some gf16_modulus.degree c.args.a c.invert_modulo.result c.requires.element c.invert_modulo.ensures.below)
+    product_unique 16 0x1100B gf16_modulus.some gf16_modulus.degree c.args.a c.invert_modulo.result
+    (times 16 0x1100B c.args.a c.invert_modulo.result) 1
+    (times_is 16 0x1100B gf16_modulus.some gf16_modulus.degree c.args.a c.invert_modulo.result c.requires.element
+    c.invert_modulo.ensures.below)
     (rw c.from.ensures at c.invert_modulo.ensures.inverse)

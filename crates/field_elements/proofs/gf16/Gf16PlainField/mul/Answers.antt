@@ -6,7 +6,8 @@ use Rattle.field_elements.proofs.gf16.Gf16PlainField.mul.Goals as goal
 
 pub returns-clause-product : goal.returns-clause-product
 returns-clause-product g c =
-    product_unique 16 0x1100B gf16_modulus.some gf16_modulus.degree c.args.a c.args.b c.multiply_modulo.result (times 16 0x1100B c.args.a c.args.b)
+    product_unique 16 0x1100B gf16_modulus.some gf16_modulus.degree c.args.a c.args.b c.multiply_modulo.result
+    (times 16 0x1100B c.args.a c.args.b)
     (rw (c.from.ensures, c.from-2.ensures) at c.multiply_modulo.ensures)
     (times_is 16 0x1100B gf16_modulus.some gf16_modulus.degree c.args.a c.args.b c.requires.first c.requires.second)
 

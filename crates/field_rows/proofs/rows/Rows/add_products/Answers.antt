@@ -6,7 +6,8 @@ use Rattle.field_rows.proofs.rows.Rows.add_products.Goals as goal
 
 pub add_scaled_at-requires-clause-room : goal.add_scaled_at-requires-clause-room
 add_scaled_at-requires-clause-room g c =
-    next_room c.loop-j.j (length c.args.factors.now) c.loop-j.at (length c.args.row.now) (length c.loop-j.rows) (length c.args.rows.now)
+    next_room c.loop-j.j (length c.args.factors.now) c.loop-j.at (length c.args.row.now) (length c.loop-j.rows)
+    (length c.args.rows.now)
     (omega arith) c.loop-j.invariant.place c.requires.room c.loop-j.invariant.long
 
 pub add_scaled_at-requires-clause-factor : goal.add_scaled_at-requires-clause-factor
@@ -15,8 +16,10 @@ add_scaled_at-requires-clause-factor g c =
     let x = c.index-factors-j.result in
     let z = g.Self.Field.coding.ops.nought in
     let factors = c.args.factors.now in
-    let is : get_or (map R.element_of factors) c.loop-j.j z ≡ R.element_of x = get_or-map R.element_of factors c.loop-j.j x z (omega arith) ∙ ap R.element_of (sym c.index-factors-j.is) in
-    rw c.element-by.ensures (rw is at (c.requires.factors c.loop-j.j z (rw (length-map factors R.element_of) (omega arith))))
+    let is : get_or (map R.element_of factors) c.loop-j.j z ≡ R.element_of x =
+    get_or-map R.element_of factors c.loop-j.j x z (omega arith) ∙ ap R.element_of (sym c.index-factors-j.is) in
+    rw c.element-by.ensures
+    (rw is at (c.requires.factors c.loop-j.j z (rw (length-map factors R.element_of) (omega arith))))
 
 pub loop-j-preserved : goal.loop-j-preserved
 loop-j-preserved g c =
@@ -35,23 +38,39 @@ loop-j-preserved g c =
     let new = c.add_scaled_at.new.rows in
     let place : at ≡ j * length row = c.loop-j.invariant.place in
     let factor = λ (i : ℕ). get_or (map R.element_of factors) i z in
-    let by_is : by ≡ get_or (map R.element_of factors) j z = c.element-by.ensures ∙ sym (get_or-map R.element_of factors j x z (omega arith) ∙ ap R.element_of (sym c.index-factors-j.is)) in
+    let by_is : by ≡ get_or (map R.element_of factors) j z =
+    c.element-by.ensures
+    ∙ sym (get_or-map R.element_of factors j x z (omega arith) ∙ ap R.element_of (sym c.index-factors-j.is)) in
     let added = c.add_scaled_at.ensures in
     record {
       place = ap (λ n. n + length row) place ∙ sym (more_rows j (length row));
       long = c.add_scaled_at.auto.rows ∙ c.loop-j.invariant.long;
       elements = added.elements;
-      sums = sums_more o j at row rows old new by factor place added.sums added.before added.behind by_is c.loop-j.invariant.rest c.loop-j.invariant.sums;
-      rest = rest_more o j at row rows old new by factor place added.sums added.before added.behind by_is c.loop-j.invariant.rest;
-      cost = next_cost j (length row) c.args.steps.now c.loop-j.steps c.add_scaled_at.new.steps c.loop-j.invariant.cost added.cost;
+      sums =
+          sums_more o j at row rows old new by factor place added.sums added.before added.behind by_is
+          c.loop-j.invariant.rest c.loop-j.invariant.sums;
+      rest =
+          rest_more o j at row rows old new by factor place added.sums added.before added.behind by_is
+          c.loop-j.invariant.rest;
+      cost =
+          next_cost j
+          (length row) c.args.steps.now c.loop-j.steps c.add_scaled_at.new.steps c.loop-j.invariant.cost added.cost;
     }
 
 pub loop-j-init : goal.loop-j-init
 loop-j-init g c =
-    record { place = omega arith; long = refl; elements = c.requires.elements; sums = λ i k l m. absurd (omega arith); rest = λ i l. refl; cost = omega arith }
+    record {
+      place = omega arith;
+      long = refl;
+      elements = c.requires.elements;
+      sums = λ i k l m. absurd (omega arith);
+      rest = λ i l. refl;
+      cost = omega arith;
+    }
 
 pub returns-clause-sums : goal.returns-clause-sums
 returns-clause-sums g c = λ i k l m. c.loop-j.invariant.sums i k (omega arith) m
 
 pub returns-clause-others : goal.returns-clause-others
-returns-clause-others g c = λ i l. let e : c.loop-j.j ≡ length c.args.factors.now = omega arith in c.loop-j.invariant.rest i (rw e l)
+returns-clause-others g c = λ i l. let e : c.loop-j.j ≡ length c.args.factors.now = omega arith in
+    c.loop-j.invariant.rest i (rw e l)

@@ -6,9 +6,15 @@ invariant-loop-j g l = record {
   place : l.at ≡ l.j * length l.row;
   long : length l.rows ≡ length l.initial.rows;
   elements : All g.Self.Field.is_element l.rows;
-  sums : (i c : ℕ) → i < l.j → c < length l.row → slice_index_or l.rows (i * length l.row + c) g.Self.Field.coding.ops.nought
-      ≡ g.Self.Field.coding.ops.plus (slice_index_or l.initial.rows (i * length l.row + c) g.Self.Field.coding.ops.nought)
-      (g.Self.Field.coding.ops.times (slice_index_or (map g.Self.Rows.element_of l.factors) i g.Self.Field.coding.ops.nought) (slice_index_or l.row c g.Self.Field.coding.ops.nought));
-  rest : (i : ℕ) → l.j * length l.row ≤ i → slice_index_or l.rows i g.Self.Field.coding.ops.nought ≡ slice_index_or l.initial.rows i g.Self.Field.coding.ops.nought;
+  sums : (i c : ℕ) → i < l.j → c < length l.row
+      → slice_index_or l.rows (i * length l.row + c) g.Self.Field.coding.ops.nought
+      ≡ g.Self.Field.coding.ops.plus
+      (slice_index_or l.initial.rows (i * length l.row + c) g.Self.Field.coding.ops.nought)
+      (g.Self.Field.coding.ops.times (slice_index_or
+      (map g.Self.Rows.element_of l.factors) i g.Self.Field.coding.ops.nought)
+      (slice_index_or l.row c g.Self.Field.coding.ops.nought));
+  rest : (i : ℕ) → l.j * length l.row ≤ i
+      → slice_index_or l.rows i g.Self.Field.coding.ops.nought
+      ≡ slice_index_or l.initial.rows i g.Self.Field.coding.ops.nought;
   cost : l.steps ≡ l.initial.steps + l.j * length l.row;
 }

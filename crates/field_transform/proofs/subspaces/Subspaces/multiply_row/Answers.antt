@@ -12,13 +12,16 @@ loop-i-preserved g c =
     let n = c.loop-i.i in
     let e = c.index-row-i.result in
     let x = c.args.by in
-    let read : e ≡ get_or old n z = c.index-row-i.is ∙ get_or_default row n e z (omega (arith, c.loop-i.invariant.long)) ∙ c.loop-i.invariant.rest n (omega arith) in
+    let read : e ≡ get_or old n z = c.index-row-i.is
+    ∙ get_or_default row n e z (omega (arith, c.loop-i.invariant.long)) ∙ c.loop-i.invariant.rest n (omega arith) in
     record {
       long = length-set row n c.mul.result ∙ c.loop-i.invariant.long;
       done =
-          filled (λ k. o.times x (get_or old k z)) z row n c.mul.result (omega (arith, c.loop-i.invariant.long)) c.loop-i.invariant.done
+          filled (λ k. o.times x (get_or old k z)) z row n c.mul.result
+          (omega (arith, c.loop-i.invariant.long)) c.loop-i.invariant.done
           (c.mul.ensures.product ∙ ap (o.times x) read);
-      rest = λ k l. get_or-set_other row n k c.mul.result z (λ q. absurd (omega arith)) ∙ c.loop-i.invariant.rest k (omega arith);
+      rest = λ k l. get_or-set_other row n k c.mul.result z (λ q. absurd (omega arith))
+          ∙ c.loop-i.invariant.rest k (omega arith);
       cost = omega (arith, c.mul.ensures.cost, c.loop-i.invariant.cost);
     }
 
@@ -32,7 +35,8 @@ mul-requires-clause-second g c =
     let n = c.loop-i.i in
     let e = c.index-row-i.result in
     let m : n < length c.args.row.now = omega (arith, c.loop-i.invariant.long) in
-    rw (c.index-row-i.is ∙ get_or_default row n e z (omega (arith, c.loop-i.invariant.long)) ∙ c.loop-i.invariant.rest n (omega arith)) (c.requires.elements n z m)
+    rw (c.index-row-i.is ∙ get_or_default row n e z (omega (arith, c.loop-i.invariant.long))
+    ∙ c.loop-i.invariant.rest n (omega arith)) (c.requires.elements n z m)
 
 pub returns-clause-products : goal.returns-clause-products
 returns-clause-products g c = λ k l. c.loop-i.invariant.done k (omega (arith, l))

@@ -7,7 +7,8 @@ fill_values-requires-clause-room g c = c.deref_mut.ensures.len ∙ c.in_ok-value
 
 pub returns-clause-rows : goal.returns-clause-rows
 returns-clause-rows g c =
-    rw (take_at c.fill_values.new.into (drop (length c.fill_values.new.into) c.in_ok-values.values.items) c.in_ok-values.values.len (c.fill_values.auto.into ∙ c.deref_mut.ensures.len))
+    rw (take_at c.fill_values.new.into (drop (length c.fill_values.new.into) c.in_ok-values.values.items)
+    c.in_ok-values.values.len (c.fill_values.auto.into ∙ c.deref_mut.ensures.len))
     c.fill_values.ensures.rows
 
 pub returns-clause-cost : goal.returns-clause-cost

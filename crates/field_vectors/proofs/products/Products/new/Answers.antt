@@ -10,6 +10,8 @@ invariant_of-result c =
     let e = c.nibble_products in
     record {
       right =
-          are_products c.args.factor a.result.next b.result.next d.result.next a.result.low b.result.low d.result.low e.result.low a.result.high b.result.high d.result.high e.result.high
-          (omega (arith, c.ranges.factor.fits)) a.ensures.next b.ensures.next d.ensures.next a.ensures.low a.ensures.high b.ensures.low b.ensures.high d.ensures.low d.ensures.high e.ensures.low e.ensures.high;
+          are_products c.args.factor a.result.next b.result.next d.result.next a.result.low b.result.low d.result.low
+          e.result.low a.result.high b.result.high d.result.high e.result.high
+          (omega (arith, c.ranges.factor.fits)) a.ensures.next b.ensures.next d.ensures.next a.ensures.low
+          a.ensures.high b.ensures.low b.ensures.high d.ensures.low d.ensures.high e.ensures.low e.ensures.high;
     }

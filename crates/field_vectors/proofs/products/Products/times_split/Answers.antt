@@ -7,7 +7,9 @@ returns c =
     λ v fits lo hi.
     let s = c.args.self.now in (
       low_lanes s.factor s.low s.high v c.look_up-product_low.result s.right fits
-          (c.look_up-product_low.ensures (get_or s.low 0 []) (get_or s.low 1 []) (get_or s.low 2 []) (get_or s.low 3 []) v c.spread.ensures c.spread-2.ensures c.spread-3.ensures c.spread-4.ensures lo hi),
+          (c.look_up-product_low.ensures (get_or s.low 0 []) (get_or s.low 1 []) (get_or s.low 2 [])
+          (get_or s.low 3 []) v c.spread.ensures c.spread-2.ensures c.spread-3.ensures c.spread-4.ensures lo hi),
       high_lanes s.factor s.low s.high v c.look_up-product_high.result s.right fits
-          (c.look_up-product_high.ensures (get_or s.high 0 []) (get_or s.high 1 []) (get_or s.high 2 []) (get_or s.high 3 []) v c.spread-5.ensures c.spread-6.ensures c.spread-7.ensures c.spread-8.ensures lo hi),
+          (c.look_up-product_high.ensures (get_or s.high 0 []) (get_or s.high 1 []) (get_or s.high 2 [])
+          (get_or s.high 3 []) v c.spread-5.ensures c.spread-6.ensures c.spread-7.ensures c.spread-8.ensures lo hi),
     )

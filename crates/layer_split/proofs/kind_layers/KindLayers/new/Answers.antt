@@ -30,5 +30,6 @@ returns c =
       count = c.len.ensures.value ∙ ap (λ (q : Priorities). length q.layers) c.priority.view_is;
       few = c.len.ensures.fits;
       within = λ kind place. subst (λ (q : Priorities). layer_of q kind place < length q.layers) c.priority.view_is
-          (layer_of-within (record { packets = c.priority.inside.packets; layers = c.priority.inside.layers.items }) c.priority.invariant kind place);
+          (layer_of-within (record { packets = c.priority.inside.packets; layers = c.priority.inside.layers.items })
+          c.priority.invariant kind place);
     }

@@ -16,5 +16,6 @@ returns c = record {
   number = refl;
   few = omega arith;
   picture = refl;
-  held = inl (record { runs_are = c.new-2.ensures.items; size_is = refl; short = omega arith; counted = c.new-3.ensures });
+  held =
+      inl (record { runs_are = c.new-2.ensures.items; size_is = refl; short = omega arith; counted = c.new-3.ensures });
 }

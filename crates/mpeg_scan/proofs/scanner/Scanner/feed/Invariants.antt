@@ -8,7 +8,8 @@ abbrev pub invariant-loop-read : goal.invariant-loop-read
 invariant-loop-read l = record {
   within : l.read ≤ length l.portion;
   grows : HasGrown l.fn.pieces.items l.pieces.items;
-  front : (stream : List ℕ) (given : List Piece) → HasRead l.fn.self stream given → HasRead l.self (stream ++ take l.read l.portion) (given ++ added l.fn.pieces.items l.pieces.items);
+  front : (stream : List ℕ) (given : List Piece) → HasRead l.fn.self stream given
+      → HasRead l.self (stream ++ take l.read l.portion) (given ++ added l.fn.pieces.items l.pieces.items);
 }
 
 abbrev pub decreases-loop-read : goal.decreases-loop-read

@@ -17,5 +17,12 @@ returns c = record {
   back4 = refl;
   back5 = refl;
   undecided = λ rest scan h. omega arith;
-  place = record { front = inl refl; from = refl; none_given = refl; openers = λ rest. let e : length rest ≡ length rest - 0 = omega arith in ap (λ n. filter (is_opener rest) (range_with_len 0 n)) e };
+  place =
+      record {
+        front = inl refl;
+        from = refl;
+        none_given = refl;
+        openers = λ rest. let e : length rest ≡ length rest - 0 = omega arith in
+            ap (λ n. filter (is_opener rest) (range_with_len 0 n)) e;
+      };
 }

@@ -28,7 +28,8 @@ returns-in_err-skip-clause-stopped c =
     rw (p.1, p.2) (λ _ s g r.
     subst (HasStopped (s ++ c.args.ahead.now) c.in_err-skip.field-0.0) (sym (added_none c.args.pieces.now.items g))
     (subst (λ S. HasStopped S c.in_err-skip.field-0.0 g) (whole_here s c.args.ahead.now c.skippable-run.result)
-    (stopped_more _ (drop c.skippable-run.result c.args.ahead.now) c.in_err-skip.field-0.0 g (c.in_err-skip.ensures.stopped s g r))))
+    (stopped_more _ (drop c.skippable-run.result c.args.ahead.now) c.in_err-skip.field-0.0 g
+    (c.in_err-skip.ensures.stopped s g r))))
 
 pub returns-in_err-step-clause-stopped : goal.returns-in_err-step-clause-stopped
 returns-in_err-step-clause-stopped c =

@@ -19,7 +19,19 @@ pub returns-clause-ok : goal.returns-clause-ok
 returns-clause-ok c s p r =
     let long = c.requires.long in
     skips c.args.self.now _ c.args.run.now c.requires.quiet long (omega arith)
-    (record { at = refl; back1 = refl; back2 = refl; back3 = refl; back4 = refl; back5 = refl; opened = refl; from = refl; code = refl; kind = refl; refused = refl })
+    (record {
+      at = refl;
+      back1 = refl;
+      back2 = refl;
+      back3 = refl;
+      back4 = refl;
+      back5 = refl;
+      opened = refl;
+      from = refl;
+      code = refl;
+      kind = refl;
+      refused = refl;
+    })
     s p r
 
 -- its edit is refused here, without a search for an answer to offer

@@ -15,16 +15,20 @@ pub append_elements-requires-clause-elements : goal.append_elements-requires-cla
 append_elements-requires-clause-elements g c =
     let F = g.F.Field in
     let s = c.self.inside in
-    values_are F.is_element F.COUNT F.coding g.met.F.Field.lawful s.header s.blocks.items s.laid.items c.self.invariant.0
-    c.args.self.now.encoding (ap (λ (v : CodedGroup). v.encoding) c.self.view_is) c.args.number c.requires.number c.args.values.now c.requires.values
+    values_are F.is_element F.COUNT F.coding g.met.F.Field.lawful s.header s.blocks.items s.laid.items
+    c.self.invariant.0
+    c.args.self.now.encoding (ap (λ (v : CodedGroup). v.encoding) c.self.view_is) c.args.number c.requires.number
+    c.args.values.now c.requires.values
 
 pub append_elements-requires-clause-room : goal.append_elements-requires-clause-room
 append_elements-requires-clause-room g c =
     let F = g.F.Field in
     let s = c.self.inside in
     let long =
-    values_count F.is_element F.COUNT F.coding g.met.F.Field.lawful s.header s.blocks.items s.laid.items c.self.invariant.0
-    c.args.self.now.encoding (ap (λ (v : CodedGroup). v.encoding) c.self.view_is) c.args.number c.requires.number c.args.values.now c.requires.values in
+    values_count F.is_element F.COUNT F.coding g.met.F.Field.lawful s.header s.blocks.items s.laid.items
+    c.self.invariant.0
+    c.args.self.now.encoding (ap (λ (v : CodedGroup). v.encoding) c.self.view_is) c.args.number c.requires.number
+    c.args.values.now c.requires.values in
     let word = ap (λ n. n * length (plan_ends s.header.table.layers)) c.self.invariant.1.word in
     omega (arith, c.in_ok-begin_planned.ensures.room, long, word)
 
@@ -33,10 +37,19 @@ end_planned-requires-clause-room g c =
     let F = g.F.Field in
     let s = c.self.inside in
     let long =
-    values_count F.is_element F.COUNT F.coding g.met.F.Field.lawful s.header s.blocks.items s.laid.items c.self.invariant.0
-    c.args.self.now.encoding (ap (λ (v : CodedGroup). v.encoding) c.self.view_is) c.args.number c.requires.number c.args.values.now c.requires.values in
+    values_count F.is_element F.COUNT F.coding g.met.F.Field.lawful s.header s.blocks.items s.laid.items
+    c.self.invariant.0
+    c.args.self.now.encoding (ap (λ (v : CodedGroup). v.encoding) c.self.view_is) c.args.number c.requires.number
+    c.args.values.now c.requires.values in
     let word = ap (λ n. n * length (plan_ends s.header.table.layers)) c.self.invariant.1.word in
-    omega (arith, c.in_ok-begin_planned.ensures.room, c.append_elements.ensures.len, c.append_elements.ensures.room, long, word)
+    omega (
+      arith,
+      c.in_ok-begin_planned.ensures.room,
+      c.append_elements.ensures.len,
+      c.append_elements.ensures.room,
+      long,
+      word,
+    )
 
 pub returns-clause-ok : goal.returns-clause-ok
 returns-clause-ok g c =
@@ -45,13 +58,16 @@ returns-clause-ok g c =
     let t = s.format in
     let made = fields_with s.header c.args.number (flat_map F.coding.spelling c.args.values.now) in
     let same = ap (λ (v : CodedGroup). v.format) c.self.view_is in
-    let spelt = written_in t (by_text t made) c.args.into.now.items _ _ _ _ c.len-start.result (search rules) (search rules)
+    let spelt = written_in t (by_text t made) c.args.into.now.items _ _ _ _ c.len-start.result (search rules)
+    (search rules)
     c.in_ok-begin_planned.ensures.ok c.append_elements.ensures.items c.end_planned.ensures in
     let own = appended t c.args.into.now.items c.end_planned.new.into.items _ _
     (frame_is F.is_element F.COUNT F.coding g.met.F.Field.lawful s.header s.blocks.items s.laid.items c.self.invariant.0
-    c.args.self.now.encoding (ap (λ (v : CodedGroup). v.encoding) c.self.view_is) c.args.number c.requires.number c.args.values.now c.requires.values)
+    c.args.self.now.encoding (ap (λ (v : CodedGroup). v.encoding) c.self.view_is) c.args.number c.requires.number
+    c.args.values.now c.requires.values)
     spelt in
-    subst (λ (u : Format). c.end_planned.new.into.items ≡ c.args.into.now.items ++ planned_text u (frame_of F.coding c.args.self.now.encoding c.args.number)) same own
+    subst (λ (u : Format). c.end_planned.new.into.items
+    ≡ c.args.into.now.items ++ planned_text u (frame_of F.coding c.args.self.now.encoding c.args.number)) same own
 
 pub returns-clause-ranges : goal.returns-clause-ranges
 returns-clause-ranges g c =
@@ -59,10 +75,13 @@ returns-clause-ranges g c =
     let s = c.self.inside in
     let same = ap (λ (v : CodedGroup). v.format) c.self.view_is in
     let word = ap (λ n. n * length (plan_ends s.header.table.layers)) c.self.invariant.1.word in
-    let long = fits F.is_element F.COUNT F.coding g.met.F.Field.lawful s.header s.blocks.items s.laid.items c.self.invariant.0
-    c.args.self.now.encoding (ap (λ (v : CodedGroup). v.encoding) c.self.view_is) c.args.number c.requires.number c.args.values.now c.requires.values in
+    let long = fits F.is_element F.COUNT F.coding g.met.F.Field.lawful s.header s.blocks.items s.laid.items
+    c.self.invariant.0
+    c.args.self.now.encoding (ap (λ (v : CodedGroup). v.encoding) c.self.view_is) c.args.number c.requires.number
+    c.args.values.now c.requires.values in
     subst (λ (u : Format). IsPlannedFrame u (frame_of F.coding c.args.self.now.encoding c.args.number)) same
     (subst (λ (f : Fields). IsPlannedFrame s.format f)
     (frame_is F.is_element F.COUNT F.coding g.met.F.Field.lawful s.header s.blocks.items s.laid.items c.self.invariant.0
-    c.args.self.now.encoding (ap (λ (v : CodedGroup). v.encoding) c.self.view_is) c.args.number c.requires.number c.args.values.now c.requires.values)
+    c.args.self.now.encoding (ap (λ (v : CodedGroup). v.encoding) c.self.view_is) c.args.number c.requires.number
+    c.args.values.now c.requires.values)
     (c.begin_planned.ensures.ranges (flat_map F.coding.spelling c.args.values.now) (long ∙ sym word)))

@@ -8,5 +8,6 @@ abbrev pub invariant-loop-p : goal.invariant-loop-p
 invariant-loop-p g l = record {
   place : l.at ≡ l.p * l.wide;
   so_far : l.into.items ≡ l.initial.into.items ++ frames_by l.self.format g.F.Field.coding l.self.encoding l.first l.p;
-  ranges : (k : ℕ) → l.first ≤ k → k < l.first + l.p → IsPlannedFrame l.self.format (frame_of g.F.Field.coding l.self.encoding k);
+  ranges : (k : ℕ) → l.first ≤ k → k < l.first + l.p
+      → IsPlannedFrame l.self.format (frame_of g.F.Field.coding l.self.encoding k);
 }

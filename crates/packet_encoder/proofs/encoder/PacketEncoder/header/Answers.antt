@@ -15,9 +15,11 @@ returns-clause-message g c =
     let row = words_in F.coding blocks laid in
     let laws = g.met.F.Field.lawful in
     let elements = words_are_elements F.is_element F.COUNT F.coding laws c.self.inside.header blocks laid kept in
-    subst (λ (e : Encoding). IsMessage F.coding.width e.header.table.layers e.message) (ap (λ (v : CodedGroup). v.encoding) c.self.view_is) (record {
+    subst (λ (e : Encoding). IsMessage F.coding.width e.header.table.layers e.message)
+    (ap (λ (v : CodedGroup). v.encoding) c.self.view_is) (record {
       whole =
           length-spellings F.is_element F.COUNT F.coding laws row elements
-          ∙ ap (λ n. n * F.coding.width) (words_are_whole F.is_element F.COUNT F.coding laws c.self.inside.header blocks laid kept);
+          ∙ ap (λ n. n * F.coding.width)
+          (words_are_whole F.is_element F.COUNT F.coding laws c.self.inside.header blocks laid kept);
       bytes = bytes_spellings F.is_element F.COUNT F.coding laws row elements;
     })

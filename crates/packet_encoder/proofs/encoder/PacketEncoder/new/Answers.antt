@@ -8,7 +8,8 @@ pub laid_out-requires : goal.laid_out-requires
 laid_out-requires g c =
     let F = g.F.Field in
     ap length c.deref-2.ensures.value
-    ∙ row_length F.is_element F.COUNT F.coding g.met.F.Field.lawful c.words.result _ c.args.message.now c.in_ok-row.row.items c.in_ok-row.ensures c.words.ensures.words
+    ∙ row_length F.is_element F.COUNT F.coding g.met.F.Field.lawful c.words.result _ c.args.message.now
+    c.in_ok-row.row.items c.in_ok-row.ensures c.words.ensures.words
     ∙ sym (ap size_of c.deref.ensures.value ∙ c.in_ok-plan.ensures.size)
 
 pub invariant_of-result : goal.invariant_of-result
@@ -17,12 +18,16 @@ invariant_of-result g c =
     let row = c.in_ok-row.row.items in
     let blocks = c.in_ok-plan.plan.items in
     let laid = c.in_ok-laid.laid.items in
-    let long = row_length F.is_element F.COUNT F.coding g.met.F.Field.lawful c.words.result _ c.args.message.now row c.in_ok-row.ensures c.words.ensures.words in
+    let long = row_length F.is_element F.COUNT F.coding g.met.F.Field.lawful c.words.result _ c.args.message.now row
+    c.in_ok-row.ensures c.words.ensures.words in
     let elements =
-    row_is F.is_element F.COUNT F.coding g.met.F.Field.lawful c.words.result _ c.args.message.now row c.in_ok-row.ensures c.words.ensures.words c.requires.message
+    row_is F.is_element F.COUNT F.coding g.met.F.Field.lawful c.words.result _ c.args.message.now row
+    c.in_ok-row.ensures c.words.ensures.words c.requires.message
     (λ k l. omega (arith, c.type_inv.message k)) in
-    let whole : length laid ≡ size_of blocks = c.in_ok-laid.ensures.length ∙ ap length c.deref-2.ensures.value ∙ long ∙ sym c.in_ok-plan.ensures.size in
-    let columns = carried F.coding.ops.nought c.deref.result.now blocks c.deref-2.result.now row laid c.deref.ensures.value c.deref-2.ensures.value (c.in_ok-laid.ensures.columns F.coding.ops.nought) in (
+    let whole : length laid ≡ size_of blocks =
+    c.in_ok-laid.ensures.length ∙ ap length c.deref-2.ensures.value ∙ long ∙ sym c.in_ok-plan.ensures.size in
+    let columns = carried F.coding.ops.nought c.deref.result.now blocks c.deref-2.result.now row laid
+    c.deref.ensures.value c.deref-2.ensures.value (c.in_ok-laid.ensures.columns F.coding.ops.nought) in (
       record {
         points = omega (arith, c.requires.table.table.few_packets, c.requires.points);
         groups = c.requires.groups;
@@ -31,7 +36,8 @@ invariant_of-result g c =
         narrow = c.in_ok-plan.ensures.narrow;
         lengths = c.in_ok-plan.ensures.lengths;
         size = c.in_ok-plan.ensures.size;
-        elements = laid_elements F.is_element F.COUNT F.coding g.met.F.Field.lawful blocks row laid columns whole elements;
+        elements =
+            laid_elements F.is_element F.COUNT F.coding g.met.F.Field.lawful blocks row laid columns whole elements;
         whole = whole;
       },
       record { format = c.requires.format; word = c.requires.word; table = c.requires.table },
@@ -43,8 +49,12 @@ returns-clause-message g c =
     let row = c.in_ok-row.row.items in
     let blocks = c.in_ok-plan.plan.items in
     let laid = c.in_ok-laid.laid.items in
-    let columns = carried F.coding.ops.nought c.deref.result.now blocks c.deref-2.result.now row laid c.deref.ensures.value c.deref-2.ensures.value (c.in_ok-laid.ensures.columns F.coding.ops.nought) in
-    let long = row_length F.is_element F.COUNT F.coding g.met.F.Field.lawful c.words.result _ c.args.message.now row c.in_ok-row.ensures c.words.ensures.words in
-    ap (flat_map F.coding.spelling) (laid_row F.is_element F.COUNT F.coding g.met.F.Field.lawful blocks row laid columns (long ∙ sym c.in_ok-plan.ensures.size))
-    ∙ row_message F.is_element F.COUNT F.coding g.met.F.Field.lawful c.words.result _ c.args.message.now row c.in_ok-row.ensures c.words.ensures.words c.requires.message
+    let columns = carried F.coding.ops.nought c.deref.result.now blocks c.deref-2.result.now row laid
+    c.deref.ensures.value c.deref-2.ensures.value (c.in_ok-laid.ensures.columns F.coding.ops.nought) in
+    let long = row_length F.is_element F.COUNT F.coding g.met.F.Field.lawful c.words.result _ c.args.message.now row
+    c.in_ok-row.ensures c.words.ensures.words in
+    ap (flat_map F.coding.spelling) (laid_row F.is_element F.COUNT F.coding g.met.F.Field.lawful blocks row laid
+    columns (long ∙ sym c.in_ok-plan.ensures.size))
+    ∙ row_message F.is_element F.COUNT F.coding g.met.F.Field.lawful c.words.result _ c.args.message.now row
+    c.in_ok-row.ensures c.words.ensures.words c.requires.message
     (λ k l. omega (arith, c.type_inv.message k))

@@ -1,4 +1,5 @@
-use Rattle.std.proofs.Common.{◌≡◌, ◌≤◌, ◌<◌, ◌+◌, ◌*◌, ℕ, List, length, get_or, sum_by, refl, sym, ap, ap₂, ◌∙◌, arith, rules, subst}
+use Rattle.std.proofs.Common.{◌≡◌, ◌≤◌, ◌<◌, ◌+◌, ◌*◌, ℕ, List, length, get_or, sum_by, refl, sym, ap, ap₂, ◌∙◌, arith}
+use Rattle.std.proofs.Common.{rules, subst}
 use Rattle.std.specs.Prelude.{IsSome, Contains}
 use Rattle.stripe_plan.specs.laws.CountLaws.{length-counts_of, count_at}
 use Rattle.stripe_plan.proofs.CountLemmas.{count_of-greatest}
@@ -7,7 +8,8 @@ use Rattle.stripe_plan.proofs.TableLemmas.{words_half}
 use Rattle.stripe_plan.specs.Stripes.{IsPlan}
 use Rattle.stripe_plan.specs.declared.layer.LayerSize.{LayerSize}
 use Rattle.stripe_plan.specs.Counts.{IsLongestMeeting}
-use Rattle.stripe_plan.specs.Layers.{plan_stripes, words_before, words_of, needs_of, plan_ends, AllNeeded, count_of, counts_of}
+use Rattle.stripe_plan.specs.Layers.{plan_stripes, words_before, words_of, needs_of, plan_ends, AllNeeded, count_of}
+use Rattle.stripe_plan.specs.Layers.{counts_of}
 use Rattle.packet_frame.specs.declared.frame.Header.{Header}
 use Rattle.packet_set.specs.Packets.{Packets, slot_at}
 use Rattle.packet_session.specs.Session.{bytes_of_layer}
@@ -17,7 +19,8 @@ use Rattle.packet_group.proofs.Holding.{some_inside}
 use Rattle.packet_group.proofs.LayerBytes.{shown_bytes}
 use Rattle.packet_group.proofs.group.OpenGroup.layer.Given.{Over}
 use Rattle.packet_group.proofs.group.OpenGroup.layer.Goals as goal
-use Rattle.packet_group.proofs.group.OpenGroup.layer.Goals.{After-layers-layers, then-from-counts-via-then-from-counts, then-from-counts-via-else-from-counts+then-len-counts}
+use Rattle.packet_group.proofs.group.OpenGroup.layer.Goals.{After-layers-layers, then-from-counts-via-then-from-counts}
+use Rattle.packet_group.proofs.group.OpenGroup.layer.Goals.{then-from-counts-via-else-from-counts+then-len-counts}
 
 -- ---- the layers of the group, the layer's place among them, and how many packets show it
 
@@ -25,22 +28,34 @@ packets_are : (g : Over) (c : After-layers-layers g) → c.self.inside.packets �
 packets_are g c = ap (λ (v : GroupState g.row.F-Elem.Denot). v.packets) c.self.view_is
 
 layers_are : (g : Over) (c : After-layers-layers g) → c.layers-layers.result.now ≡ layers_of c.args.self.now.packets
-layers_are g c = c.layers-layers.ensures.value ∙ ap (λ (h : Header). h.table.layers) c.header.ensures.value ∙ ap layers_of (packets_are g c)
+layers_are g c =
+    c.layers-layers.ensures.value ∙ ap (λ (h : Header). h.table.layers) c.header.ensures.value
+    ∙ ap layers_of (packets_are g c)
 
 needed : (g : Over) (c : After-layers-layers g) → AllNeeded (layers_of c.args.self.now.packets)
 needed g c = subst AllNeeded (sym c.layers-layers.ensures.value ∙ layers_are g c) c.layers-layers.ensures.bounds.needed
 
 layer_inside : (g : Over) (c : After-layers-layers g) → c.args.layer < length (layers_of c.args.self.now.packets)
 layer_inside g c =
-    omega (arith, c.if-from-counts.false, c.from.ensures, ap length c.counts-counts.ensures.value, length-counts_of (layers_of c.self.inside.packets), ap (λ p. length (layers_of p)) (packets_are g c))
+    omega (
+      arith,
+      c.if-from-counts.false,
+      c.from.ensures,
+      ap length c.counts-counts.ensures.value,
+      length-counts_of (layers_of c.self.inside.packets),
+      ap (λ p. length (layers_of p)) (packets_are g c),
+    )
 
-shown_by : (g : Over) (c : After-layers-layers g) → get_or c.counts-counts.result.now c.from-else-from-counts.result 0 ≡ count_of (layers_of c.args.self.now.packets) c.args.layer
+shown_by : (g : Over) (c : After-layers-layers g)
+    → get_or c.counts-counts.result.now c.from-else-from-counts.result 0
+    ≡ count_of (layers_of c.args.self.now.packets) c.args.layer
 shown_by g c =
     ap₂ (λ (l : List ℕ) (i : ℕ). get_or l i 0) c.counts-counts.ensures.value c.from-else-from-counts.ensures
     ∙ ap (λ p. get_or (counts_of (layers_of p)) c.args.layer 0) (packets_are g c)
     ∙ count_at (layers_of c.args.self.now.packets) c.args.layer 0 (layer_inside g c)
 
-reached : (g : Over) (c : After-layers-layers g) → count_of (layers_of c.args.self.now.packets) c.args.layer ≤ count_in c.args.self.now.packets
+reached : (g : Over) (c : After-layers-layers g)
+    → count_of (layers_of c.args.self.now.packets) c.args.layer ≤ count_in c.args.self.now.packets
 reached g c = omega (arith, c.if-len-counts.false, shown_by g c, c.len.ensures.value, ap count_in (packets_are g c))
 
 -- ---- the answers
@@ -49,16 +64,24 @@ pub layer_bytes-requires-clause-room : goal.layer_bytes-requires-clause-room
 layer_bytes-requires-clause-room g c =
     let G = c.args.self.now in
     let layers = layers_are g (goal.at.layer_bytes-requires-clause-room g c).After-layers-layers in
-    let message : c.deref.result.now ≡ G.message = c.deref.ensures.value ∙ ap (λ (v : GroupState g.row.F-Elem.Denot). v.message) c.self.view_is in
+    let message : c.deref.result.now ≡ G.message =
+    c.deref.ensures.value ∙ ap (λ (v : GroupState g.row.F-Elem.Denot). v.message) c.self.view_is in
     let wide : c.WIDTH.result ≡ g.F.Field.coding.width = c.WIDTH.ensures ∙ sym g.met.F.Field.wide in
-    ap length message ∙ c.requires.held.1.message.whole ∙ ap (λ w. length (needs_of (layers_of G.packets)) * w) (sym wide)
+    ap length message ∙ c.requires.held.1.message.whole
+    ∙ ap (λ w. length (needs_of (layers_of G.packets)) * w) (sym wide)
     ∙ ap (λ (l : List LayerSize). length (needs_of l) * c.WIDTH.result) (sym layers)
 
 pub layer_bytes-requires-clause-few : goal.layer_bytes-requires-clause-few
 layer_bytes-requires-clause-few g c =
     let layers = c.header.result.now.table.layers in
     let same = ap (λ (l : List LayerSize). sum_by words_of l) c.layers-layers.ensures.value in
-    omega (arith, same, words_half layers, c.layers-layers.ensures.bounds.few_bytes, c.layers-layers.ensures.bounds.few_layers)
+    omega (
+      arith,
+      same,
+      words_half layers,
+      c.layers-layers.ensures.bounds.few_bytes,
+      c.layers-layers.ensures.bounds.few_layers,
+    )
 
 pub layer_bytes-requires-clause-layer : goal.layer_bytes-requires-clause-layer
 layer_bytes-requires-clause-layer g c =
@@ -70,14 +93,32 @@ returns-then-from-counts-clause-shown g c =
     let packets = ap (λ (v : GroupState g.row.F-Elem.Denot). v.packets) c.self.view_is in
     let P = c.args.self.now.packets in
     let all : length c.counts-counts.result.now ≡ length (layers_of P) =
-    ap length c.counts-counts.ensures.value ∙ length-counts_of (layers_of c.self.inside.packets) ∙ ap (λ p. length (layers_of p)) packets in
-    let count : c.args.layer < length (layers_of P) → get_or c.counts-counts.result.now c.args.layer 0 ≡ count_of (layers_of P) c.args.layer =
-    λ lt. ap (λ (l : List ℕ). get_or l c.args.layer 0) c.counts-counts.ensures.value ∙ ap (λ p. get_or (counts_of (layers_of p)) c.args.layer 0) packets ∙ count_at (layers_of P) c.args.layer 0 lt in (
+    ap length c.counts-counts.ensures.value ∙ length-counts_of (layers_of c.self.inside.packets)
+    ∙ ap (λ p. length (layers_of p)) packets in
+    let count : c.args.layer < length (layers_of P)
+    → get_or c.counts-counts.result.now c.args.layer 0 ≡ count_of (layers_of P) c.args.layer =
+    λ lt. ap (λ (l : List ℕ). get_or l c.args.layer 0) c.counts-counts.ensures.value
+    ∙ ap (λ p. get_or (counts_of (layers_of p)) c.args.layer 0) packets ∙ count_at (layers_of P) c.args.layer 0 lt in (
       λ some. absurd cc,
       λ shown. absurd
           (elim c.then-from-counts.branch [
-            | then-from-counts-via-then-from-counts w ↦ omega (arith, shown.0, all, w.if-from-counts.true, c.from.ensures)
-            | then-from-counts-via-else-from-counts+then-len-counts w ↦ omega (arith, shown.1, count shown.0, w.if-len-counts.true, ap (λ (i : ℕ). get_or c.counts-counts.result.now i 0) w.from-else-from-counts.ensures, w.len.ensures.value, ap count_in packets)
+            | then-from-counts-via-then-from-counts w ↦ omega (
+              arith,
+              shown.0,
+              all,
+              w.if-from-counts.true,
+              c.from.ensures,
+            )
+            | then-from-counts-via-else-from-counts+then-len-counts w ↦
+                omega (
+                  arith,
+                  shown.1,
+                  count shown.0,
+                  w.if-len-counts.true,
+                  ap (λ (i : ℕ). get_or c.counts-counts.result.now i 0) w.from-else-from-counts.ensures,
+                  w.len.ensures.value,
+                  ap count_in packets,
+                )
           ]),
     )
 
@@ -92,12 +133,15 @@ returns-clause-bytes g c numbers h =
     let G = c.args.self.now in
     let at = (goal.at.returns-clause-bytes g c).After-layers-layers in
     let layers = layers_are g at in
-    let message : c.deref.result.now ≡ G.message = c.deref.ensures.value ∙ ap (λ (v : GroupState g.row.F-Elem.Denot). v.message) c.self.view_is in
+    let message : c.deref.result.now ≡ G.message =
+    c.deref.ensures.value ∙ ap (λ (v : GroupState g.row.F-Elem.Denot). v.message) c.self.view_is in
     let is : c.layer_bytes.result.now ≡ bytes_of_layer F.coding.width (layers_of G.packets) G.message c.args.layer =
     c.layer_bytes.ensures ∙ ap (λ l. bytes_of_layer c.WIDTH.result l c.deref.result.now c.args.layer) layers
     ∙ ap (λ m. bytes_of_layer c.WIDTH.result (layers_of G.packets) m c.args.layer) message
-    ∙ ap (λ w. bytes_of_layer w (layers_of G.packets) G.message c.args.layer) (c.WIDTH.ensures ∙ sym g.met.F.Field.wide) in
-    shown_bytes F.is_element F.coding G numbers c.args.layer (count_of (layers_of G.packets) c.args.layer) c.layer_bytes.result.now h (reached g at)
+    ∙ ap (λ w. bytes_of_layer w (layers_of G.packets) G.message c.args.layer)
+    (c.WIDTH.ensures ∙ sym g.met.F.Field.wide) in
+    shown_bytes F.is_element F.coding G numbers c.args.layer
+    (count_of (layers_of G.packets) c.args.layer) c.layer_bytes.result.now h (reached g at)
     (count_of-greatest (layers_of G.packets) c.args.layer (needed g at) (layer_inside g at)) is
 
 pub returns-clause-agreed : goal.returns-clause-agreed
@@ -110,11 +154,19 @@ returns-clause-agreed g c message is agrees =
     let packets = packets_are g at in
     let plan = plan_ends_plan (layers_of G.packets) (needed g at) in
     let few : length G.packets.slots ≤ F.COUNT =
-    omega (arith, c.header.ensures.bounds.slots, ap (λ (p : Packets). length p.slots) packets, ap (λ (h : Header). h.table.packets) c.header.ensures.value, ap (λ (p : Packets). p.header.table.packets) packets, c.requires.points) in
+    omega (
+      arith,
+      c.header.ensures.bounds.slots,
+      ap (λ (p : Packets). length p.slots) packets,
+      ap (λ (h : Header). h.table.packets) c.header.ensures.value,
+      ap (λ (p : Packets). p.header.table.packets) packets,
+      c.requires.points,
+    ) in
     let kept : (i : ℕ) → Contains numbers i → IsSome (slot_at G.packets i) × F.is_element (F.coding.point_of i) =
     λ i in'.
     let some = (h.kept i).1 in' in
     let low : i < F.COUNT = omega (arith, some_inside G.packets.slots i some, few) in
     (some, g.met.F.Field.lawful.points.point_is i low) in
-    agreed_bytes F.is_element F.COUNT F.coding g.met.F.Field.lawful G.packets message is plan numbers kept agrees c.args.layer c.layer_bytes.result.now (layer_inside g at)
+    agreed_bytes F.is_element F.COUNT F.coding g.met.F.Field.lawful G.packets message is plan numbers kept agrees
+    c.args.layer c.layer_bytes.result.now (layer_inside g at)
     (returns-clause-bytes g c numbers h)

@@ -18,51 +18,96 @@ on_err (Err x) P p = p
 pub keep_frame-requires-clause-ready : goal.keep_frame-requires-clause-ready
 keep_frame-requires-clause-ready g c =
     let F = g.F.Field in
-    let r : ReceiverState g.row.F-Elem.Denot = record { format = c.self.inside.format; session = c.self.inside.session; limit = c.self.inside.limit; groups = c.self.inside.groups.entries } in
+    let r : ReceiverState g.row.F-Elem.Denot =
+    record {
+      format = c.self.inside.format;
+      session = c.self.inside.session;
+      limit = c.self.inside.limit;
+      groups = c.self.inside.groups.entries;
+    } in
     let f = view c.args.frame.now in
     let k = keepable_at r c.args.self.now f c.self.view_is c.requires.kept in
-    is_ready F.is_element F.COUNT F.coding r c.self.inside.told c.self.inside.cost c.self.invariant f c.requires.frame c.requires.points k
+    is_ready F.is_element F.COUNT F.coding r c.self.inside.told c.self.inside.cost c.self.invariant f c.requires.frame
+    c.requires.points k
 
 pub returns-in_err-more-clause-err : goal.returns-in_err-more-clause-err
 returns-in_err-more-clause-err g c =
-    let r : ReceiverState g.row.F-Elem.Denot = record { format = c.self.inside.format; session = c.self.inside.session; limit = c.self.inside.limit; groups = c.self.inside.groups.entries } in
+    let r : ReceiverState g.row.F-Elem.Denot =
+    record {
+      format = c.self.inside.format;
+      session = c.self.inside.session;
+      limit = c.self.inside.limit;
+      groups = c.self.inside.groups.entries;
+    } in
     let f = view c.args.frame.now in
     let e = c.in_err-more.ensures.err in
-    let none : open_group (kept_set r) f.group ≡ None = found_in r f.group ∙ ap (option_map (λ (s : GroupState g.row.F-Elem.Denot). s.packets)) e.2 in
-    let after : ReceiverState g.row.F-Elem.Denot = record { format = c.self.inside.format; session = c.self.inside.session; limit = c.self.inside.limit; groups = c.keep_frame.new.groups.entries } in
-    let all : (after ≡ c.args.self.now) × (c.keep_frame.new.steps ≡ c.args.steps.now) × (opens (kept_set c.args.self.now) f ≡ true) = (
-      ap (λ (es : List (ℕ × GroupState g.row.F-Elem.Denot)). record { format = c.self.inside.format; session = c.self.inside.session; limit = c.self.inside.limit; groups = es }) e.0 ∙ c.self.view_is,
+    let none : open_group (kept_set r) f.group ≡ None =
+    found_in r f.group ∙ ap (option_map (λ (s : GroupState g.row.F-Elem.Denot). s.packets)) e.2 in
+    let after : ReceiverState g.row.F-Elem.Denot =
+    record {
+      format = c.self.inside.format;
+      session = c.self.inside.session;
+      limit = c.self.inside.limit;
+      groups = c.keep_frame.new.groups.entries;
+    } in
+    let all : (after ≡ c.args.self.now) × (c.keep_frame.new.steps ≡ c.args.steps.now)
+    × (opens (kept_set c.args.self.now) f ≡ true) = (
+      ap (λ (es : List (ℕ × GroupState g.row.F-Elem.Denot)). record {
+        format = c.self.inside.format;
+        session = c.self.inside.session;
+        limit = c.self.inside.limit;
+        groups = es;
+      }) e.0 ∙ c.self.view_is,
       e.1,
       subst (λ (v : ReceiverState g.row.F-Elem.Denot). opens (kept_set v) f ≡ true) c.self.view_is (ap is_none none),
     ) in
-    on_err c.from_residual.result ((after ≡ c.args.self.now) × (c.keep_frame.new.steps ≡ c.args.steps.now) × (opens (kept_set c.args.self.now) f ≡ true)) all
+    on_err c.from_residual.result ((after ≡ c.args.self.now) × (c.keep_frame.new.steps ≡ c.args.steps.now)
+    × (opens (kept_set c.args.self.now) f ≡ true)) all
 
 -- ---- a frame that was kept
 
 -- the receiver before the call, as its fields say
 abbrev before : (g : Over) → In_ok-more g → ReceiverState g.row.F-Elem.Denot
-before g c = record { format = c.self.inside.format; session = c.self.inside.session; limit = c.self.inside.limit; groups = c.self.inside.groups.entries }
+before g c =
+    record {
+      format = c.self.inside.format;
+      session = c.self.inside.session;
+      limit = c.self.inside.limit;
+      groups = c.self.inside.groups.entries;
+    }
 
 after : (g : Over) (c : In_ok-more g)
-    → HasKeptOne g.F.Field.is_element g.F.Field.COUNT g.F.Field.coding (before g c) c.self.inside.cost (view c.args.frame.now) c.keep_frame.new.groups.entries
+    → HasKeptOne g.F.Field.is_element g.F.Field.COUNT g.F.Field.coding (before g c) c.self.inside.cost
+    (view c.args.frame.now) c.keep_frame.new.groups.entries
 after g c =
     let F = g.F.Field in
     let f = view c.args.frame.now in
     let k = keepable_at (before g c) c.args.self.now f c.self.view_is c.requires.kept in
-    kept_one F.is_element F.COUNT F.coding (before g c) c.self.inside.told c.self.inside.cost c.self.invariant f c.requires.frame c.requires.points k c.keep_frame.new.groups.entries c.in_ok-more.ensures.grown
+    kept_one F.is_element F.COUNT F.coding (before g c) c.self.inside.told c.self.inside.cost c.self.invariant f
+    c.requires.frame c.requires.points k c.keep_frame.new.groups.entries c.in_ok-more.ensures.grown
 
 pub overflow_add-self : goal.overflow_add-self
-overflow_add-self g c = let again = (after g c).again in omega (arith, again.cost_is, again.set.within, c.in_ok-more.ensures.more, c.self.invariant.fits)
+overflow_add-self g c =
+    let again = (after g c).again in
+    omega (arith, again.cost_is, again.set.within, c.in_ok-more.ensures.more, c.self.invariant.fits)
 
 pub invariant_of-self-2 : goal.invariant_of-self-2
 invariant_of-self-2 g c =
     let F = g.F.Field in
-    subst (λ n. IsReceiver F.is_element F.COUNT F.coding (record { format = c.self.inside.format; session = c.self.inside.session; limit = c.self.inside.limit; groups = c.keep_frame.new.groups.entries }) (Some c.args.frame.now.header.groups) (c.self.inside.cost + n))
+    subst (λ n. IsReceiver F.is_element F.COUNT F.coding
+    (record {
+      format = c.self.inside.format;
+      session = c.self.inside.session;
+      limit = c.self.inside.limit;
+      groups = c.keep_frame.new.groups.entries;
+    }) (Some c.args.frame.now.header.groups) (c.self.inside.cost + n))
     (sym c.in_ok-more.ensures.more) (after g (goal.at.invariant_of-self-2 g c).In_ok-more).again
 
 pub returns-clause-kept : goal.returns-clause-kept
 returns-clause-kept g c =
-    (after g (goal.at.returns-clause-kept g c).In_ok-more).set ∙ ap (λ (v : ReceiverState g.row.F-Elem.Denot). keep_by g.F.Field.coding.width (kept_set v) (view c.args.frame.now)) c.self.view_is
+    (after g (goal.at.returns-clause-kept g c).In_ok-more).set
+    ∙ ap (λ (v : ReceiverState g.row.F-Elem.Denot). keep_by g.F.Field.coding.width (kept_set v)
+    (view c.args.frame.now)) c.self.view_is
 
 pub returns-clause-order : goal.returns-clause-order
 returns-clause-order g c order kept =
@@ -72,10 +117,18 @@ returns-clause-order g c order kept =
 
 pub returns-clause-cost : goal.returns-clause-cost
 returns-clause-cost g c =
-    let r : ReceiverState g.row.F-Elem.Denot = record { format = c.self.inside.format; session = c.self.inside.session; limit = c.self.inside.limit; groups = c.self.inside.groups.entries } in
+    let r : ReceiverState g.row.F-Elem.Denot =
+    record {
+      format = c.self.inside.format;
+      session = c.self.inside.session;
+      limit = c.self.inside.limit;
+      groups = c.self.inside.groups.entries;
+    } in
     let f = view c.args.frame.now in
-    let count = count_is r f.group ∙ ap (λ (v : ReceiverState g.row.F-Elem.Denot). count_kept (kept_set v) f.group) c.self.view_is in
-    subst (λ n. c.keep_frame.new.steps ≤ c.args.steps.now + step_bound n (stripe_lengths f.layers)) count c.in_ok-more.ensures.cost
+    let count = count_is r f.group
+    ∙ ap (λ (v : ReceiverState g.row.F-Elem.Denot). count_kept (kept_set v) f.group) c.self.view_is in
+    subst (λ n. c.keep_frame.new.steps ≤ c.args.steps.now + step_bound n (stripe_lengths f.layers)) count
+    c.in_ok-more.ensures.cost
 
 pub returns-clause-sound : goal.returns-clause-sound
 returns-clause-sound g c = (after g (goal.at.returns-clause-sound g c).In_ok-more).again.set

@@ -7,8 +7,16 @@ use Rattle.packet_receiver.proofs.receiver.PacketReceiver.kept.Goals as goal
 
 pub total-requires : goal.total-requires
 total-requires g c =
-    let r : ReceiverState g.row.F-Elem.Denot = record { format = c.self.inside.format; session = c.self.inside.session; limit = c.self.inside.limit; groups = c.self.inside.groups.entries } in
+    let r : ReceiverState g.row.F-Elem.Denot =
+    record {
+      format = c.self.inside.format;
+      session = c.self.inside.session;
+      limit = c.self.inside.limit;
+      groups = c.self.inside.groups.entries;
+    } in
     omega (arith, sum_is count_in c.self.inside.groups.entries, kept_fits (kept_set r) c.self.invariant.set)
 
 pub returns : goal.returns
-returns g c = c.total.ensures ∙ sum_is count_in c.self.inside.groups.entries ∙ ap (λ (v : ReceiverState g.row.F-Elem.Denot). kept_in_all (kept_set v)) c.self.view_is
+returns g c =
+    c.total.ensures ∙ sum_is count_in c.self.inside.groups.entries
+    ∙ ap (λ (v : ReceiverState g.row.F-Elem.Denot). kept_in_all (kept_set v)) c.self.view_is

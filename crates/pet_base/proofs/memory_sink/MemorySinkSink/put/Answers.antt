@@ -9,4 +9,6 @@ nothing : (old new bytes : List ℕ) → new ≡ old → (k : ℕ) × (Some new 
 nothing old new bytes same = (0, ap (λ (t : List ℕ). Some t) (same ∙ sym (append-nil old)))
 
 pub returns-in_err-met-clause-part : goal.returns-in_err-met-clause-part
-returns-in_err-met-clause-part c = on_any_err _ (nothing c.args.self.now.bytes.items c.extend_from_slice.new.self.items c.args.bytes.now (grind (arith, common_steps)))
+returns-in_err-met-clause-part c =
+    on_any_err _ (nothing c.args.self.now.bytes.items c.extend_from_slice.new.self.items c.args.bytes.now
+    (grind (arith, common_steps)))

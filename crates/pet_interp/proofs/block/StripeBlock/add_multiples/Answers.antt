@@ -4,15 +4,18 @@ use Rattle.std.proofs.lemmas.List.{with_items_is}
 use Rattle.std.proofs.lemmas.List.Elements.{All-same}
 use Rattle.field_rows.specs.Columns.{block_columns}
 use Rattle.pet_interp.specs.Blocks.{HeldBlock, stripes_of}
-use Rattle.pet_interp.specs.Lifted.{grown}
-use Rattle.pet_interp.proofs.BlockStripes.{stripes_each, stripes_waiting, columns_grown, grown_none, each_new, waits_here, each_seen, longer_seen}
+use Rattle.pet_interp.specs.inside.Lifted.{grown}
+use Rattle.pet_interp.proofs.BlockStripes.{stripes_each, stripes_waiting, columns_grown, grown_none, each_new}
+use Rattle.pet_interp.proofs.BlockStripes.{waits_here, each_seen, longer_seen}
 use Rattle.pet_interp.proofs.block.StripeBlock.add_multiples.Goals as goal
 
 pub add_rows-requires-clause-whole : goal.add_rows-requires-clause-whole
 add_rows-requires-clause-whole g c = ap length c.deref_mut.ensures.value ∙ c.self.invariant.whole
 
 pub add_rows-requires-clause-elements : goal.add_rows-requires-clause-elements
-add_rows-requires-clause-elements g c = All-same g.F.Field.is_element c.deref_mut.result.now c.self.inside.places.items c.deref_mut.ensures.value c.self.invariant.elements
+add_rows-requires-clause-elements g c =
+    All-same g.F.Field.is_element c.deref_mut.result.now c.self.inside.places.items c.deref_mut.ensures.value
+    c.self.invariant.elements
 
 pub invariant_of-self : goal.invariant_of-self
 invariant_of-self g c =
@@ -30,7 +33,8 @@ returns-then-met-self-clause-each g c =
     let F = g.F.Field in
     let b = c.self.inside in
     let kept = with_items_is b.places c.add_rows.new.rows (c.add_rows.auto.rows ∙ c.deref_mut.ensures.len) in
-    each_new F.is_element F.coding.ops.nought b.waits b.width b.size (with_items b.places c.add_rows.new.rows).items c.add_rows.new.rows kept
+    each_new F.is_element F.coding.ops.nought b.waits b.width b.size
+    (with_items b.places c.add_rows.new.rows).items c.add_rows.new.rows kept
     (c.add_rows.auto.rows ∙ ap length c.deref_mut.ensures.value ∙ c.self.invariant.whole) c.add_rows.ensures.elements
 
 pub returns-then-met-self-clause-stripes : goal.returns-then-met-self-clause-stripes
@@ -52,22 +56,26 @@ pub returns-then-met-self-clause-cost : goal.returns-then-met-self-clause-cost
 returns-then-met-self-clause-cost g c =
     let F = g.F.Field in
     let b = c.self.inside in
-    let count = longer_seen F.is_element F.coding.ops.nought b.waits b.width b.size b.places.items _ c.self.view_is c.self.invariant.whole c.self.invariant.elements c.args.met c.if-met-self.true in
+    let count = longer_seen F.is_element F.coding.ops.nought b.waits b.width b.size b.places.items _ c.self.view_is
+    c.self.invariant.whole c.self.invariant.elements c.args.met c.if-met-self.true in
     omega (arith, ap (λ n. n * length c.args.factors.now) count, c.add_rows.ensures.cost)
 
 pub returns-else-met-self-clause-each : goal.returns-else-met-self-clause-each
 returns-else-met-self-clause-each g c =
     let F = g.F.Field in
     let b = c.self.inside in
-    each_seen F.is_element F.coding.ops.nought b.waits b.width b.size b.places.items _ c.self.view_is c.self.invariant.whole c.self.invariant.elements
+    each_seen F.is_element F.coding.ops.nought b.waits b.width b.size b.places.items _ c.self.view_is
+    c.self.invariant.whole c.self.invariant.elements
 
 pub returns-else-met-self-clause-stripes : goal.returns-else-met-self-clause-stripes
 returns-else-met-self-clause-stripes g c =
     let F = g.F.Field in
     let b = c.self.inside in
-    let each = stripes_each F.is_element F.coding.ops.nought b.waits b.width b.size b.places.items c.self.invariant.whole c.self.invariant.elements in
+    let each = stripes_each F.is_element F.coding.ops.nought b.waits b.width b.size b.places.items
+    c.self.invariant.whole c.self.invariant.elements in
     let factors = map g.F.Rows.element_of c.args.factors.now in
-    subst (λ (v : HeldBlock g.row.F-Elem.Denot). v.stripes ≡ map (grown F.coding.ops c.args.met c.args.from factors) v.stripes) c.self.view_is
+    subst (λ (v : HeldBlock g.row.F-Elem.Denot). v.stripes
+    ≡ map (grown F.coding.ops c.args.met c.args.from factors) v.stripes) c.self.view_is
     (sym (grown_none F.coding.ops c.args.met c.args.from factors _ (All F.is_element) b.size c.if-met-self.false each))
 
 pub add_rows-requires-clause-narrow : goal.add_rows-requires-clause-narrow

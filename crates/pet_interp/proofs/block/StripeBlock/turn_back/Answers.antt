@@ -14,7 +14,8 @@ turn_rows-requires-clause-room g c =
     let b = c.self.inside in
     let z = g.F.Field.coding.ops.nought in
     let size : b.size * b.width ≡ c.args.self.now.size * length c.args.self.now.stripes =
-    ap (λ n. b.size * n) (sym (length-stripes z b.waits b.width b.size b.places.items)) ∙ ap (λ (v : HeldBlock g.row.F-Elem.Denot). v.size * length v.stripes) c.self.view_is in
+    ap (λ n. b.size * n) (sym (length-stripes z b.waits b.width b.size b.places.items))
+    ∙ ap (λ (v : HeldBlock g.row.F-Elem.Denot). v.size * length v.stripes) c.self.view_is in
     rw size c.requires.room
 
 pub invariant_of-self : goal.invariant_of-self
@@ -31,7 +32,9 @@ invariant_of-self g c =
     record {
       narrow = c.self.invariant.narrow;
       whole = ap length kept ∙ long;
-      elements = All-same P _ new kept (turned_elements P z b.width b.size old new long whole (All-same P old b.places.items c.deref_mut.ensures.value c.self.invariant.elements) (c.turn_rows.ensures z));
+      elements =
+          All-same P _ new kept (turned_elements P z b.width b.size old new long whole
+          (All-same P old b.places.items c.deref_mut.ensures.value c.self.invariant.elements) (c.turn_rows.ensures z));
     }
 
 pub returns-then-self-met-clause-stripes : goal.returns-then-self-met-clause-stripes
@@ -45,7 +48,10 @@ returns-then-self-met-clause-stripes g c =
     let whole : length old ≡ b.size * b.width = ap length c.deref_mut.ensures.value ∙ c.self.invariant.whole in
     let waits : b.waits ≡ true =
     ap (λ (v : HeldBlock g.row.F-Elem.Denot). v.waits) c.self.view_is ∙ c.requires.waits
-    ∙ ap (λ (v : HeldBlock g.row.F-Elem.Denot). nat_lt (c.args.met - 1) v.size) (sym c.self.view_is) ∙ lt-ltb (c.args.met - 1) b.size (omega arith) in
-    ap (cut b.width b.size) kept ∙ turned_stripes z b.width b.size old new (c.turn_rows.auto.rows ∙ whole) (c.turn_rows.ensures z)
-    ∙ ap (block_columns z b.width b.size) c.deref_mut.ensures.value ∙ sym (stripes_waiting z b.waits b.width b.size b.places.items waits)
+    ∙ ap (λ (v : HeldBlock g.row.F-Elem.Denot). nat_lt (c.args.met - 1) v.size) (sym c.self.view_is)
+    ∙ lt-ltb (c.args.met - 1) b.size (omega arith) in
+    ap (cut b.width b.size) kept
+    ∙ turned_stripes z b.width b.size old new (c.turn_rows.auto.rows ∙ whole) (c.turn_rows.ensures z)
+    ∙ ap (block_columns z b.width b.size) c.deref_mut.ensures.value
+    ∙ sym (stripes_waiting z b.waits b.width b.size b.places.items waits)
     ∙ ap (λ (v : HeldBlock g.row.F-Elem.Denot). v.stripes) c.self.view_is

@@ -10,13 +10,17 @@ returns-clause-some g c e =
     let s = c.self.inside in
     let blocks = s.blocks.items in
     let test = ap (list_any (λ b. b.size == s.met && nat_lt 0 (length b.stripes))) c.deref.ensures.value in
-    subst (λ (h : Held g.row.F-Elem.Denot). (j : ℕ) × (j < length h.stripes) × (length (stripe_of h j) ≡ h.met)) c.self.view_is
-    (some_reached g.F.Field.is_element s.met (length s.spare.items) s.met blocks c.self.invariant.each (sym test ∙ sym c.any_has_length.ensures ∙ e))
+    subst (λ (h : Held g.row.F-Elem.Denot). (j : ℕ) × (j < length h.stripes) × (length (stripe_of h j) ≡ h.met))
+    c.self.view_is
+    (some_reached g.F.Field.is_element s.met (length s.spare.items) s.met blocks c.self.invariant.each
+    (sym test ∙ sym c.any_has_length.ensures ∙ e))
 
 pub returns-clause-none : goal.returns-clause-none
 returns-clause-none g c e =
     let s = c.self.inside in
     let blocks = s.blocks.items in
     let test = ap (list_any (λ b. b.size == s.met && nat_lt 0 (length b.stripes))) c.deref.ensures.value in
-    subst (λ (h : Held g.row.F-Elem.Denot). (j : ℕ) → j < length h.stripes → length (stripe_of h j) ≢ h.met) c.self.view_is
-    (λ j l. none_reached g.F.Field.is_element s.met (length s.spare.items) s.met blocks c.self.invariant.each (sym test ∙ sym c.any_has_length.ensures ∙ e) j [] l)
+    subst (λ (h : Held g.row.F-Elem.Denot). (j : ℕ) → j < length h.stripes → length (stripe_of h j) ≢ h.met)
+    c.self.view_is
+    (λ j l. none_reached g.F.Field.is_element s.met (length s.spare.items) s.met blocks c.self.invariant.each
+    (sym test ∙ sym c.any_has_length.ensures ∙ e) j [] l)

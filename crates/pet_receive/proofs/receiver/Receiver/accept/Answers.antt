@@ -13,10 +13,15 @@ pub returns-clause-cost : goal.returns-clause-cost
 returns-clause-cost g c =
     let E = g.row.F-Elem.Denot in
     let bytes = c.args.datagram.now in
-    let cost = subst (λ (t : Format). IfOk c.accept.result (λ v. is_kept v ≡ true → c.accept.new.steps ≤ c.args.steps.now
-    + step_bound (count_kept (kept_set c.self.inside.core) (planned_fields t bytes).group) (stripe_lengths (planned_fields t bytes).layers))) c.self.invariant.0 c.accept.ensures.cost in
-    subst (λ (v : ReceiverState E). IfOk c.accept.result (λ v'. is_kept v' ≡ true → c.accept.new.steps ≤ c.args.steps.now
-    + step_bound (count_kept (kept_set v) (planned_fields FORMAT bytes).group) (stripe_lengths (planned_fields FORMAT bytes).layers))) c.self.view_is cost
+    let cost = subst
+    (λ (t : Format). IfOk c.accept.result (λ v. is_kept v ≡ true → c.accept.new.steps ≤ c.args.steps.now
+    + step_bound (count_kept (kept_set c.self.inside.core) (planned_fields t bytes).group)
+    (stripe_lengths (planned_fields t bytes).layers))) c.self.invariant.0 c.accept.ensures.cost in
+    subst (λ (v : ReceiverState E). IfOk c.accept.result
+    (λ v'. is_kept v' ≡ true → c.accept.new.steps ≤ c.args.steps.now
+    + step_bound (count_kept (kept_set v) (planned_fields FORMAT bytes).group)
+    (stripe_lengths (planned_fields FORMAT bytes).layers))) c.self.view_is cost
 
 pub returns-clause-sound : goal.returns-clause-sound
-returns-clause-sound g c = subst (λ (w : ℕ). IsKeptSetBy w (kept_set c.accept.new.self)) c.self.invariant.1 c.accept.ensures.sound
+returns-clause-sound g c =
+    subst (λ (w : ℕ). IsKeptSetBy w (kept_set c.accept.new.self)) c.self.invariant.1 c.accept.ensures.sound

@@ -6,7 +6,10 @@ use Rattle.stream_groups.proofs.groups.GroupCutter.end_groups.Given as goal
 
 -- the groups that ended were appended
 abbrev pub invariant-loop-self : goal.invariant-loop-self
-invariant-loop-self l = (priority : Priorities) (stream : List ℕ) (given : List CutGroup) → HasEnded l.initial.self priority stream (given ++ l.initial.groups.items) → HasEnded l.self priority stream (given ++ l.groups.items)
+invariant-loop-self l =
+    (priority : Priorities) (stream : List ℕ) (given : List CutGroup)
+    → HasEnded l.initial.self priority stream (given ++ l.initial.groups.items)
+    → HasEnded l.self priority stream (given ++ l.groups.items)
 
 abbrev pub decreases-loop-self : goal.decreases-loop-self
 decreases-loop-self l = pieces_left l.self

@@ -22,8 +22,10 @@ returns-clause-whole c =
     let sum = c.saturating_add-end.ensures in
     IfOk-weaker c.end_group.result _ _
     (λ group ends priority stream given h left. (
-      last_whole c.args.self.now c.end_group.new.self c.finish.new.self c.in_ok-cut.cut c.saturating_add-end.result group
-          (λ p ps cs k. (c.in_ok-cut.ensures.ok p ps cs k).0) c.in_ok-cut.ensures.none ends (λ lt. omega arith) priority stream given h left,
+      last_whole c.args.self.now c.end_group.new.self c.finish.new.self c.in_ok-cut.cut c.saturating_add-end.result
+          group
+          (λ p ps cs k. (c.in_ok-cut.ensures.ok p ps cs k).0) c.in_ok-cut.ensures.none ends
+          (λ lt. omega arith) priority stream given h left,
       subst (λ ps. fault_of (layer_of priority) (length priority.layers) (groups_of ps) ≡ None)
           (all_looked c.args.self.now priority stream (pieces_of stream) given h.looked left)
           (c.in_ok-cut.ensures.ok priority h.looked.looked h.looked.cuts h.looked.added).1,

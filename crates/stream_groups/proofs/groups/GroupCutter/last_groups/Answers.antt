@@ -7,7 +7,8 @@ use Rattle.stream_groups.proofs.groups.GroupCutter.last_groups.Goals as goal
 pub returns-in-Ok-clause-whole : goal.returns-in-Ok-clause-whole
 returns-in-Ok-clause-whole c priority stream given h =
     c.in-Ok.ensures.whole priority stream given
-    (subst (HasEnded c.args.self.now priority stream) (sym (ap (λ l. given ++ l) c.new-groups.ensures.items ∙ append-nil given)) h)
+    (subst (HasEnded c.args.self.now priority stream)
+    (sym (ap (λ l. given ++ l) c.new-groups.ensures.items ∙ append-nil given)) h)
 
 pub returns : goal.returns
 returns c = record {
@@ -16,6 +17,7 @@ returns c = record {
     accepted,
     c.in_default.not-NoMemory,
     c.in-Err.ensures.fault c.in_default.not-NoMemory priority stream given
-        (subst (HasEnded c.args.self.now priority stream) (sym (ap (λ l. given ++ l) c.new-groups.ensures.items ∙ append-nil given)) h),
+        (subst (HasEnded c.args.self.now priority stream)
+        (sym (ap (λ l. given ++ l) c.new-groups.ensures.items ∙ append-nil given)) h),
   );
 }

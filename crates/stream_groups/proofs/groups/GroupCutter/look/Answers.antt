@@ -15,7 +15,8 @@ returns-in_err-cut-clause-fault c =
     rw (p.1, p.2) (λ ne priority seen pieces given h later.
     subst (λ ps. fault_of (layer_of priority) (length priority.layers) (groups_of ps) ≡ Some c.in_err-cut.field-0.0)
     (pieces_at c.args.self.now c.index.result.now priority seen pieces later given h lt (sym c.index.ensures))
-    (c.in_err-cut.ensures.refusal ne priority h.looked h.cuts h.added (drop (c.args.self.now.looked + 1) c.args.self.now.pieces.items ++ later)))
+    (c.in_err-cut.ensures.refusal ne priority h.looked h.cuts h.added
+    (drop (c.args.self.now.looked + 1) c.args.self.now.pieces.items ++ later)))
 
 pub returns-in_err-cut-clause-limit : goal.returns-in_err-cut-clause-limit
 returns-in_err-cut-clause-limit c =
@@ -30,6 +31,7 @@ returns-clause-looked c =
     let lt : c.args.self.now.looked < length c.args.self.now.pieces.items = omega (arith, c.requires) in
     IfOk-weaker c.end_group.result _ _
     (λ group ends.
-    look_one c.args.self.now c.end_group.new.self c.add.new.self c.index.result.now c.in_ok-cut.cut group lt (sym c.index.ensures)
+    look_one c.args.self.now c.end_group.new.self c.add.new.self c.index.result.now c.in_ok-cut.cut group lt
+    (sym c.index.ensures)
     c.in_ok-cut.ensures.ok c.in_ok-cut.ensures.begins c.end_group.ensures.rest ends)
     c.end_group.ensures.ends

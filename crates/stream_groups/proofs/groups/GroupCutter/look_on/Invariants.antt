@@ -8,7 +8,8 @@ use Rattle.stream_groups.proofs.groups.GroupCutter.look_on.Given as goal
 -- pieces were looked at, and no group has ended
 abbrev pub invariant-loop-self : goal.invariant-loop-self
 invariant-loop-self l = record {
-  looked : (priority : Priorities) (seen : List ℕ) (pieces : List Piece) (given : List CutGroup) → HasLooked l.initial.self priority seen pieces given → HasLooked l.self priority seen pieces given;
+  looked : (priority : Priorities) (seen : List ℕ) (pieces : List Piece) (given : List CutGroup)
+      → HasLooked l.initial.self priority seen pieces given → HasLooked l.self priority seen pieces given;
   fewer : pieces_left l.self ≤ pieces_left l.initial.self;
   idle : pieces_left l.initial.self ≡ 0 → l.self ≡ l.initial.self;
   scanner : l.self.scanner ≡ l.initial.self.scanner;

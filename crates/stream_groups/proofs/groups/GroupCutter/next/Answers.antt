@@ -5,7 +5,8 @@ use Rattle.stream_groups.specs.CutGroups.{CutGroup}
 use Rattle.stream_groups.proofs.Reading.{gives, stops}
 use Rattle.stream_groups.proofs.groups.GroupCutter.next.Goals as goal
 
-ok_is : (answer : Result (Option CutGroup) SplitFault) (group : Option CutGroup) → answer ≡ Ok group → answer ≡ Ok None → group ≡ None
+ok_is : (answer : Result (Option CutGroup) SplitFault) (group : Option CutGroup) → answer ≡ Ok group → answer ≡ Ok None
+    → group ≡ None
 ok_is answer group is none = cc
 
 err_is : (answer : Result (Option CutGroup) SplitFault) (fault : SplitFault) → answer ≡ Err fault → answer ≡ Ok None → ⊥

@@ -10,7 +10,8 @@ returns-in-Ok-clause-answer c =
     IfOk-weaker c.plan_with.result _ _
     (λ marked plan priority file stream held.
     let kept = held.has_kept in
-    let all = subst (λ (l : List CutGroup). AreAll priority stream (kept.given ++ l)) (sym c.deref.ensures.value) (c.in-Ok.ensures.whole priority stream kept.given kept.cut) in
+    let all = subst (λ (l : List CutGroup). AreAll priority stream (kept.given ++ l)) (sym c.deref.ensures.value)
+    (c.in-Ok.ensures.whole priority stream kept.given kept.cut) in
     (all.cuttable.0, plan priority file stream kept.given all kept.are_kept held.has_hashed))
     c.plan_with.ensures.plan
 
@@ -19,10 +20,12 @@ returns-in-Ok-clause-refused c =
     IfErr-weaker c.plan_with.result _ _
     (λ fault refused priority file stream held.
     let kept = held.has_kept in
-    let all = subst (λ (l : List CutGroup). AreAll priority stream (kept.given ++ l)) (sym c.deref.ensures.value) (c.in-Ok.ensures.whole priority stream kept.given kept.cut) in
+    let all = subst (λ (l : List CutGroup). AreAll priority stream (kept.given ++ l)) (sym c.deref.ensures.value)
+    (c.in-Ok.ensures.whole priority stream kept.given kept.cut) in
     refused priority stream kept.given all kept.are_kept)
     c.plan_with.ensures.refused
 
 pub returns-in-Err-clause-refused : goal.returns-in-Err-clause-refused
 returns-in-Err-clause-refused c priority file stream held =
-    c.stream_fault.ensures priority stream (c.in-Err.ensures.refused priority stream held.has_kept.given held.has_kept.cut)
+    c.stream_fault.ensures priority stream
+    (c.in-Err.ensures.refused priority stream held.has_kept.given held.has_kept.cut)

@@ -7,5 +7,6 @@ use Rattle.stream_session.proofs.needs.LayerNeeds.new.Given as goal
 abbrev pub invariant-loop-layer : goal.invariant-loop-layer
 invariant-loop-layer l = record {
   count : array_vec_len l.needs ≡ l.layer;
-  so_far : l.needs.items ++ map (λ (rule : Rule). rule.need) (drop l.layer l.priority.layers) ≡ map (λ (rule : Rule). rule.need) l.priority.layers;
+  so_far : l.needs.items ++ map (λ (rule : Rule). rule.need) (drop l.layer l.priority.layers)
+      ≡ map (λ (rule : Rule). rule.need) l.priority.layers;
 }

@@ -6,10 +6,12 @@ use Rattle.stream_session.proofs.planner.Planner.add.Goals as goal
 
 pub returns-in-Ok : goal.returns-in-Ok
 returns-in-Ok c =
-    on_ok_weaker c.keep.result (λ kept. stays_live c.args.self.now c.keep.new.self c.add.new.self c.args.piece.now c.in-Ok.cut (sym c.is_some.ensures ∙ c.if-is_some.false) c.in-Ok.ensures.ok c.keep.ensures.rest kept)
+    on_ok_weaker c.keep.result (λ kept. stays_live c.args.self.now c.keep.new.self c.add.new.self c.args.piece.now
+    c.in-Ok.cut (sym c.is_some.ensures ∙ c.if-is_some.false) c.in-Ok.ensures.ok c.keep.ensures.rest kept)
     c.keep.ensures.kept
 
 pub returns-in-Err : goal.returns-in-Err
 returns-in-Err c =
-    on_ok_weaker c.refuse.result (λ refused. becomes_refused c.args.self.now c.refuse.new.self c.args.piece.now c.in-Err.fault (sym c.is_some.ensures ∙ c.if-is_some.false) refused (c.in-Err.ensures.refusal refused.told))
+    on_ok_weaker c.refuse.result (λ refused. becomes_refused c.args.self.now c.refuse.new.self c.args.piece.now
+    c.in-Err.fault (sym c.is_some.ensures ∙ c.if-is_some.false) refused (c.in-Err.ensures.refusal refused.told))
     c.refuse.ensures

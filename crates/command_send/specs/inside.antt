@@ -1,0 +1,3 @@
+pub mod Second
+pub mod SendParts
+pub mod Sending

@@ -1,0 +1,104 @@
+-- Where the second pass of `send` stands between its steps. This project's own.
+use Rattle.std.specs.Prelude.{◌≡◌, ◌≢◌, ◌⊎◌, ℕ, ◌<◌, ◌≤◌, List, [], ◌∷◌, ◌++◌, length, drop, Option, None, Some}
+use Rattle.std.specs.Prelude.{slice_get, sum_by, MatchOption}
+use Rattle.pet_base.specs.LinkSeen.{OnlySends}
+use Rattle.pet_base.specs.Seen.{KeepsNames}
+use Rattle.stripe_plan.specs.Sizes.{Sizes}
+use Rattle.priority_file.specs.Priority.{Priorities}
+use Rattle.stream_groups.specs.declared.groups.GroupCutter.{GroupCutter}
+use Rattle.stream_session.specs.declared.mark.GroupMark.{GroupMark}
+use Rattle.stream_session.specs.declared.source.Source.{Source}
+use Rattle.stream_groups.specs.CutGroups.{CutGroup}
+use Rattle.stream_groups.specs.Cutting.{HasCut, HaveEnded, pieces_left}
+use Rattle.stream_session.specs.Marks.{mark_of, no_mark, mark_at}
+use Rattle.stream_session.specs.Tables.{table_of}
+use Rattle.command_send.specs.declared.sent_group.Change.{Change}
+use Rattle.command_send.specs.declared.second.SentGroups.{SentGroups}
+use Rattle.outside_routes.specs.Sending.{Routes, Sends, SendsPart}
+use Rattle.outside_routes.specs.Way.{Way}
+use Rattle.packet_session.specs.Datagrams.{group_datagrams}
+use Rattle.command_send.specs.Sending.{encoding_of, words_cost, IsNext}
+use Rattle.command_send.specs.inside.Sending.{HasSentSome, IsChange, IsAllSent}
+
+-- the cutter stands somewhere in a stream
+pub record Knows (cutter : GroupCutter) (priority : Priorities) : Type 0 where
+  pub stream : List ℕ
+  pub given : List CutGroup
+  pub cut : HasCut cutter priority stream given
+
+-- of what was read, the groups that have ended were sent
+pub record HasGone (way : Way) (source : Source) (marks : List GroupMark) (stream : List ℕ) (pass : SentGroups)
+    (old new : Routes) : Type 0 where
+  pub groups : List CutGroup
+  pub cut : HasCut pass.cutter source.priority stream groups
+  pub number : pass.sent ≡ length groups
+  pub sent : HasSentSome way source marks groups old new
+
+-- the group at which the marks differ has ended
+abbrev pub HasMetChange : Way → Source → List GroupMark → List ℕ → Routes → Routes → Change → Type 0
+HasMetChange way source marks stream old new change =
+    (h : IsChange way source marks stream change old new)
+    × (next : IsNext source.priority source.tables.items marks stream h.least.before change.group change.second)
+    × HaveEnded source.priority stream (h.least.before ++ next.next ∷ [])
+
+-- so far, where all that was read was looked at, or to a change
+abbrev pub HasReached : Way → Source → List GroupMark → List ℕ → Option Change → SentGroups → Routes → Routes → Type 0
+HasReached way source marks stream change pass old new =
+    MatchOption change (HasGone way source marks stream pass old new × (pieces_left pass.cutter ≡ 0))
+    (HasMetChange way source marks stream old new)
+
+-- all of the stream, or to a change
+abbrev pub Ends : Way → Source → List GroupMark → List ℕ → Option Change → Routes → Routes → Type 0
+Ends way source marks stream change old new =
+    MatchOption change (IsAllSent way source marks stream old new) (λ c. IsChange way source marks stream c old new)
+
+-- the steps that a group may take, and those of the groups from this one on
+abbrev pub cost_at : Option Sizes → ℕ
+cost_at None = 0
+cost_at (Some table) = words_cost table
+
+unfoldable pub cost_left : List Sizes → ℕ → ℕ
+cost_left tables sent = sum_by words_cost (drop sent tables)
+
+-- the group under this number has the mark and the table of the first pass
+pub record IsSame (source : Source) (marks : List GroupMark) (number : ℕ) (g : CutGroup) : Type 0 where
+  pub mark : mark_at marks number ≡ mark_of g.bytes
+  pub table : slice_get source.tables.items number ≡ Some (table_of source.priority g.cut)
+
+-- and its packets were sent
+abbrev pub SendsGroup : Way → Source → List GroupMark → ℕ → CutGroup → Routes → Routes → Type 0
+SendsGroup way source marks number g old new =
+    IsSame source marks number g × Sends way (group_datagrams (encoding_of source number g)) old new
+
+abbrev pub SendsGroupPart : Way → Source → List GroupMark → ℕ → CutGroup → Routes → Routes → Type 0
+SendsGroupPart way source marks number g old new =
+    IsSame source marks number g × SendsPart way (group_datagrams (encoding_of source number g)) old new
+
+-- the group is another, or its layers have other lengths; nothing was sent
+pub record Differs (source : Source) (marks : List GroupMark) (number : ℕ) (g : CutGroup) (old new : Routes)
+    (change : Change) : Type 0 where
+  pub group : change.group ≡ number
+  pub first_is : change.first ≡ mark_at marks number
+  pub marked : (change.second ≡ mark_of g.bytes)
+      ⊎ ((change.second ≡ no_mark) × (mark_at marks number ≡ mark_of g.bytes)
+      × (slice_get source.tables.items number ≢ Some (table_of source.priority g.cut)))
+  pub differ : change.first ≢ change.second
+  pub still : new ≡ old
+
+-- the first mark from this one on that is of a group that the second pass did not find
+pub record IsFirstLost (marks : List GroupMark) (sent : ℕ) (change : Change) : Type 0 where
+  pub beyond : sent ≤ change.group
+  pub first_is : change.first ≡ mark_at marks change.group
+  pub none : change.second ≡ no_mark
+  pub differ : change.first ≢ change.second
+  pub before : (k : ℕ) → sent ≤ k → k < change.group → mark_at marks k ≡ no_mark
+
+abbrev pub NoneLost : List GroupMark → ℕ → Type 0
+NoneLost marks sent = (k : ℕ) → sent ≤ k → mark_at marks k ≡ no_mark
+
+-- the input, the output and the addresses are those that they were, and faults do not fall
+pub record OnlyPasses (old new : Routes) : Type 0 where
+  pub names : KeepsNames old.place new.place
+  pub link : OnlySends old.link new.link
+  pub place_later : old.place.faults ≤ new.place.faults
+  pub link_later : old.link.faults ≤ new.link.faults

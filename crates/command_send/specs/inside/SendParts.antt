@@ -1,0 +1,130 @@
+-- What the parts of `send` do: the files are opened again, and the groups of the stream are sent. This project's own.
+use Rattle.std.specs.Prelude.{◌≡◌, ◌⊎◌, ℕ, ◌≤◌, List, [], ◌∷◌, true, None, Some, option_map}
+use Rattle.pet_base.specs.Seen.{Seen, Blame, Names, HadFault, bytes_at, with_file}
+use Rattle.stream_session.specs.declared.mark.GroupMark.{GroupMark}
+use Rattle.stream_session.specs.declared.source.Source.{Source}
+use Rattle.stream_session.specs.declared.source.SourceFault.{SourceFault}
+use Rattle.stream_session.specs.declared.source.SourceFault.TheVariants as source
+use Rattle.stream_session.specs.Sources.{IsSourceFault}
+use Rattle.outside_files.specs.Inputs.{IsFile}
+use Rattle.outside_files.specs.Uses.{reading, writing}
+use Rattle.outside_files.specs.Wrote.{Wrote}
+use Rattle.outside_routes.specs.RouteFaults.{IsStop, AimedFailed}
+use Rattle.outside_routes.specs.Sending.{Routes}
+use Rattle.outside_routes.specs.Way.{Way, OnFile, OnLink}
+use Rattle.outside_routes.specs.declared.fault.RouteStop.{RouteStop}
+use Rattle.outside_routes.specs.declared.fault.RouteStop.TheVariants as stop
+use Rattle.command_send.specs.declared.command.SendEnd.{SendEnd}
+use Rattle.command_send.specs.declared.command.SendEnd.TheVariants.{NoMemory, PlaceFault, LinkFault, BadPriority}
+use Rattle.command_send.specs.declared.command.SendEnd.TheVariants.{BadStream, BadPlan, Changed}
+use Rattle.command_send.specs.declared.fault.SendFault.{SendFault}
+use Rattle.command_send.specs.declared.fault.SendFault.TheVariants as fault
+use Rattle.command_send.specs.Sending.{IsLeastChange, IsFirstPass}
+use Rattle.command_send.specs.Sends.{packets_file, IsAimedAt, LinkSentAll, LinkSentFirst, HasSentBefore, MayBlame}
+use Rattle.command_send.specs.Sends.{SendsNothing, StreamChanged}
+use Rattle.stream_session.specs.Sessions.{HasSession}
+
+-- The session of the two files, and what the first reading found of it.
+pub record IsReadFrom (old : Seen) (stream priority : List ℕ) (source : Source) (marks : List GroupMark) : Type 0 where
+  pub session : HasSession old stream priority
+  pub first : IsFirstPass session.priority_bytes session.stream_bytes source marks
+
+-- the file is an empty output, or the link sends to the address
+pub record IsEmptied (to : List ℕ) (old new : Routes) : Type 0 where
+  pub files : new.place.files ≡ option_map (with_file to []) old.place.files
+  pub target : Names old.place.files new.place.target to
+  pub has_output : new.place.has_output ≡ true
+  pub link : new.link ≡ old.link
+
+pub record IsReady (address : List ℕ) (old new : Routes) : Type 0 where
+  pub files : new.place.files ≡ old.place.files
+  pub sent : new.link.sent ≡ old.link.sent
+  pub aimed : IsAimedAt address old.link new.link
+  pub later : old.link.faults ≤ new.link.faults
+
+abbrev pub IsWayOpen : Way → Routes → Routes → Type 0
+IsWayOpen (OnFile to) old new = IsEmptied to old new
+IsWayOpen (OnLink address) old new = IsReady address old new
+
+-- the stream is the input, from its front, and the way is open
+pub record IsReopened (stream : List ℕ) (way : Way) (old new : Routes) : Type 0 where
+  pub rest : new.place.rest ≡ bytes_at old.place.files stream
+  pub source : Names old.place.files new.place.source stream
+  pub has_input : new.place.has_input ≡ true
+  pub way_open : IsWayOpen way old new
+
+-- or that failed: the files are as before, or the file TO is empty, and nothing was sent
+abbrev pub IsLeftEmpty : Way → Routes → Routes → Type 0
+IsLeftEmpty (OnFile to) old new =
+    (new.place.files ≡ old.place.files) ⊎ (new.place.files ≡ option_map (with_file to []) old.place.files)
+IsLeftEmpty (OnLink address) old new = (new.place.files ≡ old.place.files) × (new.link.sent ≡ old.link.sent)
+
+-- a fault then was at the stream, or at the file TO
+abbrev pub IsOfReopened : List ℕ → Way → Blame → Type 0
+IsOfReopened stream (OnFile to) b = (b ≡ reading stream) ⊎ (b ≡ writing to)
+IsOfReopened stream (OnLink address) b = b ≡ reading stream
+
+-- all packets of the session are sent, where the stream is that of the first pass
+abbrev pub SessionSent : Source → List GroupMark → List ℕ → Way → Routes → Routes → Type 0
+SessionSent source marks stream (OnFile to) old new =
+    (p b : List ℕ) → IsFirstPass p b source marks → IsFile old.place.files stream b
+    → Wrote (packets_file to p b ∷ []) None old.place new.place
+SessionSent source marks stream (OnLink address) old new =
+    ((p b : List ℕ) → IsFirstPass p b source marks → IsFile old.place.files stream b
+    → LinkSentAll address p b old.place.files old.link new.link)
+    × (new.place.files ≡ old.place.files)
+
+-- or a front of them
+abbrev pub SessionLeft : Source → List GroupMark → List ℕ → Way → Routes → Routes → Type 0
+SessionLeft source marks stream (OnFile to) old new =
+    (p b : List ℕ) → IsFirstPass p b source marks → IsFile old.place.files stream b
+    → Wrote [] None old.place new.place ⊎ Wrote [] (Some (packets_file to p b)) old.place new.place
+SessionLeft source marks stream (OnLink address) old new =
+    ((p b : List ℕ) → IsFirstPass p b source marks → IsFile old.place.files stream b
+    → (new.link.sent ≡ old.link.sent) ⊎ LinkSentFirst address p b old.place.files old.link new.link)
+    × (new.place.files ≡ old.place.files)
+
+-- When the sending stops: the least group whose mark is another in a stream that was read again, which happens only
+-- where
+-- the files are not told.
+abbrev pub SessionStops : Source → List GroupMark → List ℕ → Way → Routes → Routes → SendFault → Type 0
+SessionStops source marks stream way old new (fault.Stopped stop) =
+    IsStop (HadFault old.place new.place (IsOfReopened stream way)) (AimedFailed way old.link new.link) ⊥ stop
+SessionStops source marks stream way old new (fault.Changed change) =
+    (again : List ℕ) × (least : IsLeastChange source.priority source.tables.items marks again change)
+    × ((p b : List ℕ) → IsFirstPass p b source marks → IsFile old.place.files stream b
+    → (old.place.files ≡ None) × HasSentBefore p b least.before way old.link new.link)
+SessionStops source marks stream way old new (fault.Source refused) = ⊥
+
+-- when each stop comes
+abbrev pub IsEarlyStop : Routes → Routes → List ℕ → List ℕ → Way → RouteStop → Type 0
+IsEarlyStop old new stream priority way stop =
+    IsStop (HadFault old.place new.place (MayBlame stream priority way old.place))
+    (AimedFailed way old.link new.link × HasSession old.place stream priority) ⊥ stop
+
+-- When each fault comes.
+abbrev pub IsSendFault : Routes → Routes → List ℕ → List ℕ → Way → SendFault → Type 0
+IsSendFault old new stream priority way (fault.Stopped stop) = IsEarlyStop old new stream priority way stop
+IsSendFault old new stream priority way (fault.Source refused) =
+    IsSourceFault old.place new.place stream priority refused × SendsNothing old new
+IsSendFault old new stream priority way (fault.Changed change) = StreamChanged old new stream priority way change
+
+-- the end that whatever stops the reading of both files makes
+abbrev pub end_of_refusal : SourceFault → SendEnd
+end_of_refusal source.NoMemory = NoMemory
+end_of_refusal source.Failed = PlaceFault
+end_of_refusal (source.Priority fault) = BadPriority fault
+end_of_refusal (source.Stream scan) = BadStream scan
+end_of_refusal (source.Plan fault) = BadPlan fault
+
+-- the end that each makes; no output is used, so none can fail
+abbrev pub IsEndOfStop : RouteStop → SendEnd → Type 0
+IsEndOfStop stop.NoMemory end = end ≡ NoMemory
+IsEndOfStop stop.Place end = end ≡ PlaceFault
+IsEndOfStop stop.Link end = end ≡ LinkFault
+IsEndOfStop stop.Out end = ⊥
+
+abbrev pub IsEndOf : SendFault → SendEnd → Type 0
+IsEndOf (fault.Stopped stop) end = IsEndOfStop stop end
+IsEndOf (fault.Source refused) end = end ≡ end_of_refusal refused
+IsEndOf (fault.Changed change) end = end ≡ Changed change

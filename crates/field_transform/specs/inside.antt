@@ -1,0 +1,2 @@
+pub mod Columnwise
+pub mod Trees
