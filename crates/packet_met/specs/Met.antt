@@ -1,6 +1,7 @@
 -- Which packets of a session some datagrams are, which layers these packets show, and the layers text of a session.
 -- Nothing here speaks of payloads, polynomials or buffers. This project's own.
 use Rattle.std.specs.Prelude.{ℕ, ◌+◌, Bool, not, ◌&&◌, ◌==◌, nat_le, if◌then◌else◌, List, [], ◌∷◌, ◌++◌, length, filter}
+use Rattle.std.specs.Prelude.{map}
 use Rattle.std.specs.Prelude.{sum_by, count_by, Option, None, Some, is_none, slice_get}
 use Rattle.std.specs.Str.{bytes_eq}
 use Rattle.std.specs.List.{list_any, list_all, flat_map, filter_map, range_with_len, enumerate_from}
@@ -40,6 +41,11 @@ shows pairs group g layer = nat_le (count_of g.layers layer) (distinct_met pairs
 abbrev pub newly_shown_by : List Pair → List Pair → ℕ → SessionGroup → List ℕ
 newly_shown_by before now group g =
     filter (λ layer. shows now group g layer && not (shows before group g layer)) (range_with_len 0 (length g.layers))
+
+-- the same of all groups of the session, by group, then layer
+abbrev pub newly_shown_in : Session → List Pair → List Pair → List (ℕ × ℕ)
+newly_shown_in s before now =
+    flat_map (λ e. map (λ layer. (e.0, layer)) (newly_shown_by before now e.0 e.1)) (enumerate_from 0 s.groups)
 
 -- the records of a group's layers, with the bytes that these have in the session, whose words have `width` bytes
 abbrev pub group_text : ℕ → ℕ → ℕ → SessionGroup → List ℕ → List ℕ

@@ -1,5 +1,5 @@
 -- Some layers of a group with their bytes, and the text of their records.
-use Rattle.std.specs.Prelude.{◌≡◌, ℕ, ◌==◌, List, filter, All, Some}
+use Rattle.std.specs.Prelude.{◌≡◌, ℕ, ◌==◌, List, [], filter, All, Some}
 use Rattle.std.specs.Int.{bit_at}
 use Rattle.std.specs.List.{flat_map, range_with_len}
 use Rattle.pet_base.specs.declared.limits.TheConstants.{MAX_LAYERS}
@@ -8,12 +8,19 @@ use Rattle.packet_set.specs.Packets.{Packets}
 use Rattle.pet_receive.specs.Arrivals.{Order, ReceiverState, HasKept, kept_set, numbers_of}
 use Rattle.packet_verdicts.specs.KeptSet.{open_group}
 use Rattle.packet_verdicts.specs.declared.verdict.LayerSet.{LayerSet}
+use Rattle.packet_verdicts.specs.declared.verdict.Verdict.{Verdict}
+use Rattle.packet_verdicts.specs.declared.verdict.Verdict.TheVariants.{Kept}
 use Rattle.packet_met.specs.LayersText.{IsLayer, record_text, AreRecords, IsArrivalText}
 use Rattle.packet_met.specs.declared.records.ShownLayer.{ShownLayer}
 
 -- the layers of a set, in order
 abbrev pub layers_in : LayerSet → List ℕ
 layers_in set = filter (λ j. bit_at set.bits j == 1) (range_with_len 0 MAX_LAYERS)
+
+-- the layers that a verdict shows
+abbrev pub layers_shown : Verdict → List ℕ
+layers_shown (Kept layers) = layers_in layers
+layers_shown _ = []
 
 abbrev pub records_text : ℕ → ℕ → List ShownLayer → List ℕ
 records_text arrival group shown = flat_map (λ e. record_text arrival group e.layer e.bytes.now) shown

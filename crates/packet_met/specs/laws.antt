@@ -16,3 +16,9 @@ pub mod DatagramAtEnd
 pub mod FewestStripesLaws
 pub mod StoreLaws
 pub mod StoreRead
+pub mod FlatLists
+pub mod SamePairs
+pub mod ExactlyKept
+pub mod GivenPacket
+pub mod JoinedShown
+pub mod EncodedSessionLaws

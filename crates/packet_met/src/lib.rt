@@ -10,6 +10,8 @@
 //! `DatagramMore`, `AllDatagrams`), and the counts are those of the packets met (`CountsAreMet`). The packets of every session
 //! carry the fewest stripes (`FewestStripesLaws`). The store of what is kept is that of the packets met, in whatever order they came
 //! (`FramesAreMet`, `StoreLaws`), and two sets that are joined have what the one or the other has met (`JoinedAreMet`, `SetOfPairs`).
+//! What is kept exactly of some pairs, at any limit, has their store (`ExactlyKept`), and stays so with a packet more
+//! (`GivenPacket`), whose verdict shows what is newly shown by the pairs; so does a union (`JoinedShown`).
 //!
 //! `put_shown` puts the records of the layers that an arrival shows.
 #![tactic(auto)]

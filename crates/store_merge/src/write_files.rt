@@ -40,7 +40,12 @@ pub fn write_store_file<F: Rows, P: Place>(
 }
 
 /// Makes a file of this name and puts its bytes.
-fn put_file<P: Place>(name: &str, bytes: &[u8], place: &mut P) -> Result<(), Failed>
+///
+/// # Errors
+///
+/// `Failed` where a call of the place failed, and then its count of faults rose. No file has changed then, or this one has a front
+/// of the bytes.
+pub fn put_file<P: Place>(name: &str, bytes: &[u8], place: &mut P) -> Result<(), Failed>
     ensures written { OnOk result (Wrote (record { name = name.now; bytes = bytes.now } ∷ []) None (P.seen place.old) (P.seen place.new)) }
     ensures front { OnErr result (((P.seen place.new).files ≡ (P.seen place.old).files)
         ⊎ Wrote [] (Some (record { name = name.now; bytes = bytes.now })) (P.seen place.old) (P.seen place.new)) }

@@ -1,14 +1,15 @@
 -- The parts of a plan file: lines, words and numbers.
-use Rattle.std.proofs.Common.{◌≡◌, ◌≢◌, ℕ, ◌+◌, ◌-◌, ◌<◌, List, [], ◌∷◌, ◌++◌, length, take, drop, append_assoc, refl}
-use Rattle.std.proofs.Common.{sym, ap, ◌∙◌, subst, Bool, true, false, inl, inr, arith}
-use Rattle.std.specs.Prelude.{Option, Some, None, Result, Ok, Err, MatchOption, is_some, option_map, ◌==◌}
+use Rattle.std.proofs.Common.{◌≡◌, ◌≢◌, ℕ, ◌+◌, ◌-◌, List, [], ◌∷◌, ◌++◌, length, take, drop, append_assoc, refl}
+use Rattle.std.proofs.Common.{sym, ap, ◌∙◌, Bool, true, false, arith}
+use Rattle.std.specs.Prelude.{Option, Some, None, Result, Ok, Err, option_map}
 use Rattle.std.specs.Prelude.{if◌then◌else◌}
-use Rattle.std.proofs.lemmas.Bool.{cases_Bool}
 use Rattle.std.proofs.lemmas.List.{take_all, length-drop}
 use Rattle.text_plan.specs.declared.plan_file.Repeat.{Repeat}
 use Rattle.text_plan.specs.declared.plan_file.PlanFault.{PlanFault}
 use Rattle.text_plan.specs.declared.plan_file.PlanFault.TheVariants.{Text, NoMemory}
-use Rattle.text_plan.specs.PlanFile.{split_from, split_at, without_empty_end, lines_of, repeat_in, repeats_in}
+use Rattle.text_cuts.specs.laws.CutLaws.{parts_some}
+use Rattle.text_cuts.specs.Cuts.{split_at, lines_of}
+use Rattle.text_plan.specs.PlanFile.{repeat_in, repeats_in}
 use Rattle.text_plan.specs.PlanFile.{behind_lengths, repeats_of_line, is_lengths_line, then_lists, with_line}
 use Rattle.text_plan.specs.PlanFile.{behind_lists, lists_from, lists_of, IsRefused}
 
@@ -21,51 +22,12 @@ abbrev pub size_ahead : Option (List ℕ) → ℕ
 size_ahead None = 0
 size_ahead (Some words) = length words + 1
 
--- there is a first part
-pub parts_some : (mark : ℕ) (part bytes : List ℕ)
-    → (first : List ℕ) × (rest : List (List ℕ)) × (split_from mark part bytes ≡ first ∷ rest)
-parts_some mark part [] = (part, [], refl)
-parts_some mark part (b ∷ bytes) =
-    elim (cases_Bool (b == mark)) [
-      | inl e ↦ (part, split_from mark [] bytes, grind (arith, e))
-      | inr e ↦ (
-          let more = parts_some mark (part ++ b ∷ []) bytes in
-          (more.0, more.1, grind (arith, e, more.2))
-          )
-    ]
-
-line_kept : (line : List ℕ) (parts : List (List ℕ)) (first : List ℕ) (rest : List (List ℕ)) → parts ≡ first ∷ rest
-    → without_empty_end (line ∷ parts) ≡ line ∷ without_empty_end parts
-line_kept [] parts first rest is = subst (λ p. without_empty_end ([] ∷ p) ≡ [] ∷ without_empty_end p) (sym is) refl
-line_kept (b ∷ line) parts first rest is = refl
-
--- a line in front of more
-pub lines_more : (bytes line rest : List ℕ) → split_at 10 bytes ≡ line ∷ split_at 10 rest
-    → lines_of bytes ≡ line ∷ lines_of rest
-lines_more bytes line rest is =
-    let more = parts_some 10 [] rest in
-    ap without_empty_end is ∙ line_kept line (split_at 10 rest) more.0 more.1 more.2
-
--- the last line, which no newline ends
-pub lines_last : (bytes line : List ℕ) → 0 < length bytes → line ≡ bytes → split_at 10 bytes ≡ line ∷ []
-    → lines_of bytes ≡ line ∷ lines_of []
-lines_last bytes [] some same is = absurd (omega (arith, some, ap length same))
-lines_last bytes (b ∷ line) some same is = ap without_empty_end is
-
 -- a word of three parts or more
 pub three_parts : (word size behind times more : List ℕ) → split_at 120 word ≡ size ∷ split_at 120 behind
     → split_at 120 behind ≡ times ∷ split_at 120 more → None ≡ repeat_in (split_at 120 word)
 three_parts word size behind times more first second =
     let third = parts_some 120 [] more in
     sym (ap repeat_in (first ∙ ap (λ p. size ∷ p) (second ∙ ap (λ p. times ∷ p) third.2)))
-
-pub at_some : {A : Type 0} (o : Option A) (x : A) (P : Type 0) (Q : A → Type 0) → o ≡ Some x → MatchOption o P Q → Q x
-at_some o x P Q is so = subst (λ p. MatchOption p P Q) is so
-
-pub of_some : {A : Type 0} (o : Option A) (P : Type 0) (Q : A → Type 0) → is_some o ≡ true → MatchOption o P Q
-    → (x : A) × Q x
-of_some None P Q is so = grind (arith, is)
-of_some (Some x) P Q is so = (x, so)
 
 behind_none : (r : Result (List (List Repeat)) ℕ) → r ≡ behind_lists [] r
 behind_none (Ok lists) = refl

@@ -3,29 +3,11 @@
 use Rattle.std.specs.Prelude.{◌≡◌, ⊤, ℕ, ◌+◌, ◌==◌, nat_eq, Bool, if◌then◌else◌, List, [], ◌∷◌, ◌++◌, drop, Option}
 use Rattle.std.specs.Prelude.{None, Some, option_map, Result, Ok, Err, codes}
 use Rattle.std.specs.List.{starts_with}
+use Rattle.text_cuts.specs.Cuts.{split_at, lines_of}
 use Rattle.text_lines.specs.Digits.{number_up_to}
 use Rattle.text_plan.specs.declared.plan_file.Repeat.{Repeat}
 use Rattle.text_plan.specs.declared.plan_file.PlanFault.{PlanFault}
 use Rattle.text_plan.specs.declared.plan_file.PlanFault.TheVariants.{Text, NoMemory}
-
--- the parts between the bytes of this value, at least one; the first part has these bytes so far
-abbrev pub split_from : ℕ → List ℕ → List ℕ → List (List ℕ)
-split_from mark part [] = part ∷ []
-split_from mark part (b ∷ bytes) =
-    if b == mark then part ∷ split_from mark [] bytes else split_from mark (part ++ b ∷ []) bytes
-
-abbrev pub split_at : ℕ → List ℕ → List (List ℕ)
-split_at mark bytes = split_from mark [] bytes
-
--- without a last part that is empty
-abbrev pub without_empty_end : List (List ℕ) → List (List ℕ)
-without_empty_end [] = []
-without_empty_end ([] ∷ []) = []
-without_empty_end (part ∷ parts) = part ∷ without_empty_end parts
-
--- the lines, each ended by a newline, which the last may lack
-abbrev pub lines_of : List ℕ → List (List ℕ)
-lines_of bytes = without_empty_end (split_at 10 bytes)
 
 -- a number from 1 to 4,294,967,295 without a leading zero
 abbrev pub number_of : List ℕ → Option ℕ

@@ -1,9 +1,11 @@
 //! The plan file, which lists the stripe lengths of each group.
 ghost use Rattle.std.specs.Prelude.{◌≡◌, ◌≢◌, ℕ, ◌+◌, ◌-◌, ◌*◌, ◌^◌, ◌<◌, ◌&&◌, if◌then◌else◌, nat_lt, List, [], ◌∷◌, length, map, Some, None, Ok, Err, Result, MatchOption, IfOk, IfErr, IfSome, OnOk, option_map};
-ghost use Rattle.text_plan.specs.PlanFile.{split_at, lines_of, lists_of, number_of, repeat_in, repeats_in, behind_lengths, with_line, behind_lists, IsRefused};
+ghost use Rattle.text_cuts.specs.Cuts.{split_at};
+ghost use Rattle.text_plan.specs.PlanFile.{lists_of, number_of, repeat_in, repeats_in, behind_lengths, with_line, behind_lists, IsRefused};
 
 use pet_base::NoMemory;
 use std::alloc::{AllocFailed, Global};
+use text_cuts::{cut, first_line};
 use text_lines::read_number;
 
 /// Stripes on end of one length.
@@ -61,19 +63,6 @@ pub fn read_plan(alloc: Global, bytes: &[u8]) -> Result<Vec<Vec<Repeat>>, PlanFa
         rest = behind;
     }
     Ok(lists)
-}
-
-/// The first line, and the bytes behind its newline.
-fn first_line(bytes: &[u8]) -> (&[u8], &[u8])
-    requires { 0 < length bytes.now }
-    ensures lines { lines_of bytes.now ≡ result.0.now ∷ lines_of result.1.now }
-    ensures shorter { length result.1.now < length bytes.now }
-{
-    let (line, behind) = cut(bytes, b'\n');
-    match behind {
-        Some(behind) => (line, behind),
-        None => (line, &[]),
-    }
 }
 
 /// Reads a line, and keeps its list if it is to have one.
@@ -150,19 +139,4 @@ fn read_positive(digits: &[u8]) -> Option<u32>
         [] | [b'0', ..] => None,
         _ => read_number(digits, u32::MAX),
     }
-}
-
-/// The bytes in front of the first that has this value, and those behind it; or all bytes, where none has it.
-fn cut(bytes: &[u8], mark: u8) -> (&[u8], Option<&[u8]>)
-    ensures parts { MatchOption result.1 ((result.0.now ≡ bytes.now)
-        × (split_at mark bytes.now ≡ result.0.now ∷ []))
-        (λ behind. split_at mark bytes.now ≡ result.0.now ∷ split_at mark behind.now) }
-    ensures shorter { IfSome result.1 (λ behind. length behind.now < length bytes.now) }
-{
-    for at in 0..bytes.len() {
-        if bytes[at] == mark {
-            return (&bytes[..at], Some(&bytes[at + 1..]));
-        }
-    }
-    (bytes, None)
 }

@@ -25,7 +25,7 @@ use Rattle.packet_met.specs.laws.KeptIsMet.{HasMet, Follows, count_met_in, group
 use Rattle.packet_met.specs.laws.PacketMore.{IsMade, with_pair, has_met_with}
 
 -- newly shown, by the counts before and after
-between_is : (before now c : ℕ) → (ltb before c && leb c now) ≡ (leb c now && not (leb c before))
+pub between_is : (before now c : ℕ) → (ltb before c && leb c now) ≡ (leb c now && not (leb c before))
 between_is before now c =
     elim (cases_lt before c) [
       | inl lt ↦ ap (λ (b : Bool). b && leb c now) (lt-ltb before c lt) ∙ and_true (leb c now)

@@ -11,7 +11,8 @@ use Rattle.std.proofs.lemmas.Str.Parse.{digit_from_value}
 use Rattle.std.proofs.lemmas.Fmt.{decimal_is_IsNumeral}
 use Rattle.text_plan.specs.declared.plan_file.Repeat.{Repeat}
 use Rattle.text_plan.specs.PlanLines.{rows_of, row_text, lengths_text}
-use Rattle.text_plan.specs.PlanFile.{split_from, split_at, without_empty_end, lines_of, number_of, repeat_of, repeat_in}
+use Rattle.text_cuts.specs.Cuts.{split_from, split_at, without_empty_end, lines_of}
+use Rattle.text_plan.specs.PlanFile.{number_of, repeat_of, repeat_in}
 use Rattle.text_plan.specs.PlanFile.{both_of, repeats_in, is_lengths_line, repeats_of_line, then_lists, lists_from}
 use Rattle.text_plan.specs.PlanText.{repeat_of_row}
 use Rattle.text_plan.specs.laws.NumberLaws.{number_back}

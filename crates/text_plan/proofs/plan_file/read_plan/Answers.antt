@@ -1,6 +1,7 @@
 use Rattle.std.proofs.Common.{◌+◌, ◌∙◌, ℕ, List, arith, map, ap}
 use Rattle.std.proofs.lemmas.Result.{err_from_is_err_and}
-use Rattle.text_plan.specs.PlanFile.{behind_lists, lists_from, lines_of}
+use Rattle.text_cuts.specs.Cuts.{lines_of}
+use Rattle.text_plan.specs.PlanFile.{behind_lists, lists_from}
 use Rattle.text_plan.proofs.Parts.{lists_begun, refused_at}
 use Rattle.text_plan.proofs.plan_file.read_plan.Goals as goal
 

@@ -1,5 +1,6 @@
 use Rattle.std.proofs.Common.{◌≡◌, ◌+◌, ◌≤◌, length, map}
-use Rattle.text_plan.specs.PlanFile.{lists_of, lists_from, lines_of, behind_lists}
+use Rattle.text_cuts.specs.Cuts.{lines_of}
+use Rattle.text_plan.specs.PlanFile.{lists_of, lists_from, behind_lists}
 use Rattle.text_plan.proofs.plan_file.read_plan.Given as goal
 
 abbrev pub invariant-loop-rest : goal.invariant-loop-rest

@@ -1,5 +1,6 @@
 use Rattle.std.proofs.Common.{◌∙◌, sym}
-use Rattle.text_plan.proofs.Parts.{three_parts, at_some, of_some}
+use Rattle.text_cuts.specs.laws.CutLaws.{at_some, of_some}
+use Rattle.text_plan.proofs.Parts.{three_parts}
 use Rattle.text_plan.proofs.plan_file.read_repeat.Goals as goal
 
 pub returns-then-is_some : goal.returns-then-is_some

@@ -1,6 +1,7 @@
 use Rattle.std.proofs.Common.{◌≡◌}
 use Rattle.std.specs.Prelude.{option_copied}
-use Rattle.text_plan.specs.PlanFile.{split_at, repeats_in}
+use Rattle.text_cuts.specs.Cuts.{split_at}
+use Rattle.text_plan.specs.PlanFile.{repeats_in}
 use Rattle.text_plan.proofs.Parts.{repeats_ahead, size_ahead}
 use Rattle.text_plan.proofs.plan_file.read_repeats.Given as goal
 

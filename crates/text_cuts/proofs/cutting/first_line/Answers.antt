@@ -1,5 +1,5 @@
-use Rattle.text_plan.proofs.Parts.{lines_more, at_some}
-use Rattle.text_plan.proofs.plan_file.first_line.Goals as goal
+use Rattle.text_cuts.specs.laws.CutLaws.{lines_more, at_some}
+use Rattle.text_cuts.proofs.cutting.first_line.Goals as goal
 
 pub returns-in-Some-clause-lines : goal.returns-in-Some-clause-lines
 returns-in-Some-clause-lines c =

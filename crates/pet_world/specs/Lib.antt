@@ -1,0 +1,4 @@
+pub mod ReceivedSets
+pub mod World
+pub mod laws
+pub mod inside

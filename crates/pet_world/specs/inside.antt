@@ -1,0 +1,2 @@
+pub mod EventDone
+pub mod Receivers

@@ -1,0 +1,3 @@
+pub mod InOrder
+pub mod ManyEvents
+pub mod ShownOnce
