@@ -1,4 +1,3 @@
 pub mod OtherWords
-pub mod Digits
 pub mod SessionBytes
 pub mod FaultWords

@@ -1,8 +1,10 @@
--- The statuses, their numbers and lines, and the lines of commands that run on packets. This project's own.
+-- The statuses, their numbers and lines, and the lines of commands. This project's own.
 use Rattle.std.specs.Prelude.{ℕ, List, [], ◌++◌, codes, decimal}
 use Rattle.pet_base.specs.declared.limits.TheConstants.{MAX_STREAM}
 use Rattle.mpeg_scan.specs.declared.refusal.Scan.{Scan}
 use Rattle.mpeg_scan.specs.declared.refusal.Scan.TheVariants as scan
+use Rattle.mpeg_system.specs.declared.refusal.System.{System}
+use Rattle.mpeg_system.specs.declared.refusal.System.TheVariants as system
 use Rattle.priority_file.specs.declared.fault.PriorityFault.{PriorityFault}
 use Rattle.priority_file.specs.declared.fault.PriorityFault.TheVariants as priority
 use Rattle.store_text.specs.declared.fault.StoreKind.{StoreKind}
@@ -13,7 +15,7 @@ use Rattle.pet_text.specs.declared.status.Status.{Status}
 use Rattle.pet_text.specs.declared.status.Status.TheVariants.{Done, Usage, NoMemory, PlaceFault, LinkFault, OutFault}
 use Rattle.pet_text.specs.declared.status.Status.TheVariants.{BadStream, BadPriority, BadPlan, BadStore, OtherSession}
 use Rattle.pet_text.specs.declared.status.Status.TheVariants.{Clash, Incomplete, TurnsSpent, BadTable, NotLeast}
-use Rattle.pet_text.specs.declared.status.Status.TheVariants.{Changed, Full}
+use Rattle.pet_text.specs.declared.status.Status.TheVariants.{Changed, Full, BadSystem, AlreadyNew, TooWide}
 
 abbrev pub code_of : Status → ℕ
 code_of Done = 0
@@ -34,6 +36,9 @@ code_of (BadTable group) = 15
 code_of (NotLeast group) = 16
 code_of (Changed group first second) = 17
 code_of (Full group) = 19
+code_of (BadSystem fault) = 24
+code_of AlreadyNew = 18
+code_of (TooWide group) = 20
 
 -- the kind of a stream's refusal, its offset, and for a picture's type the type; want of memory is a status of its own
 abbrev pub scan_text : Scan → List ℕ
@@ -44,6 +49,17 @@ scan_text (scan.PictureType at kind) = codes "PictureType " ++ decimal at ++ cod
 scan_text (scan.ShortPicture at) = codes "ShortPicture " ++ decimal at
 scan_text scan.TooLong = codes "TooLong " ++ decimal MAX_STREAM
 scan_text scan.NoMemory = codes "NoMemory 0"
+
+-- the kind of a system stream's refusal, its offset, and for a code that begins no unit the code
+abbrev pub system_text : System → List ℕ
+system_text (system.NoStart at) = codes "NoStart " ++ decimal at
+system_text (system.NotUnit at code) = codes "NotUnit " ++ decimal at ++ codes " " ++ decimal code
+system_text (system.Pack at) = codes "Pack " ++ decimal at
+system_text (system.Cut at) = codes "Cut " ++ decimal at
+system_text (system.Header at) = codes "Header " ++ decimal at
+system_text system.NoVideo = codes "NoVideo 0"
+system_text system.TooLong = codes "TooLong " ++ decimal MAX_STREAM
+system_text system.NoMemory = codes "NoMemory 0"
 
 -- the kind of a priority file's refusal
 abbrev pub priority_text : PriorityFault → List ℕ
@@ -105,6 +121,9 @@ fault_text (BadTable group) = codes "fault table " ++ decimal group ++ codes "\n
 fault_text (NotLeast group) = codes "fault least " ++ decimal group ++ codes "\n"
 fault_text (Changed group first second) = codes "fault changed " ++ decimal group ++ codes "\n"
 fault_text (Full group) = codes "fault full " ++ decimal group ++ codes "\n"
+fault_text (BadSystem fault) = codes "fault system " ++ system_text fault ++ codes "\n"
+fault_text AlreadyNew = codes "fault version\n"
+fault_text (TooWide group) = codes "fault wide " ++ decimal group ++ codes "\n"
 
 -- the port at which a link receives
 abbrev pub bound_text : ℕ → List ℕ
@@ -122,3 +141,15 @@ merged_text datagrams = codes "merged " ++ decimal datagrams ++ codes "\n"
 -- how many bytes the video of a store has
 abbrev pub video_text : ℕ → List ℕ
 video_text bytes = codes "video " ++ decimal bytes ++ codes "\n"
+
+-- how many bytes the video of a system stream has
+abbrev pub unwrapped_text : ℕ → List ℕ
+unwrapped_text bytes = codes "unwrapped " ++ decimal bytes ++ codes "\n"
+
+-- how many bytes the system stream has that wraps a video
+abbrev pub wrapped_text : ℕ → List ℕ
+wrapped_text bytes = codes "wrapped " ++ decimal bytes ++ codes "\n"
+
+-- how many datagrams the migrated store has
+abbrev pub migrated_text : ℕ → List ℕ
+migrated_text datagrams = codes "migrated " ++ decimal datagrams ++ codes "\n"

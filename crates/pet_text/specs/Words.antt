@@ -8,7 +8,8 @@ use Rattle.outside_routes.specs.Address.{is_address}
 use Rattle.pet_text.specs.declared.end.End.{End}
 use Rattle.pet_text.specs.declared.end.End.TheVariants.{File, Udp}
 use Rattle.pet_text.specs.declared.words.Command.{Command}
-use Rattle.pet_text.specs.declared.words.Command.TheVariants.{Plan, Check, Send, Receive, Merge, Video}
+use Rattle.pet_text.specs.declared.words.Command.TheVariants.{Plan, Check, Send, Receive, Merge, Video, Unwrap, Wrap}
+use Rattle.pet_text.specs.declared.words.Command.TheVariants.{Migrate}
 
 -- the texts of the words
 abbrev pub texts_of : List (String Global) → List (List ℕ)
@@ -107,6 +108,26 @@ merge_of first second out =
 abbrev pub video_of : List ℕ → List ℕ → Option Command
 video_of store out = if is_name store && (is_name out && not (bytes_eq out store)) then Some (Video store out) else None
 
+-- the id of a video: `e0` to `ef`
+abbrev pub id_of : List ℕ → Option ℕ
+id_of (c ∷ d ∷ []) = if c == 101 then option_map (λ low. 0xE0 + low) (digit_of d) else None
+id_of _ = None
+
+-- `unwrap FILE ID OUT`: a file that is read, the id of a video in it, and another file that is written
+abbrev pub unwrap_of : List ℕ → Option ℕ → List ℕ → Option Command
+unwrap_of file None out = None
+unwrap_of file (Some id) out =
+    if is_name file && (is_name out && not (bytes_eq out file)) then Some (Unwrap file id out) else None
+
+-- `wrap FILE OUT`: a file that is read, and another file that is written
+abbrev pub wrap_of : List ℕ → List ℕ → Option Command
+wrap_of file out = if is_name file && (is_name out && not (bytes_eq out file)) then Some (Wrap file out) else None
+
+-- `migrate STORE OUT`: a store of the first version that is read, and another file that is written
+abbrev pub migrate_of : List ℕ → List ℕ → Option Command
+migrate_of store out =
+    if is_name store && (is_name out && not (bytes_eq out store)) then Some (Migrate store out) else None
+
 -- The command of the words, where they have the form of one. Datagrams are received at any port, also at one that is to
 -- be
 -- found, which is port 0; they are sent to a port of another number.
@@ -114,11 +135,14 @@ abbrev pub command_of : List (List ℕ) → Option Command
 command_of (word ∷ first ∷ second ∷ []) =
     if bytes_eq word (codes "plan") then plan_of first second
     else if bytes_eq word (codes "video") then video_of first second
+    else if bytes_eq word (codes "wrap") then wrap_of first second
+    else if bytes_eq word (codes "migrate") then migrate_of first second
     else None
 command_of (word ∷ first ∷ second ∷ third ∷ []) =
     if bytes_eq word (codes "check") then check_of first second third
     else if bytes_eq word (codes "send") then send_of first second (end_of 1 third)
     else if bytes_eq word (codes "merge") then merge_of first second third
+    else if bytes_eq word (codes "unwrap") then unwrap_of first (id_of second) third
     else None
 command_of (word ∷ first ∷ second ∷ third ∷ fourth ∷ []) =
     if bytes_eq word (codes "receive") then receive_of (end_of 0 first) (session_of second) third fourth else None

@@ -1,12 +1,12 @@
 //! What the words of a command give, before their texts are copied.
 ghost use Rattle.std.specs.Prelude.{◌≡◌, ◌&&◌, not, [], ◌∷◌, option_map};
 ghost use Rattle.std.specs.Str.{bytes_eq};
-ghost use Rattle.pet_text.specs.Words.{is_name, texts_of, end_of, session_of, plan_of, check_of, send_files, send_of, receive_files, receive_of, merge_of, video_of, command_of};
+ghost use Rattle.pet_text.specs.Words.{is_name, texts_of, end_of, session_of, plan_of, check_of, send_files, send_of, receive_files, receive_of, merge_of, video_of, id_of, unwrap_of, wrap_of, migrate_of, command_of};
 ghost use Rattle.pet_text.specs.inside.Forms.{command_in};
 ghost use Rattle.pet_text.specs.Ends.{end_in};
 
 use crate::end::read_end;
-use crate::session::read_session;
+use crate::session::{read_id, read_session};
 use outside_routes::Route;
 
 /// A command whose texts still stand in its words.
@@ -38,6 +38,19 @@ pub(crate) enum Form<'a> {
         out: &'a str,
     },
     Video {
+        store: &'a str,
+        out: &'a str,
+    },
+    Unwrap {
+        file: &'a str,
+        id: u8,
+        out: &'a str,
+    },
+    Wrap {
+        file: &'a str,
+        out: &'a str,
+    },
+    Migrate {
         store: &'a str,
         out: &'a str,
     },
@@ -74,6 +87,10 @@ fn two_words<'a>(word: &str, first: &'a str, second: &'a str) -> Option<Form<'a>
         plan_words(first, second)
     } else if same(word, "video") {
         video_words(first, second)
+    } else if same(word, "wrap") {
+        wrap_words(first, second)
+    } else if same(word, "migrate") {
+        migrate_words(first, second)
     } else {
         None
     }
@@ -90,6 +107,8 @@ fn three_words<'a>(word: &str, first: &'a str, second: &'a str, third: &'a str) 
         send_words(first, second, third)
     } else if same(word, "merge") {
         merge_words(first, second, third)
+    } else if same(word, "unwrap") {
+        unwrap_words(first, second, third)
     } else {
         None
     }
@@ -230,6 +249,37 @@ fn video_words<'a>(store: &'a str, out: &'a str) -> Option<Form<'a>>
         return None;
     }
     Some(Form::Video { store, out })
+}
+
+/// The words behind `unwrap`.
+fn unwrap_words<'a>(file: &'a str, id: &str, out: &'a str) -> Option<Form<'a>>
+    ensures { option_map command_in result ≡ unwrap_of file.now (id_of id.now) out.now }
+{
+    let id = read_id(id)?;
+    if file.is_empty() || out.is_empty() || same(out, file) {
+        return None;
+    }
+    Some(Form::Unwrap { file, id, out })
+}
+
+/// The words behind `wrap`.
+fn wrap_words<'a>(file: &'a str, out: &'a str) -> Option<Form<'a>>
+    ensures { option_map command_in result ≡ wrap_of file.now out.now }
+{
+    if file.is_empty() || out.is_empty() || same(out, file) {
+        return None;
+    }
+    Some(Form::Wrap { file, out })
+}
+
+/// The words behind `migrate`.
+fn migrate_words<'a>(store: &'a str, out: &'a str) -> Option<Form<'a>>
+    ensures { option_map command_in result ≡ migrate_of store.now out.now }
+{
+    if store.is_empty() || out.is_empty() || same(out, store) {
+        return None;
+    }
+    Some(Form::Migrate { store, out })
 }
 
 /// Whether two texts are one.

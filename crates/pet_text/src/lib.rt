@@ -1,12 +1,12 @@
-//! The texts of the program: the command words that it takes, the lines of `check`, `send`, `receive`, `merge` and `video`,
-//! and the statuses that it ends with. The text of `plan` is that of plan_text.
+//! The texts of the program: the command words that it takes, the lines of `check`, `send`, `receive`, `merge`, `video`,
+//! `unwrap`, `wrap` and `migrate`, and the statuses that it ends with. The text of `plan` is that of `text_plan`, the
+//! script that of `text_script`, and the stream of `sample` that of `stream_sample`.
 //!
-//! `read_words` reads exactly the words of a form. `least_line`, `send_line`, `merged_line`, `video_line` and `fault_line`,
-//! which take no memory, leave exactly the defined line; `bound_line` and `receive_line` append exactly theirs, or leave
-//! what they were to extend as it was.
+//! `read_words` reads exactly the words of a form. `least_line`, `send_line`, `merged_line`, `video_line`, `unwrapped_line`,
+//! `wrapped_line`, `migrated_line` and `fault_line`, which take no memory, leave exactly the defined line; `bound_line` and
+//! `receive_line` append exactly theirs, or leave what they were to extend as it was.
 #![tactic(auto)]
 
-mod append;
 mod end;
 mod form;
 mod lines;
@@ -16,11 +16,16 @@ mod status;
 mod words;
 
 pub use end::End;
-pub use lines::{bound_line, least_line, merged_line, receive_line, send_line, video_line};
+pub use lines::{
+    bound_line, least_line, merged_line, migrated_line, receive_line, send_line, unwrapped_line,
+    video_line, wrapped_line,
+};
 pub use name::Name;
 pub use status::{PlanKind, Status, fault_line};
+pub use stream_sample::sample_stream;
 pub use stream_session::GroupMark;
 pub use text_plan::{
     PlanFault, Repeat, lengths_line, plan_group_line, plan_layer_line, plan_session_line, read_plan,
 };
+pub use text_script::{ScriptFault, read_script};
 pub use words::{Command, WordsFault, read_words};

@@ -1,12 +1,12 @@
 //! The printed lines.
 ghost use Rattle.std.specs.Prelude.{◌≡◌, ◌++◌, [], OnOk, OnErr};
 ghost use Rattle.text_plan.specs.PlanLines.{least_text, send_text};
-ghost use Rattle.pet_text.specs.Lines.{bound_text, receive_text, merged_text, video_text};
+ghost use Rattle.pet_text.specs.Lines.{bound_text, receive_text, merged_text, video_text, unwrapped_text, wrapped_text, migrated_text};
 
-use crate::append::{append_count, append_number, append_session, append_text};
 use arrayvec::ArrayVec;
 use pet_base::NoMemory;
 use std::alloc::Global;
+use text_pieces::{append_count, append_session, append_text, number_line};
 
 /// Appends the line of the port at which a link receives. After a refusal `into` is as before.
 pub fn bound_line(alloc: Global, port: u16, into: &mut Vec<u8>) -> Result<(), NoMemory>
@@ -40,9 +40,7 @@ pub fn least_line(groups: u32, into: &mut ArrayVec<u8, 64>)
     requires { into.old.items ≡ [] }
     ensures { into.new.items ≡ least_text groups }
 {
-    append_text("least ", into);
-    append_number(u64::from(groups), into);
-    append_text("\n", into);
+    number_line("least ", u64::from(groups), into);
 }
 
 /// Leaves the line of `send` in `into`, which must be empty: the session's number in hexadecimal digits, its groups, and the
@@ -65,9 +63,7 @@ pub fn merged_line(datagrams: u32, into: &mut ArrayVec<u8, 64>)
     requires { into.old.items ≡ [] }
     ensures { into.new.items ≡ merged_text datagrams }
 {
-    append_text("merged ", into);
-    append_number(u64::from(datagrams), into);
-    append_text("\n", into);
+    number_line("merged ", u64::from(datagrams), into);
 }
 
 /// Leaves the line of `video` in `into`, which must be empty: how many bytes the video of the store has. It takes no memory.
@@ -75,7 +71,29 @@ pub fn video_line(bytes: u64, into: &mut ArrayVec<u8, 64>)
     requires { into.old.items ≡ [] }
     ensures { into.new.items ≡ video_text bytes }
 {
-    append_text("video ", into);
-    append_number(bytes, into);
-    append_text("\n", into);
+    number_line("video ", bytes, into);
+}
+
+/// Leaves the line of `unwrap` in `into`, which must be empty: how many bytes the video has. It takes no memory.
+pub fn unwrapped_line(bytes: u64, into: &mut ArrayVec<u8, 64>)
+    requires { into.old.items ≡ [] }
+    ensures { into.new.items ≡ unwrapped_text bytes }
+{
+    number_line("unwrapped ", bytes, into);
+}
+
+/// Leaves the line of `wrap` in `into`, which must be empty: how many bytes the system stream has. It takes no memory.
+pub fn wrapped_line(bytes: u64, into: &mut ArrayVec<u8, 64>)
+    requires { into.old.items ≡ [] }
+    ensures { into.new.items ≡ wrapped_text bytes }
+{
+    number_line("wrapped ", bytes, into);
+}
+
+/// Leaves the line of `migrate` in `into`, which must be empty: how many datagrams the new store has. It takes no memory.
+pub fn migrated_line(datagrams: u32, into: &mut ArrayVec<u8, 64>)
+    requires { into.old.items ≡ [] }
+    ensures { into.new.items ≡ migrated_text datagrams }
+{
+    number_line("migrated ", u64::from(datagrams), into);
 }

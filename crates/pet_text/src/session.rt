@@ -1,6 +1,6 @@
-//! A session number in a command word.
+//! A session number, and the id of a video, in a command word.
 ghost use Rattle.std.specs.Prelude.{◌≡◌, ◌<◌, length, option_map};
-ghost use Rattle.pet_text.specs.Words.{digit_of, byte_of, session_of};
+ghost use Rattle.pet_text.specs.Words.{digit_of, byte_of, session_of, id_of};
 
 /// The session number that sixteen digits out of `0` to `9` and `a` to `f` spell.
 pub fn read_session(word: &str) -> Option<[u8; 8]>
@@ -15,6 +15,16 @@ pub fn read_session(word: &str) -> Option<[u8; 8]>
         session[at] = read_byte(digits[2 * at], digits[2 * at + 1])?;
     }
     Some(session)
+}
+
+/// The id of a video that `e0` to `ef` spell.
+pub fn read_id(word: &str) -> Option<u8>
+    ensures { result ≡ id_of word.now }
+{
+    match word.as_bytes() {
+        [b'e', digit] => Some(0xE0 + read_digit(*digit)?),
+        _ => None,
+    }
 }
 
 /// The byte of two digits, the high one first.

@@ -1,17 +1,17 @@
 //! How the program ends.
 ghost use Rattle.std.specs.Prelude.{◌≡◌, ◌+◌, ◌≤◌, [], ◌++◌, length, codes, decimal};
 ghost use Rattle.arrayvec.specs.ArrayVec.{array_vec_len};
-ghost use Rattle.mpeg_scan.specs.declared.refusal.Scan.TheVariants.{PictureType};
-ghost use Rattle.pet_text.specs.declared.status.Status.TheVariants.{BadStream, BadPriority, BadPlan, BadStore, Clash};
-ghost use Rattle.pet_text.specs.Lines.{code_of, scan_text, priority_text, plan_kind_text, store_kind_text, fault_text};
+ghost use Rattle.pet_text.specs.declared.status.Status.TheVariants.{BadStream, BadPriority, BadPlan, BadStore, Clash, BadSystem};
+ghost use Rattle.pet_text.specs.Lines.{code_of, scan_text, system_text, priority_text, plan_kind_text, store_kind_text, fault_text};
 
-use crate::append::{append_byte, append_number, append_text};
 use arrayvec::ArrayVec;
 use mpeg_scan::Scan;
+use mpeg_system::System;
 use pet_base::MAX_STREAM;
 use priority_file::PriorityFault;
 use store_text::StoreKind;
 use stream_session::GroupMark;
+use text_pieces::{append_byte, append_number, append_text, number_line};
 
 /// Why a stream has no plan, or a plan file is refused. Each kind comes with a number.
 #[derive(Clone, Copy, Debug, PartialEq, Eq)]
@@ -89,10 +89,16 @@ pub enum Status {
     Changed(u32, GroupMark, GroupMark),
     /// With this group the groups would cost more than the limit.
     Full(u32),
+    /// The system stream is refused.
+    BadSystem(System),
+    /// The store is one of today already.
+    AlreadyNew,
+    /// The datagrams of this group, the first such, would be longer than 65,000 bytes.
+    TooWide(u32),
 }
 
 impl Status {
-    /// The exit status of the program, from 0 to 19.
+    /// The exit status of the program, from 0 to 19, and 24.
     pub fn code(&self) -> u8
         ensures { result ≡ code_of self.now }
     {
@@ -115,6 +121,9 @@ impl Status {
             Status::NotLeast(_) => 16,
             Status::Changed(_, _, _) => 17,
             Status::Full(_) => 19,
+            Status::BadSystem(_) => 24,
+            Status::AlreadyNew => 18,
+            Status::TooWide(_) => 20,
         }
     }
 }
@@ -139,10 +148,13 @@ pub fn fault_line(status: &Status, into: &mut ArrayVec<u8, 64>)
         Status::Clash(group, number) => clash_fault(*group, *number, into),
         Status::Incomplete => append_text("fault incomplete\n", into),
         Status::TurnsSpent => append_text("fault turns\n", into),
-        Status::BadTable(group) => group_fault("fault table ", *group, into),
-        Status::NotLeast(group) => group_fault("fault least ", *group, into),
-        Status::Changed(group, _, _) => group_fault("fault changed ", *group, into),
-        Status::Full(group) => group_fault("fault full ", *group, into),
+        Status::BadTable(group) => number_line("fault table ", u64::from(*group), into),
+        Status::NotLeast(group) => number_line("fault least ", u64::from(*group), into),
+        Status::Changed(group, _, _) => number_line("fault changed ", u64::from(*group), into),
+        Status::Full(group) => number_line("fault full ", u64::from(*group), into),
+        Status::BadSystem(fault) => system_fault(fault, into),
+        Status::AlreadyNew => append_text("fault version\n", into),
+        Status::TooWide(group) => number_line("fault wide ", u64::from(*group), into),
     }
 }
 
@@ -166,7 +178,7 @@ fn append_scan(fault: &Scan, into: &mut ArrayVec<u8, 64>)
         Scan::Empty => append_text("Empty 0", into),
         Scan::NoHead(at) => append_numbered("NoHead ", *at, into),
         Scan::System(at) => append_numbered("System ", *at, into),
-        Scan::PictureType(at, kind) => append_picture_type(*at, *kind, into),
+        Scan::PictureType(at, kind) => append_pair("PictureType ", *at, *kind, into),
         Scan::ShortPicture(at) => append_numbered("ShortPicture ", *at, into),
         Scan::TooLong => append_numbered("TooLong ", MAX_STREAM, into),
         Scan::NoMemory => append_text("NoMemory 0", into),
@@ -184,15 +196,44 @@ fn append_numbered(text: &str, number: u64, into: &mut ArrayVec<u8, 64>)
     append_number(number, into);
 }
 
-/// Appends where a picture stands, and its type.
-fn append_picture_type(at: u64, kind: u8, into: &mut ArrayVec<u8, 64>)
-    requires { array_vec_len into.old ≤ 20 }
-    ensures text { into.new.items ≡ into.old.items ++ scan_text (PictureType at kind) }
+/// Appends a text of at most 12 bytes, a number, and a byte behind it.
+fn append_pair(text: &str, number: u64, byte: u8, into: &mut ArrayVec<u8, 64>)
+    requires begun { array_vec_len into.old ≤ 20 }
+    requires short { length text.now ≤ 12 }
+    ensures text { into.new.items ≡ into.old.items ++ text.now ++ decimal number ++ codes " " ++ decimal byte }
     ensures len { array_vec_len into.new ≤ array_vec_len into.old + 36 }
 {
-    append_numbered("PictureType ", at, into);
+    append_numbered(text, number, into);
     append_text(" ", into);
-    append_byte(kind, into);
+    append_byte(byte, into);
+}
+
+/// The line of a refused system stream.
+fn system_fault(fault: &System, into: &mut ArrayVec<u8, 64>)
+    requires { into.old.items ≡ [] }
+    ensures { into.new.items ≡ fault_text (BadSystem fault.now) }
+{
+    append_text("fault system ", into);
+    append_system(fault, into);
+    append_text("\n", into);
+}
+
+/// Appends the kind of a system stream's refusal, and where it stands.
+fn append_system(fault: &System, into: &mut ArrayVec<u8, 64>)
+    requires { array_vec_len into.old ≤ 20 }
+    ensures text { into.new.items ≡ into.old.items ++ system_text fault.now }
+    ensures len { array_vec_len into.new ≤ array_vec_len into.old + 36 }
+{
+    match fault {
+        System::NoStart(at) => append_numbered("NoStart ", *at, into),
+        System::NotUnit(at, code) => append_pair("NotUnit ", *at, *code, into),
+        System::Pack(at) => append_numbered("Pack ", *at, into),
+        System::Cut(at) => append_numbered("Cut ", *at, into),
+        System::Header(at) => append_numbered("Header ", *at, into),
+        System::NoVideo => append_text("NoVideo 0", into),
+        System::TooLong => append_numbered("TooLong ", MAX_STREAM, into),
+        System::NoMemory => append_text("NoMemory 0", into),
+    }
 }
 
 /// The line of a refused priority file.
@@ -280,16 +321,5 @@ fn clash_fault(group: u32, number: u16, into: &mut ArrayVec<u8, 64>)
     append_number(u64::from(group), into);
     append_text(" ", into);
     append_number(u64::from(number), into);
-    append_text("\n", into);
-}
-
-/// The line of a group, behind words of at most 14 bytes.
-fn group_fault(words: &str, group: u32, into: &mut ArrayVec<u8, 64>)
-    requires begun { into.old.items ≡ [] }
-    requires short { length words.now ≤ 14 }
-    ensures { into.new.items ≡ words.now ++ decimal group ++ codes "\n" }
-{
-    append_text(words, into);
-    append_number(u64::from(group), into);
     append_text("\n", into);
 }

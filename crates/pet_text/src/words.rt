@@ -1,6 +1,6 @@
 //! The command words.
 ghost use Rattle.std.specs.Prelude.{◌≡◌, ◌↔◌, Err, None, Some, IfOk};
-ghost use Rattle.pet_text.specs.declared.words.Command.TheVariants.{Plan, Check, Send, Receive, Merge, Video};
+ghost use Rattle.pet_text.specs.declared.words.Command.TheVariants.{Plan, Check, Send, Receive, Merge, Video, Unwrap, Wrap, Migrate};
 ghost use Rattle.pet_text.specs.Words.{texts_of, command_of};
 ghost use Rattle.pet_text.specs.inside.Forms.{command_in};
 ghost use Rattle.pet_text.specs.Ends.{end_in};
@@ -66,6 +66,29 @@ pub enum Command {
         /// The file that the video is written to, which differs from that of the store.
         out: Name,
     },
+    /// Writes the video of an id that a system stream has.
+    Unwrap {
+        /// The file of the system stream.
+        file: Name,
+        /// The id, from E0 to EF.
+        id: u8,
+        /// The file that the video is written to, which differs from that of the system stream.
+        out: Name,
+    },
+    /// Writes a system stream that has a video.
+    Wrap {
+        /// The file of the video.
+        file: Name,
+        /// The file that the system stream is written to, which differs from that of the video.
+        out: Name,
+    },
+    /// Writes the packets of a store of the first version as a store of today.
+    Migrate {
+        /// The file of the store.
+        store: Name,
+        /// The file that the new store is written to, which differs from that of the old one.
+        out: Name,
+    },
 }
 
 /// Why there is no command.
@@ -123,6 +146,9 @@ fn own_command(alloc: Global, form: Form<'_>) -> Result<Command, AllocError>
         } => own_receive(alloc, from, session, layers, store),
         Form::Merge { first, second, out } => own_merge(alloc, first, second, out),
         Form::Video { store, out } => own_video(alloc, store, out),
+        Form::Unwrap { file, id, out } => own_unwrap(alloc, file, id, out),
+        Form::Wrap { file, out } => own_wrap(alloc, file, out),
+        Form::Migrate { store, out } => own_migrate(alloc, store, out),
     }
 }
 
@@ -201,4 +227,28 @@ fn own_video(alloc: Global, store: &str, out: &str) -> Result<Command, AllocErro
     let store = Name::new(alloc, store)?;
     let out = Name::new(alloc, out)?;
     Ok(Command::Video { store, out })
+}
+
+fn own_unwrap(alloc: Global, file: &str, id: u8, out: &str) -> Result<Command, AllocError>
+    ensures { IfOk result (λ command. command ≡ Unwrap file.now id out.now) }
+{
+    let file = Name::new(alloc, file)?;
+    let out = Name::new(alloc, out)?;
+    Ok(Command::Unwrap { file, id, out })
+}
+
+fn own_wrap(alloc: Global, file: &str, out: &str) -> Result<Command, AllocError>
+    ensures { IfOk result (λ command. command ≡ Wrap file.now out.now) }
+{
+    let file = Name::new(alloc, file)?;
+    let out = Name::new(alloc, out)?;
+    Ok(Command::Wrap { file, out })
+}
+
+fn own_migrate(alloc: Global, store: &str, out: &str) -> Result<Command, AllocError>
+    ensures { IfOk result (λ command. command ≡ Migrate store.now out.now) }
+{
+    let store = Name::new(alloc, store)?;
+    let out = Name::new(alloc, out)?;
+    Ok(Command::Migrate { store, out })
 }

@@ -34,6 +34,8 @@ use Rattle.command_receive.specs.laws.LineLaws.{can_receive_before, received_wit
 use Rattle.command_receive.specs.laws.SessionReceived.{completes_receive}
 use Rattle.command_merge.specs.Merges.{Merges}
 use Rattle.command_merge.specs.laws.SessionMerged.{completes_merge}
+use Rattle.command_migrate.specs.Migrates.{Migrates}
+use Rattle.command_migrate.specs.laws.SessionMigrated.{completes_migrate}
 use Rattle.command_video.specs.Videos.{Videos}
 use Rattle.command_video.specs.VideosSession.{HasStoreOf, VideosSession}
 use Rattle.command_video.specs.laws.SessionVideo.{completes_video}
@@ -46,21 +48,25 @@ use Rattle.command_send.specs.laws.EndLaws.{sends_session}
 use Rattle.pet_text.specs.declared.status.Status.{Status}
 use Rattle.pet_text.specs.declared.status.Status.TheVariants.{Done, Incomplete, TurnsSpent}
 use Rattle.pet_text.specs.declared.words.Command.{Command}
-use Rattle.pet_text.specs.declared.words.Command.TheVariants.{Plan, Check, Send, Receive, Merge, Video}
+use Rattle.pet_text.specs.declared.words.Command.TheVariants.{Plan, Check, Send, Receive, Merge, Video, Unwrap, Wrap}
+use Rattle.pet_text.specs.declared.words.Command.TheVariants.{Migrate}
 use Rattle.outside_routes.specs.RouteFaults.{AimedFailed}
 use Rattle.outside_routes.specs.Sending.{Sent}
 use Rattle.outside_routes.specs.Way.{Way, OnFile, OnLink}
 use Rattle.pet_text.specs.Ends.{way_in}
 use Rattle.pet_text.specs.Lines.{fault_text, video_text}
 use Rattle.pet_tool.specs.Completes.{Completes, CompletesPlan, CompletesCheck, CompletesSend, CompletesMerge}
+use Rattle.pet_tool.specs.Completes.{CompletesMigrate}
 use Rattle.pet_tool.specs.declared.end.End.{End}
 use Rattle.pet_tool.specs.declared.end.End.TheVariants as end
 use Rattle.pet_tool.specs.Does.{Does, Runs, OnFiles, OnRead}
 use Rattle.pet_tool.specs.Lines.{line_of, line_of_plan, line_of_check, line_of_send, line_of_merge, line_of_video}
+use Rattle.pet_tool.specs.Lines.{line_of_migrate}
+use Rattle.pet_tool.proofs.SystemCompleted.{unwrap_completes, wrap_completes}
 use Rattle.pet_tool.proofs.Telling.{silent, told, Told}
 use Rattle.pet_tool.specs.Headline.{Headline, HasWhatWasSent, NamesWhatItStores, ReceivesWhatWasSent}
 use Rattle.pet_tool.specs.Statuses.{status_of, status_of_plan, status_of_check, status_of_send, status_of_receive}
-use Rattle.pet_tool.specs.Statuses.{status_of_merge, status_of_video}
+use Rattle.pet_tool.specs.Statuses.{status_of_merge, status_of_video, status_of_migrate}
 use Rattle.pet_tool.specs.Undisturbed.{IsUndisturbed, EndsWith}
 
 -- the lines and then that of the status which the end has
@@ -266,6 +272,24 @@ merge_completes first second out before after status runs = λ s files a b calm 
           (ap status_of_merge merged.ended) (ap line_of_merge merged.ended),
     )
 
+migrate_completes : (store out : List ℕ) (before after : OutsideSeen) (status : Status)
+    → Runs end.Migrate (OnFiles (Migrates store out)) before after status
+    → CompletesMigrate store out before after status
+migrate_completes store out before after status runs = λ s files pairs calm given.
+    let only = runs.did in
+    let all = reading store ∷ writing out ∷ [] in
+    let said = told (line_of_migrate runs.end) (status_of_migrate runs.end) runs.between after status runs.tells
+    (λ rose. calm.well.out (subst (λ (n : ℕ). Rose n after.out_faults) only.out_faults rose)) in
+    let migrated = completes_migrate store out before.place runs.between.place runs.end only.did s files pairs (record {
+      memory = λ none. calm.memory (said.ended ∙ ap status_of_migrate none);
+      well = λ had. calm.well.place (subst (λ (now : Seen). Failed all before.place now) (sym said.place) had);
+      given = given;
+    }) in (
+      ap (λ (now : Seen). now.files) said.place ∙ migrated.file,
+      done_with end.Migrate before runs.between after runs.end status _ only.written said
+          (ap status_of_migrate migrated.ended) (ap line_of_migrate migrated.ended),
+    )
+
 -- what `video` completed, and what was told of it
 module _ (store out : List ℕ) (before after : OutsideSeen) (status : Status)
     (runs : Runs end.Video (OnFiles (Videos store out)) before after status) (p b : List ℕ) (files : Files)
@@ -323,3 +347,6 @@ completes (Some (Video store out)) before after status runs = record {
   shown = video_shown store out before after status runs;
   whole = video_whole store out before after status runs;
 }
+completes (Some (Unwrap file id out)) before after status runs = unwrap_completes file id out before after status runs
+completes (Some (Wrap file out)) before after status runs = wrap_completes file out before after status runs
+completes (Some (Migrate store out)) before after status runs = migrate_completes store out before after status runs

@@ -17,6 +17,14 @@ use Rattle.command_merge.specs.declared.command.MergeEnd.TheVariants as merge
 use Rattle.command_video.specs.Ends.{has_failed as video_failed}
 use Rattle.command_video.specs.declared.command.VideoEnd.{VideoEnd}
 use Rattle.command_video.specs.declared.command.VideoEnd.TheVariants as video
+use Rattle.mpeg_system.specs.Ends.{unwrap_failed, wrap_failed}
+use Rattle.mpeg_system.specs.declared.unwrap_files.UnwrapEnd.{UnwrapEnd}
+use Rattle.mpeg_system.specs.declared.unwrap_files.UnwrapEnd.TheVariants as unwrap
+use Rattle.mpeg_system.specs.declared.wrap_files.WrapEnd.{WrapEnd}
+use Rattle.mpeg_system.specs.declared.wrap_files.WrapEnd.TheVariants as wrap
+use Rattle.command_migrate.specs.Ends.{has_failed as migrate_failed}
+use Rattle.command_migrate.specs.declared.command.MigrateEnd.{MigrateEnd}
+use Rattle.command_migrate.specs.declared.command.MigrateEnd.TheVariants as migrate
 use Rattle.command_send.specs.Failures.{end_of_place as send_place, end_of_link as send_link}
 use Rattle.command_send.specs.declared.command.SendEnd.{SendEnd}
 use Rattle.command_send.specs.declared.command.SendEnd.TheVariants as send
@@ -28,8 +36,10 @@ use Rattle.pet_text.specs.declared.status.Status.TheVariants.{Done}
 use Rattle.pet_tool.specs.declared.end.End.{End}
 use Rattle.pet_tool.specs.Does.{Runs}
 use Rattle.pet_tool.specs.Lines.{line_of, line_of_plan, line_of_check, line_of_send, line_of_merge, line_of_video}
+use Rattle.pet_tool.specs.Lines.{line_of_unwrap, line_of_wrap, line_of_migrate}
 use Rattle.pet_tool.specs.Statuses.{of_place, of_link, status_of, status_of_session, status_of_plan, status_of_check}
 use Rattle.pet_tool.specs.Statuses.{status_of_send, status_of_receive, status_of_merge, status_of_video}
+use Rattle.pet_tool.specs.Statuses.{status_of_unwrap, status_of_wrap, status_of_migrate}
 use Rattle.pet_tool.specs.Told.{Tells}
 use Rattle.pet_tool.proofs.Telling.{strikes}
 
@@ -90,6 +100,28 @@ video_agrees video.NoMemory = unlined refl refl
 video_agrees video.PlaceFault = unlined refl refl
 video_agrees (video.BadStore at kind) = unlined refl refl
 video_agrees (video.BadTable group) = unlined refl refl
+
+pub unwrap_agrees : (end : UnwrapEnd) → Agrees (unwrap_failed end) false (line_of_unwrap end) (status_of_unwrap end)
+unwrap_agrees (unwrap.Done bytes) = lined (line_of_unwrap (unwrap.Done bytes))
+unwrap_agrees unwrap.NoMemory = unlined refl refl
+unwrap_agrees unwrap.PlaceFault = unlined refl refl
+unwrap_agrees (unwrap.BadSystem fault) = unlined refl refl
+
+pub wrap_agrees : (end : WrapEnd) → Agrees (wrap_failed end) false (line_of_wrap end) (status_of_wrap end)
+wrap_agrees (wrap.Done bytes) = lined (line_of_wrap (wrap.Done bytes))
+wrap_agrees wrap.NoMemory = unlined refl refl
+wrap_agrees wrap.PlaceFault = unlined refl refl
+wrap_agrees (wrap.BadSystem fault) = unlined refl refl
+
+pub migrate_agrees : (end : MigrateEnd)
+    → Agrees (migrate_failed end) false (line_of_migrate end) (status_of_migrate end)
+migrate_agrees (migrate.Done packets) = lined (line_of_migrate (migrate.Done packets))
+migrate_agrees migrate.NoMemory = unlined refl refl
+migrate_agrees migrate.PlaceFault = unlined refl refl
+migrate_agrees migrate.AlreadyNew = unlined refl refl
+migrate_agrees (migrate.BadStore at kind) = unlined refl refl
+migrate_agrees (migrate.TooWide group) = unlined refl refl
+migrate_agrees (migrate.Full group) = unlined refl refl
 
 pub send_agrees : (end : SendEnd) → Agrees (send_place end) (send_link end) (line_of_send end) (status_of_send end)
 send_agrees (send.Done sent) = lined (line_of_send (send.Done sent))

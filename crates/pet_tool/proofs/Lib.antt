@@ -1,5 +1,6 @@
 pub mod Telling
 pub mod Ends
+pub mod SystemCompleted
 pub mod Completing
 pub mod NoMemory
 pub mod WordsRead

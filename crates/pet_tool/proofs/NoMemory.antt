@@ -8,9 +8,13 @@ use Rattle.command_send.specs.declared.command.SendEnd.TheVariants as send
 use Rattle.command_receive.specs.declared.command.ReceiveEnd.TheVariants as receive
 use Rattle.command_merge.specs.declared.command.MergeEnd.TheVariants as merge
 use Rattle.command_video.specs.declared.command.VideoEnd.TheVariants as video
+use Rattle.mpeg_system.specs.declared.unwrap_files.UnwrapEnd.TheVariants as unwrap
+use Rattle.mpeg_system.specs.declared.wrap_files.WrapEnd.TheVariants as wrap
+use Rattle.command_migrate.specs.declared.command.MigrateEnd.TheVariants as migrate
 use Rattle.pet_text.specs.declared.status.Status.TheVariants.{NoMemory}
 use Rattle.pet_text.specs.declared.words.Command.{Command}
-use Rattle.pet_text.specs.declared.words.Command.TheVariants.{Plan, Check, Send, Receive, Merge, Video}
+use Rattle.pet_text.specs.declared.words.Command.TheVariants.{Plan, Check, Send, Receive, Merge, Video, Unwrap, Wrap}
+use Rattle.pet_text.specs.declared.words.Command.TheVariants.{Migrate}
 use Rattle.command_receive.specs.laws.SessionReceived.{nothing_received}
 use Rattle.pet_text.specs.Ends.{way_in}
 use Rattle.pet_text.specs.declared.end.End.TheVariants.{File, Udp}
@@ -102,6 +106,33 @@ module _ (before after : OutsideSeen) (status : Status) (tells : Tells [] NoMemo
         tells = tells;
         once = no_failure;
       }
+  no_memory (Unwrap file id out) = record {
+    between = before;
+    end = unwrap.NoMemory;
+    did =
+        record {
+          link = refl;
+          written = refl;
+          out_faults = refl;
+          did = inl (Wrote-nothing before.place before.place refl);
+        };
+    tells = tells;
+    once = no_failure;
+  }
+  no_memory (Wrap file out) = record {
+    between = before;
+    end = wrap.NoMemory;
+    did = record { link = refl; written = refl; out_faults = refl; did = Wrote-nothing before.place before.place refl };
+    tells = tells;
+    once = no_failure;
+  }
+  no_memory (Migrate store out) = record {
+    between = before;
+    end = migrate.NoMemory;
+    did = record { link = refl; written = refl; out_faults = refl; did = refl };
+    tells = tells;
+    once = no_failure;
+  }
 
   pub does_no_memory : (command : Option Command) → (command ≡ None → ⊥) → Does command before after status
   does_no_memory None some = absurd (some refl)

@@ -118,6 +118,9 @@ usage_told e status before after line known = (
     to (end.Receive x) known is = absurd (known (λ same. cc) is)
     to (end.Merge x) known is = absurd (known (λ same. cc) is)
     to (end.Video x) known is = absurd (known (λ same. cc) is)
+    to (end.Unwrap x) known is = absurd (known (λ same. cc) is)
+    to (end.Wrap x) known is = absurd (known (λ same. cc) is)
+    to (end.Migrate x) known is = absurd (known (λ same. cc) is)
 
     from : PrintedWhole [] Usage before after status ⊎ PrintedShort [] before after status → status ≡ Usage
     from (inl whole) = whole.ended

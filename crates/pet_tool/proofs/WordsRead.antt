@@ -1,13 +1,14 @@
 -- The words that were read, as they are handed to a command.
-use Rattle.std.proofs.Common.{◌≡◌, ℕ, List, Some, sym, ap, subst, ◌∙◌}
+use Rattle.std.proofs.Common.{◌≡◌, ◌≤◌, ℕ, List, Some, sym, ap, subst, ◌∙◌}
 use Rattle.outside_routes.specs.Way.{Way}
 use Rattle.command_send.specs.Sends.{IsOther}
 use Rattle.pet_text.specs.declared.words.Command.{Command}
-use Rattle.pet_text.specs.declared.words.Command.TheVariants.{Check, Send}
+use Rattle.pet_text.specs.declared.words.Command.TheVariants.{Check, Send, Unwrap}
 use Rattle.pet_text.specs.declared.end.End.{End}
 use Rattle.pet_text.specs.declared.end.End.TheVariants.{File, Udp}
 use Rattle.pet_text.specs.Ends.{way_in}
 use Rattle.pet_text.specs.Words.{command_of}
+use Rattle.pet_text.specs.laws.VideoIdLaws.{HasVideoId, has_video_id}
 use Rattle.pet_text.specs.laws.WordLaws.{send_differs}
 
 other_file : (stream priority : List ℕ) (end : End) (words : List (List ℕ))
@@ -30,3 +31,16 @@ pub check_words : (command : Command) (stream priority file s p f : List ℕ) �
 check_words command stream priority file s p f is s_is p_is f_is =
     is ∙ ap (λ (x : List ℕ). Check x priority file) (sym s_is) ∙ ap (λ (x : List ℕ). Check s x file) (sym p_is)
     ∙ ap (λ (x : List ℕ). Check s p x) (sym f_is)
+
+-- the id of `unwrap` is that of a video
+pub video_id_in : (words : List (List ℕ)) (command : Command) (file out : List ℕ) (id : ℕ)
+    → command_of words ≡ Some command
+    → command ≡ Unwrap file id out → (0xE0 ≤ id) × (id ≤ 0xEF)
+video_id_in words command file out id words_are is =
+    subst (λ (c : Command). HasVideoId c) is (has_video_id command words words_are)
+
+-- the command, by the words that are handed to `unwrap`
+pub unwrap_words : (command : Command) (file : List ℕ) (id : ℕ) (out f o : List ℕ) → command ≡ Unwrap file id out
+    → f ≡ file → o ≡ out → command ≡ Unwrap f id o
+unwrap_words command file id out f o is f_is o_is =
+    is ∙ ap (λ (x : List ℕ). Unwrap x id out) (sym f_is) ∙ ap (λ (x : List ℕ). Unwrap f id x) (sym o_is)

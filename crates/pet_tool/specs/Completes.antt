@@ -1,5 +1,6 @@
 -- When each command is done, and what it then does; for `receive` this is the headline. This project's own.
-use Rattle.std.specs.Prelude.{◌≡◌, ℕ, true, List, [], ◌∷◌, ◌++◌, length, Option, None, Some}
+use Rattle.std.specs.Prelude.{◌≡◌, ℕ, ◌<◌, ◌≤◌, true, List, [], ◌∷◌, ◌++◌, length, Option, None, Some}
+use Rattle.pet_base.specs.declared.limits.TheConstants.{MAX_STREAM}
 use Rattle.pet_base.specs.OutsideSeen.{OutsideSeen}
 use Rattle.outside_files.specs.Uses.{reading, writing}
 use Rattle.pet_base.specs.Seen.{Files, with_file}
@@ -8,6 +9,7 @@ use Rattle.packet_met.specs.Gf16.{met_frames}
 use Rattle.packet_met.specs.Met.{Pair, all_shown}
 use Rattle.packet_met.specs.MetStore.{pairs_store}
 use Rattle.command_merge.specs.MergesSession.{HasStoresOf}
+use Rattle.command_migrate.specs.MigratesSession.{HasOldStoreOf}
 use Rattle.command_video.specs.StreamVideo.{stream_video}
 use Rattle.command_video.specs.VideosSession.{HasStoreOf}
 use Rattle.stream_session.specs.Accepted.{session_of}
@@ -18,11 +20,17 @@ use Rattle.command_send.specs.SendsSession.{SendsAll, uses}
 use Rattle.outside_routes.specs.RouteFaults.{AimedFailed}
 use Rattle.outside_routes.specs.Way.{Way}
 use Rattle.text_plan.specs.PlanLines.{least_text}
-use Rattle.pet_text.specs.Lines.{merged_text, video_text}
+use Rattle.mpeg_system.specs.declared.refusal.System.{System}
+use Rattle.mpeg_system.specs.declared.refusal.System.TheVariants.{TooLong}
+use Rattle.mpeg_system.specs.Completes.{HasFile}
+use Rattle.mpeg_system.specs.Videos.{refusal_of, video_of}
+use Rattle.mpeg_system.specs.Wrapped.{wrapped}
+use Rattle.pet_text.specs.Lines.{merged_text, video_text, unwrapped_text, wrapped_text, migrated_text}
 use Rattle.pet_text.specs.declared.status.Status.{Status}
-use Rattle.pet_text.specs.declared.status.Status.TheVariants.{Done}
+use Rattle.pet_text.specs.declared.status.Status.TheVariants.{Done, BadSystem}
 use Rattle.pet_text.specs.declared.words.Command.{Command}
-use Rattle.pet_text.specs.declared.words.Command.TheVariants.{Plan, Check, Send, Receive, Merge, Video}
+use Rattle.pet_text.specs.declared.words.Command.TheVariants.{Plan, Check, Send, Receive, Merge, Video, Unwrap, Wrap}
+use Rattle.pet_text.specs.declared.words.Command.TheVariants.{Migrate}
 use Rattle.pet_text.specs.Ends.{way_in}
 use Rattle.pet_tool.specs.Headline.{MeetsHeadline}
 use Rattle.pet_tool.specs.Undisturbed.{IsUndisturbed, IsUndisturbedOn, EndsWith}
@@ -80,6 +88,40 @@ pub record CompletesVideo (store out : List ℕ) (before after : OutsideSeen) (s
   pub shown : ShowsStream store out before after status
   pub whole : GivesStream store out before after status
 
+-- Of a system stream that is told and has no refusal the video of the id is written, and of another the video up to its
+-- refusal,
+-- with which the run then ends.
+pub record CompletesUnwrap (file : List ℕ) (id : ℕ) (out : List ℕ) (before after : OutsideSeen)
+    (status : Status) : Type 0 where
+  pub accepted : (b : List ℕ) (files : Files) → IsUndisturbed (reading file ∷ writing out ∷ []) before after status
+      → HasFile file b files before.place → refusal_of id b ≡ None
+      → (after.place.files ≡ Some (with_file out (video_of id b) files))
+      × EndsWith Done (unwrapped_text (length (video_of id b))) before after status
+  pub refused : (b : List ℕ) (files : Files) → IsUndisturbed (reading file ∷ writing out ∷ []) before after status
+      → HasFile file b files before.place → (system : System) → refusal_of id b ≡ Some system
+      → (after.place.files ≡ Some (with_file out (video_of id b) files))
+      × EndsWith (BadSystem system) [] before after status
+
+-- Of a video that is told and not too long the wrapped form is written, and of a longer one no file.
+pub record CompletesWrap (file out : List ℕ) (before after : OutsideSeen) (status : Status) : Type 0 where
+  pub accepted : (b : List ℕ) (files : Files) → IsUndisturbed (reading file ∷ writing out ∷ []) before after status
+      → HasFile file b files before.place → length b ≤ MAX_STREAM
+      → (after.place.files ≡ Some (with_file out (wrapped b) files))
+      × EndsWith Done (wrapped_text (length (wrapped b))) before after status
+  pub refused : (b : List ℕ) (files : Files) → IsUndisturbed (reading file ∷ writing out ∷ []) before after status
+      → HasFile file b files before.place → MAX_STREAM < length b
+      → (after.place.files ≡ Some files) × EndsWith (BadSystem TooLong) [] before after status
+
+-- the old store of some packets of a session that can be sent today is taken into the store that `receive` writes of
+-- them
+abbrev pub CompletesMigrate : List ℕ → List ℕ → OutsideSeen → OutsideSeen → Status → Type 0
+CompletesMigrate store out before after status =
+    (s : Session) (files : Files) (pairs : List Pair)
+    → IsUndisturbed (reading store ∷ writing out ∷ []) before after status
+    → HasOldStoreOf s store files pairs before.place
+    → (after.place.files ≡ Some (with_file out (pairs_store s pairs) files))
+    × EndsWith Done (migrated_text (length (met_frames s pairs))) before after status
+
 -- a case for each form of words; of words of no form nothing is owed here
 abbrev pub Completes : Option Command → OutsideSeen → OutsideSeen → Status → Type 0
 Completes None before after status = Unit {0}
@@ -92,3 +134,6 @@ Completes (Some (Receive from session layers store)) before after status =
     MeetsHeadline (way_in from) session layers store before after status
 Completes (Some (Merge first second out)) before after status = CompletesMerge first second out before after status
 Completes (Some (Video store out)) before after status = CompletesVideo store out before after status
+Completes (Some (Unwrap file id out)) before after status = CompletesUnwrap file id out before after status
+Completes (Some (Wrap file out)) before after status = CompletesWrap file out before after status
+Completes (Some (Migrate store out)) before after status = CompletesMigrate store out before after status

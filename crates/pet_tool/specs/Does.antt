@@ -5,15 +5,19 @@ use Rattle.pet_base.specs.Seen.{Seen}
 use Rattle.outside_files.specs.Failures.{EndsAtOnce}
 use Rattle.outside_files.specs.Printed.{PrintsLine}
 use Rattle.command_merge.specs.Merges.{Merges}
+use Rattle.command_migrate.specs.Migrates.{Migrates}
 use Rattle.command_plan.specs.Checks.{Checks}
 use Rattle.command_plan.specs.Plans.{PlanEnds}
 use Rattle.command_receive.specs.Receives.{Receives}
 use Rattle.command_send.specs.Sends.{Sends}
 use Rattle.command_video.specs.Videos.{Videos}
+use Rattle.mpeg_system.specs.Unwraps.{Unwraps}
+use Rattle.mpeg_system.specs.Wraps.{Wraps}
 use Rattle.pet_text.specs.declared.status.Status.{Status}
 use Rattle.pet_text.specs.declared.status.Status.TheVariants.{Usage}
 use Rattle.pet_text.specs.declared.words.Command.{Command}
-use Rattle.pet_text.specs.declared.words.Command.TheVariants.{Plan, Check, Send, Receive, Merge, Video}
+use Rattle.pet_text.specs.declared.words.Command.TheVariants.{Plan, Check, Send, Receive, Merge, Video, Unwrap, Wrap}
+use Rattle.pet_text.specs.declared.words.Command.TheVariants.{Migrate}
 use Rattle.pet_text.specs.Ends.{way_in}
 use Rattle.pet_text.specs.Lines.{fault_text}
 use Rattle.pet_tool.specs.declared.end.End.{End}
@@ -67,3 +71,8 @@ Does (Some (Receive from session layers store)) before after status =
 Does (Some (Merge first second out)) before after status =
     Runs end.Merge (OnFiles (Merges first second out)) before after status
 Does (Some (Video store out)) before after status = Runs end.Video (OnFiles (Videos store out)) before after status
+Does (Some (Unwrap file id out)) before after status =
+    Runs end.Unwrap (OnFiles (Unwraps file id out)) before after status
+Does (Some (Wrap file out)) before after status = Runs end.Wrap (OnFiles (Wraps file out)) before after status
+Does (Some (Migrate store out)) before after status =
+    Runs end.Migrate (OnFiles (Migrates store out)) before after status

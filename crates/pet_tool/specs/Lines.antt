@@ -11,9 +11,16 @@ use Rattle.command_merge.specs.declared.command.MergeEnd.{MergeEnd}
 use Rattle.command_merge.specs.declared.command.MergeEnd.TheVariants as merge
 use Rattle.command_video.specs.declared.command.VideoEnd.{VideoEnd}
 use Rattle.command_video.specs.declared.command.VideoEnd.TheVariants as video
-use Rattle.pet_text.specs.Lines.{merged_text, video_text}
+use Rattle.mpeg_system.specs.declared.unwrap_files.UnwrapEnd.{UnwrapEnd}
+use Rattle.mpeg_system.specs.declared.unwrap_files.UnwrapEnd.TheVariants as unwrap
+use Rattle.mpeg_system.specs.declared.wrap_files.WrapEnd.{WrapEnd}
+use Rattle.mpeg_system.specs.declared.wrap_files.WrapEnd.TheVariants as wrap
+use Rattle.command_migrate.specs.declared.command.MigrateEnd.{MigrateEnd}
+use Rattle.command_migrate.specs.declared.command.MigrateEnd.TheVariants as migrate
+use Rattle.pet_text.specs.Lines.{merged_text, video_text, unwrapped_text, wrapped_text, migrated_text}
 use Rattle.pet_tool.specs.declared.end.End.{End}
 use Rattle.pet_tool.specs.declared.end.End.TheVariants.{Usage, NoMemory, Plan, Check, Send, Receive, Merge, Video}
+use Rattle.pet_tool.specs.declared.end.End.TheVariants.{Unwrap, Wrap, Migrate}
 
 abbrev pub line_of_plan : PlanEnd → List ℕ
 line_of_plan (plan.Done text) = text.items
@@ -62,6 +69,27 @@ line_of_video video.PlaceFault = []
 line_of_video (video.BadStore at kind) = []
 line_of_video (video.BadTable group) = []
 
+abbrev pub line_of_unwrap : UnwrapEnd → List ℕ
+line_of_unwrap (unwrap.Done bytes) = unwrapped_text bytes
+line_of_unwrap unwrap.NoMemory = []
+line_of_unwrap unwrap.PlaceFault = []
+line_of_unwrap (unwrap.BadSystem fault) = []
+
+abbrev pub line_of_wrap : WrapEnd → List ℕ
+line_of_wrap (wrap.Done bytes) = wrapped_text bytes
+line_of_wrap wrap.NoMemory = []
+line_of_wrap wrap.PlaceFault = []
+line_of_wrap (wrap.BadSystem fault) = []
+
+abbrev pub line_of_migrate : MigrateEnd → List ℕ
+line_of_migrate (migrate.Done packets) = migrated_text packets
+line_of_migrate migrate.NoMemory = []
+line_of_migrate migrate.PlaceFault = []
+line_of_migrate migrate.AlreadyNew = []
+line_of_migrate (migrate.BadStore at kind) = []
+line_of_migrate (migrate.TooWide group) = []
+line_of_migrate (migrate.Full group) = []
+
 -- `receive` prints its lines itself
 abbrev pub line_of : End → List ℕ
 line_of Usage = []
@@ -72,3 +100,6 @@ line_of (Send end) = line_of_send end
 line_of (Receive end) = []
 line_of (Merge end) = line_of_merge end
 line_of (Video end) = line_of_video end
+line_of (Unwrap end) = line_of_unwrap end
+line_of (Wrap end) = line_of_wrap end
+line_of (Migrate end) = line_of_migrate end

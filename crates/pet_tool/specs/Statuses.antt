@@ -15,6 +15,12 @@ use Rattle.command_merge.specs.declared.command.MergeEnd.{MergeEnd}
 use Rattle.command_merge.specs.declared.command.MergeEnd.TheVariants as merge
 use Rattle.command_video.specs.declared.command.VideoEnd.{VideoEnd}
 use Rattle.command_video.specs.declared.command.VideoEnd.TheVariants as video
+use Rattle.mpeg_system.specs.declared.unwrap_files.UnwrapEnd.{UnwrapEnd}
+use Rattle.mpeg_system.specs.declared.unwrap_files.UnwrapEnd.TheVariants as unwrap
+use Rattle.mpeg_system.specs.declared.wrap_files.WrapEnd.{WrapEnd}
+use Rattle.mpeg_system.specs.declared.wrap_files.WrapEnd.TheVariants as wrap
+use Rattle.command_migrate.specs.declared.command.MigrateEnd.{MigrateEnd}
+use Rattle.command_migrate.specs.declared.command.MigrateEnd.TheVariants as migrate
 use Rattle.pet_tool.specs.declared.end.End.{End}
 use Rattle.pet_tool.specs.declared.end.End.TheVariants as end
 use Rattle.pet_text.specs.declared.status.PlanKind.TheVariants as kind
@@ -22,7 +28,7 @@ use Rattle.pet_text.specs.declared.status.Status.{Status}
 use Rattle.pet_text.specs.declared.status.Status.TheVariants.{Done, Usage, NoMemory, PlaceFault, LinkFault, OutFault}
 use Rattle.pet_text.specs.declared.status.Status.TheVariants.{BadStream, BadPriority, BadPlan, BadStore, OtherSession}
 use Rattle.pet_text.specs.declared.status.Status.TheVariants.{Clash, Incomplete, TurnsSpent, BadTable, NotLeast}
-use Rattle.pet_text.specs.declared.status.Status.TheVariants.{Changed, Full}
+use Rattle.pet_text.specs.declared.status.Status.TheVariants.{Changed, Full, BadSystem, AlreadyNew, TooWide}
 
 -- of a session's refusal
 abbrev pub status_of_session : SessionFault → Status
@@ -90,6 +96,27 @@ status_of_video video.PlaceFault = PlaceFault
 status_of_video (video.BadStore at kind) = BadStore 1 at kind
 status_of_video (video.BadTable group) = BadTable group
 
+abbrev pub status_of_unwrap : UnwrapEnd → Status
+status_of_unwrap (unwrap.Done bytes) = Done
+status_of_unwrap unwrap.NoMemory = NoMemory
+status_of_unwrap unwrap.PlaceFault = PlaceFault
+status_of_unwrap (unwrap.BadSystem fault) = BadSystem fault
+
+abbrev pub status_of_wrap : WrapEnd → Status
+status_of_wrap (wrap.Done bytes) = Done
+status_of_wrap wrap.NoMemory = NoMemory
+status_of_wrap wrap.PlaceFault = PlaceFault
+status_of_wrap (wrap.BadSystem fault) = BadSystem fault
+
+abbrev pub status_of_migrate : MigrateEnd → Status
+status_of_migrate (migrate.Done packets) = Done
+status_of_migrate migrate.NoMemory = NoMemory
+status_of_migrate migrate.PlaceFault = PlaceFault
+status_of_migrate migrate.AlreadyNew = AlreadyNew
+status_of_migrate (migrate.BadStore at kind) = BadStore 1 at kind
+status_of_migrate (migrate.TooWide group) = TooWide group
+status_of_migrate (migrate.Full group) = Full group
+
 abbrev pub status_of : End → Status
 status_of end.Usage = Usage
 status_of end.NoMemory = NoMemory
@@ -99,6 +126,9 @@ status_of (end.Send e) = status_of_send e
 status_of (end.Receive e) = status_of_receive e
 status_of (end.Merge e) = status_of_merge e
 status_of (end.Video e) = status_of_video e
+status_of (end.Unwrap e) = status_of_unwrap e
+status_of (end.Wrap e) = status_of_wrap e
+status_of (end.Migrate e) = status_of_migrate e
 
 -- which statuses tell of a failure of the place, and which of one of the link
 abbrev pub of_place : Status → Bool
@@ -120,6 +150,9 @@ of_place (BadTable group) = false
 of_place (NotLeast group) = false
 of_place (Changed group first second) = false
 of_place (Full group) = false
+of_place (BadSystem fault) = false
+of_place AlreadyNew = false
+of_place (TooWide group) = false
 
 abbrev pub of_link : Status → Bool
 of_link Done = false
@@ -140,3 +173,6 @@ of_link (BadTable group) = false
 of_link (NotLeast group) = false
 of_link (Changed group first second) = false
 of_link (Full group) = false
+of_link (BadSystem fault) = false
+of_link AlreadyNew = false
+of_link (TooWide group) = false

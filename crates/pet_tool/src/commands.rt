@@ -1,13 +1,16 @@
 //! The command that the words give is run.
-ghost use Rattle.std.specs.Prelude.{◌≡◌, ◌≢◌, ℕ, List, Some};
+ghost use Rattle.std.specs.Prelude.{◌≡◌, ◌≢◌, ◌≤◌, ℕ, List, Some};
 ghost use Rattle.pet_base.specs.OutsideSeen.{OutsideSeen};
 ghost use Rattle.pet_base.specs.Lent.{seen, AreSame};
 ghost use Rattle.command_merge.specs.Merges.{Merges};
+ghost use Rattle.command_migrate.specs.Migrates.{Migrates};
 ghost use Rattle.command_plan.specs.Checks.{Checks};
 ghost use Rattle.command_plan.specs.Plans.{PlanEnds};
 ghost use Rattle.command_receive.specs.Receives.{Receives};
 ghost use Rattle.command_send.specs.Sends.{IsOther, Sends};
 ghost use Rattle.command_video.specs.Videos.{Videos};
+ghost use Rattle.mpeg_system.specs.Unwraps.{Unwraps};
+ghost use Rattle.mpeg_system.specs.Wraps.{Wraps};
 ghost use Rattle.outside_routes.specs.Way.{way_of};
 ghost use Rattle.pet_text.specs.Words.{command_of};
 ghost use Rattle.pet_tool.specs.Does.{Does, Runs, OnFiles, OnRead};
@@ -18,10 +21,12 @@ ghost use Rattle.pet_text.specs.declared.status.Status.{Status};
 
 use crate::end::End;
 use command_merge::merge;
+use command_migrate::migrate;
 use command_plan::{check, plan};
 use command_receive::receive;
 use command_send::send;
 use command_video::video;
+use mpeg_system::{unwrap_loop, wrap_loop};
 use outside_routes::Route;
 use pet_base::{Link, Outside, Place, Sink};
 use pet_text::Command;
@@ -59,13 +64,10 @@ pub(crate) fn run_command<P: Place, K: Link, S: Sink, L: Ledger>(
             stream,
             priority,
             to,
-        } => run_send(
-            alloc,
-            stream.as_str(),
-            priority.as_str(),
-            to.route(),
-            outside,
-        ),
+        } => {
+            let to = to.route();
+            run_send(alloc, stream.as_str(), priority.as_str(), to, outside)
+        }
         Command::Receive {
             from,
             session,
@@ -79,14 +81,18 @@ pub(crate) fn run_command<P: Place, K: Link, S: Sink, L: Ledger>(
             store.as_str(),
             outside,
         ),
-        Command::Merge { first, second, out } => run_merge(
-            alloc,
-            first.as_str(),
-            second.as_str(),
-            out.as_str(),
-            outside,
-        ),
+        Command::Merge { first, second, out } => {
+            let out = out.as_str();
+            run_merge(alloc, first.as_str(), second.as_str(), out, outside)
+        }
         Command::Video { store, out } => run_video(alloc, store.as_str(), out.as_str(), outside),
+        Command::Unwrap { file, id, out } => {
+            run_unwrap(alloc, file.as_str(), *id, out.as_str(), outside)
+        }
+        Command::Wrap { file, out } => run_wrap(alloc, file.as_str(), out.as_str(), outside),
+        Command::Migrate { store, out } => {
+            run_migrate(alloc, store.as_str(), out.as_str(), outside)
+        }
     }
 }
 
@@ -184,4 +190,51 @@ fn run_video<P: Place, K: Link, S: Sink, L: Ledger>(
     ensures same { AreSame outside.old outside.new }
 {
     End::Video(video(alloc, store, out, outside.place, outside.steps))
+}
+
+/// Runs `unwrap`.
+fn run_unwrap<P: Place, K: Link, S: Sink, L: Ledger>(
+    alloc: Global,
+    file: &str,
+    id: u8,
+    out: &str,
+    outside: &mut Outside<P, K, S, L>,
+) -> End
+    requires video { (0xE0 ≤ id) × (id ≤ 0xEF) }
+    ensures does { (told : OutsideSeen) (status : Status) → Tells (line_of result) (status_of result) (seen outside.new) told status
+        → Runs End.Unwrap (OnFiles (Unwraps file.now id out.now)) (seen outside.old) told status }
+    ensures known { result ≢ End.Usage }
+    ensures same { AreSame outside.old outside.new }
+{
+    End::Unwrap(unwrap_loop(alloc, file, id, out, outside.place))
+}
+
+/// Runs `wrap`.
+fn run_wrap<P: Place, K: Link, S: Sink, L: Ledger>(
+    alloc: Global,
+    file: &str,
+    out: &str,
+    outside: &mut Outside<P, K, S, L>,
+) -> End
+    ensures does { (told : OutsideSeen) (status : Status) → Tells (line_of result) (status_of result) (seen outside.new) told status
+        → Runs End.Wrap (OnFiles (Wraps file.now out.now)) (seen outside.old) told status }
+    ensures known { result ≢ End.Usage }
+    ensures same { AreSame outside.old outside.new }
+{
+    End::Wrap(wrap_loop(alloc, file, out, outside.place))
+}
+
+/// Runs `migrate`.
+fn run_migrate<P: Place, K: Link, S: Sink, L: Ledger>(
+    alloc: Global,
+    store: &str,
+    out: &str,
+    outside: &mut Outside<P, K, S, L>,
+) -> End
+    ensures does { (told : OutsideSeen) (status : Status) → Tells (line_of result) (status_of result) (seen outside.new) told status
+        → Runs End.Migrate (OnFiles (Migrates store.now out.now)) (seen outside.old) told status }
+    ensures known { result ≢ End.Usage }
+    ensures same { AreSame outside.old outside.new }
+{
+    End::Migrate(migrate(alloc, store, out, outside.place))
 }

@@ -4,15 +4,21 @@ ghost use Rattle.pet_tool.specs.Lines.{line_of};
 ghost use Rattle.pet_tool.specs.Statuses.{status_of};
 
 use crate::statuses::{
-    check_status, merge_status, plan_status, receive_status, send_status, video_status,
+    check_status, merge_status, migrate_status, plan_status, receive_status, send_status,
+    unwrap_status, video_status, wrap_status,
 };
 use arrayvec::ArrayVec;
 use command_merge::MergeEnd;
+use command_migrate::MigrateEnd;
 use command_plan::{CheckEnd, PlanEnd};
 use command_receive::ReceiveEnd;
 use command_send::SendEnd;
 use command_video::VideoEnd;
-use pet_text::{Status, least_line, merged_line, send_line, video_line};
+use mpeg_system::{UnwrapEnd, WrapEnd};
+use pet_text::{
+    Status, least_line, merged_line, migrated_line, send_line, unwrapped_line, video_line,
+    wrapped_line,
+};
 
 /// How a run ended, before its line and that of its status are printed.
 #[derive(Debug, Drop)]
@@ -33,6 +39,12 @@ pub enum End {
     Merge(MergeEnd),
     /// A run of `video`.
     Video(VideoEnd),
+    /// A run of `unwrap`.
+    Unwrap(UnwrapEnd),
+    /// A run of `wrap`.
+    Wrap(WrapEnd),
+    /// A run of `migrate`.
+    Migrate(MigrateEnd),
 }
 
 /// The status of each end.
@@ -49,6 +61,9 @@ pub(crate) fn end_status(end: &End) -> Status
         End::Receive(end) => receive_status(end),
         End::Merge(end) => merge_status(end),
         End::Video(end) => video_status(end),
+        End::Unwrap(end) => unwrap_status(end),
+        End::Wrap(end) => wrap_status(end),
+        End::Migrate(end) => migrate_status(end),
     }
 }
 
@@ -65,6 +80,9 @@ pub(crate) fn end_line<'a>(end: &'a End, room: &'a mut ArrayVec<u8, 64>) -> &'a 
         }
         End::Merge(MergeEnd::Done(packets)) => merged_line(*packets, room),
         End::Video(VideoEnd::Done(bytes)) => video_line(*bytes, room),
+        End::Unwrap(UnwrapEnd::Done(bytes)) => unwrapped_line(*bytes, room),
+        End::Wrap(WrapEnd::Done(bytes)) => wrapped_line(*bytes, room),
+        End::Migrate(MigrateEnd::Done(packets)) => migrated_line(*packets, room),
         End::Usage
         | End::NoMemory
         | End::Plan(_)
@@ -72,7 +90,10 @@ pub(crate) fn end_line<'a>(end: &'a End, room: &'a mut ArrayVec<u8, 64>) -> &'a 
         | End::Send(_)
         | End::Receive(_)
         | End::Merge(_)
-        | End::Video(_) => {}
+        | End::Video(_)
+        | End::Unwrap(_)
+        | End::Wrap(_)
+        | End::Migrate(_) => {}
     }
     room.as_slice()
 }

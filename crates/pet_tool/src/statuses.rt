@@ -1,12 +1,14 @@
 //! The status of each end of each command.
 ghost use Rattle.std.specs.Prelude.{◌≡◌, ◌≢◌};
-ghost use Rattle.pet_tool.specs.Statuses.{status_of_plan, status_of_check, status_of_send, status_of_receive, status_of_merge, status_of_video, status_of_session};
+ghost use Rattle.pet_tool.specs.Statuses.{status_of_plan, status_of_check, status_of_send, status_of_receive, status_of_merge, status_of_video, status_of_unwrap, status_of_wrap, status_of_migrate, status_of_session};
 
 use command_merge::MergeEnd;
+use command_migrate::MigrateEnd;
 use command_plan::{CheckEnd, PlanEnd};
 use command_receive::ReceiveEnd;
 use command_send::SendEnd;
 use command_video::VideoEnd;
+use mpeg_system::{UnwrapEnd, WrapEnd};
 use pet_base::MAX_GROUPS;
 use pet_text::{PlanKind, Status};
 use stream_session::SessionFault;
@@ -106,6 +108,48 @@ pub(crate) fn video_status(end: &VideoEnd) -> Status
         VideoEnd::PlaceFault => Status::PlaceFault,
         VideoEnd::BadStore(at, kind) => Status::BadStore(1, *at, *kind),
         VideoEnd::BadTable(group) => Status::BadTable(*group),
+    }
+}
+
+/// The status of each end of `unwrap`.
+pub(crate) fn unwrap_status(end: &UnwrapEnd) -> Status
+    ensures status { result ≡ status_of_unwrap end.now }
+    ensures known { result ≢ Status.Usage }
+{
+    match end {
+        UnwrapEnd::Done(_) => Status::Done,
+        UnwrapEnd::NoMemory => Status::NoMemory,
+        UnwrapEnd::PlaceFault => Status::PlaceFault,
+        UnwrapEnd::BadSystem(fault) => Status::BadSystem(*fault),
+    }
+}
+
+/// The status of each end of `wrap`.
+pub(crate) fn wrap_status(end: &WrapEnd) -> Status
+    ensures status { result ≡ status_of_wrap end.now }
+    ensures known { result ≢ Status.Usage }
+{
+    match end {
+        WrapEnd::Done(_) => Status::Done,
+        WrapEnd::NoMemory => Status::NoMemory,
+        WrapEnd::PlaceFault => Status::PlaceFault,
+        WrapEnd::BadSystem(fault) => Status::BadSystem(*fault),
+    }
+}
+
+/// The status of each end of `migrate`.
+pub(crate) fn migrate_status(end: &MigrateEnd) -> Status
+    ensures status { result ≡ status_of_migrate end.now }
+    ensures known { result ≢ Status.Usage }
+{
+    match end {
+        MigrateEnd::Done(_) => Status::Done,
+        MigrateEnd::NoMemory => Status::NoMemory,
+        MigrateEnd::PlaceFault => Status::PlaceFault,
+        MigrateEnd::AlreadyNew => Status::AlreadyNew,
+        MigrateEnd::BadStore(at, kind) => Status::BadStore(1, *at, *kind),
+        MigrateEnd::TooWide(group) => Status::TooWide(*group),
+        MigrateEnd::Full(group) => Status::Full(*group),
     }
 }
 

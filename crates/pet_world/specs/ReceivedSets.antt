@@ -1,11 +1,8 @@
 -- The received sets of some receivers of one session: which packets each receiver has met, and which layers an event
--- shows.
--- A list of pairs stands for the set of the pairs that it has. Nothing here speaks of payloads, polynomials or buffers.
--- This
--- project's own.
+-- shows. A list of pairs stands for the set of the pairs that it has. Nothing here speaks of payloads, polynomials or
+-- buffers. This project's own.
 use Rattle.std.specs.Prelude.{◌≡◌, ⊤, ◌⊎◌, ℕ, ◌<◌, Bool, true, false, not, ◌&&◌, nat_lt, if◌then◌else◌, List, [], ◌∷◌}
-use Rattle.std.specs.Prelude.{◌++◌}
-use Rattle.std.specs.Prelude.{map, set, slice_index_or, slice_get, replicate, Option, None, Some, All}
+use Rattle.std.specs.Prelude.{◌++◌, map, set, slice_index_or, slice_get, replicate, Option, None, Some, All}
 use Rattle.std.specs.Option.{option_map_or}
 use Rattle.packet_session.specs.Session.{Session}
 use Rattle.packet_met.specs.Met.{Pair, newly_shown_in}

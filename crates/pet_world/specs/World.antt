@@ -48,9 +48,8 @@ abbrev pub refusal_in : {E : Type 0} → WorldState E → Event → Option World
 refusal_in w event = event_refusal (length w.receivers) (encoded_session w.encoders) event
 
 module _ {E : Type 0} (c : Coding E) where
-  -- One event was answered Ok with these layers, and has left this world: whatever sets the world stood for, it stands
-  -- for
-  -- those after the event, and the layers are those that the event shows.
+  -- One event was answered Ok with these layers, and has left this world: whatever sets the receivers had met, now they
+  -- have met those after the event, and the layers are those that the event shows.
   pub record IsCarriedOut (w : WorldState E) (event : Event) (shown : List Shown) (v : WorldState E) : Type 0 where
     pub encoders : v.encoders ≡ w.encoders
     pub limit : v.limit ≡ w.limit

@@ -1,9 +1,8 @@
 //! What the tests of all three commands share: files of pieces, stores, and tags that were made outside.
 use crate::store_head;
-use test_example::{SESSION, packets};
-use pet_base::MemoryPlace;
-use pet_base::NoMemory;
+use pet_base::{MemoryPlace, NoMemory};
 use std::alloc::{AllocError, Global};
+use test_example::{SESSION, packets};
 
 /// A piece of a file.
 #[derive(Clone, Copy)]

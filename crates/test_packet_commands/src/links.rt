@@ -3,8 +3,7 @@ ghost use Rattle.std.specs.Prelude.{IfOk};
 ghost use Rattle.pet_base.specs.Feed.{AreShort};
 
 use crate::files::{File, Piece, append};
-use pet_base::MemoryLink;
-use pet_base::{MAX_ENTRY, NoMemory};
+use pet_base::{MAX_ENTRY, MemoryLink, NoMemory};
 use std::alloc::{AllocError, Global};
 
 /// A link to which these entries come, and whose calls of these numbers fail.

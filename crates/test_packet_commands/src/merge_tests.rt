@@ -3,9 +3,9 @@ use crate::cases::{ALL_GO, Case, Run, first_wrong};
 use crate::files::{File, NOTHING, OTHER_NOTHING, OTHER_TAG, Piece, TWO_AND_FIVE, WHOLE, bytes_of};
 use crate::merge_fixtures::{OF_CHANGED, ONE_AND_TWO, THREE};
 use command_merge::MergeEnd;
-use test_example::SESSION;
 use std::alloc::Global;
 use store_text::StoreKind;
+use test_example::SESSION;
 
 const FAULT: Run = Run::Merge(MergeEnd::PlaceFault);
 

@@ -7,12 +7,12 @@ use crate::receive_fixtures::{
 };
 use crate::untold::{UntoldLink, UntoldPlace};
 use command_receive::ReceiveEnd;
-use test_example::SESSION;
 use pet_base::MemorySink;
 use std::cell::Cell;
 use std::marker::Brand;
 use std::sync::ledger::Blank;
 use std::test::Fail;
+use test_example::SESSION;
 
 const ENTRIES: (Option<File>, Option<File>) = (Some(FIRST), None);
 

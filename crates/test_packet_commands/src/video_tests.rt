@@ -9,8 +9,8 @@ use crate::video_fixtures::{
     THREE_TAG, TWO_TAG, UNFIT_TAG,
 };
 use command_video::VideoEnd;
-use test_example::{SESSION, STREAM};
 use store_text::StoreKind;
+use test_example::{SESSION, STREAM};
 
 const FAULT: Run = Run::Video(VideoEnd::PlaceFault);
 

@@ -2,17 +2,17 @@
 ghost use Rattle.std.specs.Prelude.{◌≡◌, ◌<◌};
 
 use crate::group_fixtures::{MESSAGE, header_of};
-use test_example::packets;
-use pet_encode::Encoder;
-use pet_base::{MAX_PACKETS, NoMemory, Steps};
 use field_elements::Gf16Plain;
-use pet_field::Gf16Tables;
 use field_values::AllValues;
+use pet_base::{MAX_PACKETS, NoMemory, Steps};
+use pet_encode::Encoder;
+use pet_field::Gf16Tables;
 use sha2::{Digest, Sha256};
 use std::alloc::Global;
 use std::marker::Brand;
 use std::sync::ledger::{Blank, Ledger};
 use std::test::Fail;
+use test_example::packets;
 
 /// The SHA-256 digest of the frames of the group's packets, where it has as many as a group has at most and no need but those of
 /// the first two layers binds: 14 stripes, of 2, 3 and 8 words. A model in Python has them by Horner's rule, with products by

@@ -1,10 +1,10 @@
 //! The group of the example stream, which several tests send.
 ghost use Rattle.std.specs.Prelude.{◌≡◌, IfOk};
 
-use test_example::SESSION;
 use packet_frame::Header;
 use std::test::Fail;
 use stripe_plan::{LayerSize, Table};
+use test_example::SESSION;
 
 /// The message of the group, under the example priorities.
 pub const MESSAGE: [u8; 70] = [

@@ -6,10 +6,10 @@ use crate::receive_fixtures::{
     FLIPPED, IN_GROUP_258, Judged, LONG_LAYER, OF_ANOTHER_SESSION, OF_TWO_GROUPS, ONLY_LAYER,
     SEVEN_0, SEVEN_2, SHORT_LAYER, SHOWS_0, SHOWS_NONE, TWO_LAYERS, WORDS_1, WORDS_3,
 };
-use packet_verdicts::{LayerSet, Verdict, group_of};
-use packet_frame::read_frame;
-use pet_base::{NoMemory, Steps};
 use field_elements::Gf16Plain;
+use packet_frame::read_frame;
+use packet_verdicts::{LayerSet, Verdict, group_of};
+use pet_base::{NoMemory, Steps};
 use pet_receive::Receiver;
 use std::alloc::Global;
 use std::marker::Brand;

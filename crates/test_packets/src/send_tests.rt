@@ -3,16 +3,15 @@ ghost use Rattle.std.specs.Prelude.{◌≡◌, ◌<◌};
 
 use crate::group_fixtures::{MESSAGE, header_of};
 use outside_routes::{Route, RouteStop, open_route};
-use test_example::packets;
-use pet_encode::Encoder;
-use pet_base::{MemoryLink, MemoryPlace};
-use pet_base::Steps;
-use pet_field::Gf16Tables;
 use packet_sending::put_group;
+use pet_base::{MemoryLink, MemoryPlace, Steps};
+use pet_encode::Encoder;
+use pet_field::Gf16Tables;
 use std::alloc::{AllocError, Global};
 use std::marker::Brand;
 use std::sync::ledger::{Blank, Ledger};
 use std::test::Fail;
+use test_example::packets;
 
 /// Where the packets go; the calls of the place and the link that fail; what is answered; how many bytes are then put into the
 /// file, and how many datagrams sent.

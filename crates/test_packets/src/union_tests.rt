@@ -2,9 +2,9 @@
 ghost use Rattle.std.specs.Prelude.{◌≡◌, ◌<◌};
 
 use crate::receive_fixtures::{EXAMPLE, EXAMPLE_2, EXAMPLE_5, WORDS_1};
+use field_elements::Gf16Plain;
 use packet_verdicts::Absorb;
 use pet_base::{NoMemory, Steps};
-use field_elements::Gf16Plain;
 use pet_receive::Receiver;
 use std::alloc::Global;
 use std::marker::Brand;

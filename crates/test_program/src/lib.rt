@@ -9,9 +9,13 @@ mod statuses;
 pub use statuses::bad_line;
 
 #[cfg(test)]
+mod migrate_tests;
+#[cfg(test)]
 mod run_fixtures;
 #[cfg(test)]
 mod run_tests;
+#[cfg(test)]
+mod system_tests;
 #[cfg(test)]
 mod text_fixtures;
 #[cfg(test)]

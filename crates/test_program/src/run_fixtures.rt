@@ -1,8 +1,7 @@
 //! What the tests of `run` share: `run` on objects in memory, and whether it ends so.
 ghost use Rattle.std.specs.Prelude.{◌≡◌, ◌<◌};
 
-use pet_base::{MemoryLink, MemoryPlace, MemorySink};
-use pet_base::{Link, NoMemory, Place, Steps};
+use pet_base::{Link, MemoryLink, MemoryPlace, MemorySink, NoMemory, Place, Steps};
 use pet_text::Status;
 use pet_tool::run;
 use std::alloc::{AllocError, Global};

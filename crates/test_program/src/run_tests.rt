@@ -5,13 +5,13 @@ use crate::run_fixtures::{
     ALL_GO, Case, Files, GROUPS, NO_RUN, NOTHING, Step, USAGE, all_end, first_wrong, is_so,
     place_of,
 };
-use test_example::{PLAN, PRIORITIES, STREAM};
 use mpeg_scan::Scan;
 use pet_base::NoMemory;
 use pet_text::{PlanKind, Status};
 use priority_file::PriorityFault;
 use std::alloc::Global;
 use store_text::StoreKind;
+use test_example::{PLAN, PRIORITIES, STREAM};
 
 /// The example session, with no plan file.
 const EXAMPLE: Files = (&STREAM, PRIORITIES, "");

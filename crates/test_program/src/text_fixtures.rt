@@ -1,5 +1,6 @@
 //! What the tests of words and lines look at: words that are no address, and statuses with their lines.
 use mpeg_scan::Scan;
+use mpeg_system::System;
 use pet_text::{PlanKind, Status};
 use priority_file::PriorityFault;
 use store_text::StoreKind;
@@ -38,7 +39,7 @@ const NONE: GroupMark = GroupMark {
 };
 
 /// Statuses with their numbers and lines.
-pub(crate) static FAULTS: [(Status, u8, &str); 15] = [
+pub(crate) static FAULTS: [(Status, u8, &str); 22] = [
     (Status::Incomplete, 12, "fault incomplete\n"),
     (Status::LinkFault, 4, "fault link\n"),
     (
@@ -78,4 +79,31 @@ pub(crate) static FAULTS: [(Status, u8, &str); 15] = [
     (Status::NotLeast(0), 16, "fault least 0\n"),
     (Status::Changed(0, FIRST, NONE), 17, "fault changed 0\n"),
     (Status::Full(4_294_967_295), 19, "fault full 4294967295\n"),
+    (Status::AlreadyNew, 18, "fault version\n"),
+    (Status::TooWide(65_534), 20, "fault wide 65534\n"),
+    (
+        Status::BadSystem(System::NotUnit(18_446_744_073_709_551_615, 184)),
+        24,
+        "fault system NotUnit 18446744073709551615 184\n",
+    ),
+    (
+        Status::BadSystem(System::NoStart(7)),
+        24,
+        "fault system NoStart 7\n",
+    ),
+    (
+        Status::BadSystem(System::Cut(63)),
+        24,
+        "fault system Cut 63\n",
+    ),
+    (
+        Status::BadSystem(System::NoVideo),
+        24,
+        "fault system NoVideo 0\n",
+    ),
+    (
+        Status::BadSystem(System::TooLong),
+        24,
+        "fault system TooLong 268435456\n",
+    ),
 ];

@@ -10,7 +10,7 @@ use std::alloc::{AllocError, Global};
 
 const SESSION: &str = "0001020304050607";
 
-fn words(alloc: Global, texts: &[&str]) -> Result<Vec<String>, AllocError> {
+pub(crate) fn words(alloc: Global, texts: &[&str]) -> Result<Vec<String>, AllocError> {
     let mut words = Vec::new(alloc);
     for text in texts {
         words.push(String::from_str(alloc, *text)?)?;
@@ -42,6 +42,9 @@ fn names_of(command: &Command) -> [&str; 4] {
             ["merge", first.as_str(), second.as_str(), out.as_str()]
         }
         Command::Video { store, out } => ["video", store.as_str(), out.as_str(), ""],
+        Command::Unwrap { file, out, .. } => ["unwrap", file.as_str(), out.as_str(), ""],
+        Command::Wrap { file, out } => ["wrap", file.as_str(), out.as_str(), ""],
+        Command::Migrate { store, out } => ["migrate", store.as_str(), out.as_str(), ""],
     }
 }
 
@@ -81,7 +84,7 @@ type Row = (
 const NAMED: Option<[u8; 8]> = Some([0, 1, 2, 3, 4, 5, 6, 7]);
 
 /// The words of each command, and addresses up to their last colon. Port 0, which is one that is to be found, is only received at.
-static READ: [Row; 23] = [
+static READ: [Row; 25] = [
     (
         &["receive", "file:a", SESSION, "b", "c"],
         ["receive", "a", "b", "c"],
@@ -120,6 +123,13 @@ static READ: [Row; 23] = [
         false,
     ),
     (&["video", "t", "o"], ["video", "t", "o", ""], None, false),
+    (
+        &["unwrap", "m", "e0", "o"],
+        ["unwrap", "m", "o", ""],
+        None,
+        false,
+    ),
+    (&["wrap", "v", "o"], ["wrap", "v", "o", ""], None, false),
     (
         &["send", "s", "f", "udp:x:1"],
         ["send", "s", "f", "x:1"],
@@ -276,7 +286,7 @@ static REFUSED: [&[&str]; 33] = [
 ];
 
 /// Whether the words have the form of no command.
-fn is_refused(alloc: Global, texts: &[&str]) -> bool {
+pub(crate) fn is_refused(alloc: Global, texts: &[&str]) -> bool {
     match words(alloc, texts) {
         Ok(words) => read_words(alloc, &words).err() == Some(WordsFault::Usage),
         Err(_) => false,

@@ -1,7 +1,6 @@
 //! The marks of a stream's groups.
-use pet_base::MemoryPlace;
 use mpeg_scan::Scan;
-use pet_base::NoMemory;
+use pet_base::{MemoryPlace, NoMemory};
 use std::alloc::{AllocError, Global};
 use stream_session::{GroupMark, MarkedSource, SessionFault, SourceFault, read_marked};
 

@@ -4,8 +4,8 @@ use pet_base::{Kind, NoMemory};
 use priority_file::Priority;
 use std::alloc::Global;
 use stream_session::{Planner, SessionFault};
-use test_streams::{EXAMPLE_PIECES, piece, pieces_on_end, priority_of};
 use stripe_plan::{Table, datagram_length, stripes};
+use test_streams::{EXAMPLE_PIECES, piece, pieces_on_end, priority_of};
 use test_stripes::is_table;
 
 fn add_all(planner: &mut Planner, pieces: &[Piece]) -> Result<(), NoMemory> {

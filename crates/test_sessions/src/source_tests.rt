@@ -1,11 +1,10 @@
 //! The example session over files in memory, and what two files are refused for.
-use test_example::{PRIORITIES, SESSION, STREAM};
-use pet_base::MemoryPlace;
 use mpeg_scan::Scan;
-use pet_base::NoMemory;
+use pet_base::{MemoryPlace, NoMemory};
 use priority_file::{PriorityFault, read_priority};
 use std::alloc::{AllocError, Global};
 use stream_session::{Pass, SessionPlan, Source, SourceFault, StreamFault, read_source};
+use test_example::{PRIORITIES, SESSION, STREAM};
 use test_stripes::is_example;
 
 /// The plan of a stream that comes in portions of so many bytes, under the example priorities.

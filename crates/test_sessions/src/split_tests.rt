@@ -1,11 +1,11 @@
 //! The example stream in groups and layers, and the limits.
 use arrayvec::ArrayVec;
-use test_example::STREAM;
 use layer_split::{
     GroupCut, NamedRun, Run, SplitFault, Splitter, layer_bytes, message, read_run_table, split,
 };
 use pet_base::{Kind, MAX_LAYERS, NoMemory};
 use std::alloc::Global;
+use test_example::STREAM;
 use test_streams::{EXAMPLE_PIECES, piece, pieces_on_end, priority_of, three_layers};
 
 const P: u32 = 4;

@@ -1,16 +1,16 @@
 //! The text of a plan, and the plan file that is read again.
 ghost use Rattle.std.specs.Prelude.{◌≡◌, ◌↔◌, length, IsTrue};
 
-use test_example::PRIORITIES;
 use pet_base::NoMemory;
+use priority_file::{Priority, read_priority};
+use std::alloc::Global;
+use stripe_plan::Table;
+use test_example::PRIORITIES;
+use test_stripes::{layer, layers_of};
 use text_plan::{
     PlanFault, Repeat, lengths_line, plan_group_line, plan_layer_line, plan_session_line,
     plan_text, read_plan,
 };
-use priority_file::{Priority, read_priority};
-use std::alloc::Global;
-use stripe_plan::Table;
-use test_stripes::{layer, layers_of};
 
 /// The lengths and needs of three layers, and their line behind a byte that is there.
 type Row = ([(u32, u16); 3], &'static str);

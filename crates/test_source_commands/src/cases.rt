@@ -4,13 +4,12 @@ ghost use Rattle.std.specs.Prelude.{◌≡◌, ◌<◌};
 use command_plan::{CheckEnd, PlanEnd, check, plan};
 use command_send::{SendEnd, send};
 use outside_routes::Route;
-use test_example::packets;
-use pet_base::{MemoryLink, MemoryPlace, MemorySink};
-use pet_base::{Link, NoMemory, Outside, Place, Sink, Steps};
+use pet_base::{Link, MemoryLink, MemoryPlace, MemorySink, NoMemory, Outside, Place, Sink, Steps};
 use std::alloc::{AllocError, Global};
 use std::marker::Brand;
 use std::sync::ledger::{Blank, Ledger};
 use stream_session::SourceFault;
+use test_example::packets;
 
 /// A stream: its front, and bytes that follow it so many times.
 pub(crate) type Stream = (&'static [u8], &'static [u8], u32);

@@ -1,11 +1,11 @@
 //! `plan` and `check` over objects in memory. Plans and session numbers were computed outside.
 use crate::cases::{ALL_GO, Files, NO_TYPE, Run, Stream, is_so};
 use command_plan::CheckEnd;
-use test_example::{PLAN, PRIORITIES, STREAM};
 use mpeg_scan::Scan;
 use priority_file::PriorityFault;
 use std::alloc::Global;
 use stream_session::{SessionFault, SourceFault};
+use test_example::{PLAN, PRIORITIES, STREAM};
 
 /// The example stream; a head and an I picture; heads in one piece of 64,931 and of 64,933 bytes; groups of ten bytes.
 const EXAMPLE: Stream = (&STREAM, &[], 0);

@@ -6,12 +6,11 @@ use crate::send_tests::{EXAMPLE, SENT};
 use crate::untold_place::UntoldPlace;
 use crate::{NO_MARK, SECOND_MARK, changed_at};
 use command_send::SendEnd;
-use test_example::{PRIORITIES, STREAM};
-use pet_base::MemorySink;
-use pet_base::NoMemory;
+use pet_base::{MemorySink, NoMemory};
 use std::alloc::Global;
 use std::marker::Brand;
 use std::sync::ledger::Blank;
+use test_example::{PRIORITIES, STREAM};
 
 const DONE: Run = Run::SendByLink(SendEnd::Done(SENT));
 

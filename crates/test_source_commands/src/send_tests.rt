@@ -6,15 +6,14 @@ use crate::cases::{
 use crate::untold_place::UntoldPlace;
 use crate::{CHANGED_MARK, EXAMPLE_MARK, FIRST_MARK, NO_MARK, SECOND_MARK, THIRD_MARK, changed_at};
 use command_send::{SendEnd, Sent};
-use test_example::{PRIORITIES, SESSION, STREAM};
-use pet_base::MemorySink;
 use mpeg_scan::Scan;
-use pet_base::NoMemory;
+use pet_base::{MemorySink, NoMemory};
 use priority_file::PriorityFault;
 use std::alloc::Global;
 use std::marker::Brand;
 use std::sync::ledger::Blank;
 use stream_session::GroupMark;
+use test_example::{PRIORITIES, SESSION, STREAM};
 
 /// What is sent of the example session.
 pub(crate) const SENT: Sent = Sent {

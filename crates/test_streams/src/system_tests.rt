@@ -84,7 +84,8 @@ static ROWS: [Row; 24] = [
     ),
 ];
 
-/// What a reader of this id answers for a stream that is cut at this byte, and again, with the video in `video`.
+/// What a reader of this id answers for a stream that is cut at this byte, and again, with the
+/// video in `video`.
 fn read_cut(id: u8, stream: &[u8], cut: usize, video: &mut Vec<u8>) -> [Result<(), System>; 2]
     requires id { (0xE0 ≤ id) × (id ≤ 0xEF) }
     requires cut { cut ≤ length stream.now }
@@ -104,7 +105,8 @@ fn read_cut(id: u8, stream: &[u8], cut: usize, video: &mut Vec<u8>) -> [Result<(
     [first, unwrap.feed(&STREAM, video)]
 }
 
-/// Whether a stream ends so for this id, and again at the next call, with this video, wherever it is cut into two.
+/// Whether a stream ends so for this id, and again at the next call, with this video, wherever it
+/// is cut into two.
 fn is_read(alloc: Global, id: u8, stream: &[u8], end: Result<(), System>, video: &[u8]) -> bool
     requires { (0xE0 ≤ id) × (id ≤ 0xEF) }
 {

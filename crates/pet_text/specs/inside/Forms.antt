@@ -3,7 +3,8 @@ use Rattle.pet_text.specs.declared.form.Form.{Form}
 use Rattle.pet_text.specs.declared.form.Form.TheVariants as form
 use Rattle.pet_text.specs.Ends.{end_in}
 use Rattle.pet_text.specs.declared.words.Command.{Command}
-use Rattle.pet_text.specs.declared.words.Command.TheVariants.{Plan, Check, Send, Receive, Merge, Video}
+use Rattle.pet_text.specs.declared.words.Command.TheVariants.{Plan, Check, Send, Receive, Merge, Video, Unwrap, Wrap}
+use Rattle.pet_text.specs.declared.words.Command.TheVariants.{Migrate}
 
 abbrev pub command_in : Form → Command
 command_in (form.Plan stream priority) = Plan stream.now priority.now
@@ -12,3 +13,6 @@ command_in (form.Send stream priority to) = Send stream.now priority.now (end_in
 command_in (form.Receive from session layers store) = Receive (end_in from) session layers.now store.now
 command_in (form.Merge first second out) = Merge first.now second.now out.now
 command_in (form.Video store out) = Video store.now out.now
+command_in (form.Unwrap file id out) = Unwrap file.now id out.now
+command_in (form.Wrap file out) = Wrap file.now out.now
+command_in (form.Migrate store out) = Migrate store.now out.now

@@ -3,7 +3,8 @@ use Rattle.std.specs.Prelude.{Bool, true, not, ◌&&◌}
 use Rattle.std.specs.Str.{bytes_eq}
 use Rattle.pet_text.specs.declared.end.End.TheVariants.{File, Udp}
 use Rattle.pet_text.specs.declared.words.Command.{Command}
-use Rattle.pet_text.specs.declared.words.Command.TheVariants.{Plan, Check, Send, Receive, Merge, Video}
+use Rattle.pet_text.specs.declared.words.Command.TheVariants.{Plan, Check, Send, Receive, Merge, Video, Unwrap, Wrap}
+use Rattle.pet_text.specs.declared.words.Command.TheVariants.{Migrate}
 
 -- the name of each file that a command writes differs, as a text, from every other file name of the command
 abbrev pub writes_others : Command → Bool
@@ -16,3 +17,6 @@ writes_others (Receive (File from) session layers store) =
 writes_others (Receive (Udp address) session layers store) = not (bytes_eq layers store)
 writes_others (Merge first second out) = not (bytes_eq out first) && not (bytes_eq out second)
 writes_others (Video store out) = not (bytes_eq out store)
+writes_others (Unwrap file id out) = not (bytes_eq out file)
+writes_others (Wrap file out) = not (bytes_eq out file)
+writes_others (Migrate store out) = not (bytes_eq out store)

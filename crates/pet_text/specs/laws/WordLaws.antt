@@ -5,9 +5,10 @@ use Rattle.std.specs.Str.{bytes_eq}
 use Rattle.std.proofs.lemmas.Bool.{and_parts}
 use Rattle.pet_text.specs.declared.end.End.{End}
 use Rattle.pet_text.specs.declared.end.End.TheVariants.{File, Udp}
-use Rattle.pet_text.specs.declared.words.Command.TheVariants.{Plan, Check, Send, Receive, Merge, Video}
+use Rattle.pet_text.specs.declared.words.Command.TheVariants.{Plan, Check, Send, Receive, Merge, Video, Unwrap, Wrap}
+use Rattle.pet_text.specs.declared.words.Command.TheVariants.{Migrate}
 use Rattle.pet_text.specs.Words.{is_name, plan_of, check_of, send_of, send_files, receive_files, receive_of, merge_of}
-use Rattle.pet_text.specs.Words.{video_of, end_of, session_of, command_of}
+use Rattle.pet_text.specs.Words.{video_of, unwrap_of, wrap_of, migrate_of, id_of, end_of, session_of, command_of}
 
 -- an answer that a test lets through
 pub if_some : {A : Type 0} (t : Bool) (x y : A) → cond t (Some x) None ≡ Some y → (t ≡ true) × (x ≡ y)
@@ -42,6 +43,23 @@ module _ (stream priority to : List ℕ) where
   not_video : (store out : List ℕ) → video_of store out ≡ Some (Send stream priority (File to)) → ⊥
   not_video store out e =
       let both = if_some (is_name store && (is_name out && not (bytes_eq out store))) (Video store out)
+      (Send stream priority (File to)) e in absurd (cc)
+
+  not_unwrap : (file : List ℕ) (id : Option ℕ) (out : List ℕ)
+      → unwrap_of file id out ≡ Some (Send stream priority (File to)) → ⊥
+  not_unwrap file None out e = absurd (cc)
+  not_unwrap file (Some id) out e =
+      let both = if_some (is_name file && (is_name out && not (bytes_eq out file))) (Unwrap file id out)
+      (Send stream priority (File to)) e in absurd (cc)
+
+  not_wrap : (file out : List ℕ) → wrap_of file out ≡ Some (Send stream priority (File to)) → ⊥
+  not_wrap file out e =
+      let both = if_some (is_name file && (is_name out && not (bytes_eq out file))) (Wrap file out)
+      (Send stream priority (File to)) e in absurd (cc)
+
+  not_migrate : (store out : List ℕ) → migrate_of store out ≡ Some (Send stream priority (File to)) → ⊥
+  not_migrate store out e =
+      let both = if_some (is_name store && (is_name out && not (bytes_eq out store))) (Migrate store out)
       (Send stream priority (File to)) e in absurd (cc)
 
   not_true : (t : Bool) → not t ≡ true → t ≡ false
@@ -85,13 +103,28 @@ module _ (stream priority to : List ℕ) where
       none_sent : None ≡ Some (Send stream priority (File to)) → ⊥
       none_sent e = cc
 
-      by_video : (t : Bool) → cond t (video_of first second) None ≡ Some (Send stream priority (File to))
+      by_migrate : (t : Bool) → cond t (migrate_of first second) None ≡ Some (Send stream priority (File to))
           → bytes_eq to stream ≡ false
+      by_migrate true e = absurd (not_migrate first second e)
+      by_migrate false e = absurd (none_sent e)
+
+      by_wrap : (t : Bool)
+          → cond t (wrap_of first second) (cond (bytes_eq word (codes "migrate")) (migrate_of first second) None)
+          ≡ Some (Send stream priority (File to)) → bytes_eq to stream ≡ false
+      by_wrap true e = absurd (not_wrap first second e)
+      by_wrap false e = by_migrate (bytes_eq word (codes "migrate")) e
+
+      by_video : (t : Bool)
+          → cond t (video_of first second) (cond (bytes_eq word (codes "wrap")) (wrap_of first second)
+          (cond (bytes_eq word (codes "migrate")) (migrate_of first second) None))
+          ≡ Some (Send stream priority (File to)) → bytes_eq to stream ≡ false
       by_video true e = absurd (not_video first second e)
-      by_video false e = absurd (none_sent e)
+      by_video false e = by_wrap (bytes_eq word (codes "wrap")) e
 
       by_plan : (t : Bool)
-          → cond t (plan_of first second) (cond (bytes_eq word (codes "video")) (video_of first second) None)
+          → cond t (plan_of first second) (cond (bytes_eq word (codes "video")) (video_of first second)
+          (cond (bytes_eq word (codes "wrap")) (wrap_of first second)
+          (cond (bytes_eq word (codes "migrate")) (migrate_of first second) None)))
           ≡ Some (Send stream priority (File to)) → bytes_eq to stream ≡ false
       by_plan true e = absurd (not_plan first second e)
       by_plan false e = by_video (bytes_eq word (codes "video")) e
@@ -100,14 +133,23 @@ module _ (stream priority to : List ℕ) where
       none_sent : None ≡ Some (Send stream priority (File to)) → ⊥
       none_sent e = cc
 
-      by_merge : (t : Bool) → cond t (merge_of first second third) None ≡ Some (Send stream priority (File to))
+      by_unwrap : (t : Bool)
+          → cond t (unwrap_of first (id_of second) third) None ≡ Some (Send stream priority (File to))
+          → bytes_eq to stream ≡ false
+      by_unwrap true e = absurd (not_unwrap first (id_of second) third e)
+      by_unwrap false e = absurd (none_sent e)
+
+      by_merge : (t : Bool)
+          → cond t (merge_of first second third) (cond (bytes_eq word (codes "unwrap"))
+          (unwrap_of first (id_of second) third) None) ≡ Some (Send stream priority (File to))
           → bytes_eq to stream ≡ false
       by_merge true e = absurd (not_merge first second third e)
-      by_merge false e = absurd (none_sent e)
+      by_merge false e = by_unwrap (bytes_eq word (codes "unwrap")) e
 
       by_send : (t : Bool)
           → cond t (send_of first second (end_of 1 third))
-          (cond (bytes_eq word (codes "merge")) (merge_of first second third) None)
+          (cond (bytes_eq word (codes "merge")) (merge_of first second third)
+          (cond (bytes_eq word (codes "unwrap")) (unwrap_of first (id_of second) third) None))
           ≡ Some (Send stream priority (File to)) → bytes_eq to stream ≡ false
       by_send true e = of_end first second (end_of 1 third) e
       by_send false e = by_merge (bytes_eq word (codes "merge")) e
@@ -115,7 +157,8 @@ module _ (stream priority to : List ℕ) where
       by_check : (t : Bool)
           → cond t (check_of first second third) (cond (bytes_eq word (codes "send"))
           (send_of first second (end_of 1 third))
-          (cond (bytes_eq word (codes "merge")) (merge_of first second third) None))
+          (cond (bytes_eq word (codes "merge")) (merge_of first second third)
+          (cond (bytes_eq word (codes "unwrap")) (unwrap_of first (id_of second) third) None)))
           ≡ Some (Send stream priority (File to)) → bytes_eq to stream ≡ false
       by_check true e = absurd (not_check first second third e)
       by_check false e = by_send (bytes_eq word (codes "send")) e

@@ -6,9 +6,10 @@ use Rattle.std.proofs.lemmas.Bool.{and_parts}
 use Rattle.pet_text.specs.declared.end.End.{End}
 use Rattle.pet_text.specs.declared.end.End.TheVariants.{File, Udp}
 use Rattle.pet_text.specs.declared.words.Command.{Command}
-use Rattle.pet_text.specs.declared.words.Command.TheVariants.{Plan, Check, Send, Receive, Merge, Video}
+use Rattle.pet_text.specs.declared.words.Command.TheVariants.{Plan, Check, Send, Receive, Merge, Video, Unwrap, Wrap}
+use Rattle.pet_text.specs.declared.words.Command.TheVariants.{Migrate}
 use Rattle.pet_text.specs.Words.{is_name, plan_of, check_of, send_of, send_files, receive_files, receive_of, merge_of}
-use Rattle.pet_text.specs.Words.{video_of, end_of, session_of, command_of}
+use Rattle.pet_text.specs.Words.{video_of, unwrap_of, wrap_of, migrate_of, id_of, end_of, session_of, command_of}
 use Rattle.pet_text.specs.inside.WrittenFiles.{writes_others}
 use Rattle.pet_text.specs.laws.WordLaws.{if_some}
 
@@ -72,6 +73,31 @@ module _ (c : Command) where
       let tests = and_parts (is_name out) differ behind.1 in
       subst (λ (command : Command). writes_others command ≡ true) both.1 tests.1
 
+  by_unwrap : (file : List ℕ) (id : Option ℕ) (out : List ℕ) → unwrap_of file id out ≡ Some c → writes_others c ≡ true
+  by_unwrap file None out e = by_none e
+  by_unwrap file (Some id) out e =
+      let differ : Bool = not (bytes_eq out file) in
+      let both = if_some (is_name file && (is_name out && differ)) (Unwrap file id out) c e in
+      let behind = and_parts (is_name file) (is_name out && differ) both.0 in
+      let tests = and_parts (is_name out) differ behind.1 in
+      subst (λ (command : Command). writes_others command ≡ true) both.1 tests.1
+
+  by_wrap : (file out : List ℕ) → wrap_of file out ≡ Some c → writes_others c ≡ true
+  by_wrap file out e =
+      let differ : Bool = not (bytes_eq out file) in
+      let both = if_some (is_name file && (is_name out && differ)) (Wrap file out) c e in
+      let behind = and_parts (is_name file) (is_name out && differ) both.0 in
+      let tests = and_parts (is_name out) differ behind.1 in
+      subst (λ (command : Command). writes_others command ≡ true) both.1 tests.1
+
+  by_migrate : (store out : List ℕ) → migrate_of store out ≡ Some c → writes_others c ≡ true
+  by_migrate store out e =
+      let differ : Bool = not (bytes_eq out store) in
+      let both = if_some (is_name store && (is_name out && differ)) (Migrate store out) c e in
+      let behind = and_parts (is_name store) (is_name out && differ) both.0 in
+      let tests = and_parts (is_name out) differ behind.1 in
+      subst (λ (command : Command). writes_others command ≡ true) both.1 tests.1
+
   one_of : (t : Bool) (answer others : Option Command) → (answer ≡ Some c → writes_others c ≡ true)
       → (others ≡ Some c → writes_others c ≡ true) → cond t answer others ≡ Some c → writes_others c ≡ true
   one_of true answer others met unmet e = met e
@@ -83,18 +109,30 @@ module _ (c : Command) where
   written_differ (word ∷ first ∷ []) e = by_none e
   written_differ (word ∷ first ∷ second ∷ []) e =
       one_of (bytes_eq word (codes "plan")) (plan_of first second)
-      (cond (bytes_eq word (codes "video")) (video_of first second) None) (by_plan first second)
-      (one_of (bytes_eq word (codes "video")) (video_of first second) None (by_video first second) by_none)
+      (cond (bytes_eq word (codes "video")) (video_of first second)
+      (cond (bytes_eq word (codes "wrap")) (wrap_of first second)
+      (cond (bytes_eq word (codes "migrate")) (migrate_of first second) None))) (by_plan first second)
+      (one_of (bytes_eq word (codes "video")) (video_of first second)
+      (cond (bytes_eq word (codes "wrap")) (wrap_of first second)
+      (cond (bytes_eq word (codes "migrate")) (migrate_of first second) None)) (by_video first second)
+      (one_of (bytes_eq word (codes "wrap")) (wrap_of first second)
+      (cond (bytes_eq word (codes "migrate")) (migrate_of first second) None) (by_wrap first second)
+      (one_of (bytes_eq word (codes "migrate")) (migrate_of first second) None (by_migrate first second) by_none)))
       e
   written_differ (word ∷ first ∷ second ∷ third ∷ []) e =
       one_of (bytes_eq word (codes "check")) (check_of first second third)
       (cond (bytes_eq word (codes "send")) (send_of first second (end_of 1 third))
-      (cond (bytes_eq word (codes "merge")) (merge_of first second third) None))
+      (cond (bytes_eq word (codes "merge")) (merge_of first second third)
+      (cond (bytes_eq word (codes "unwrap")) (unwrap_of first (id_of second) third) None)))
       (by_check first second third)
       (one_of (bytes_eq word (codes "send")) (send_of first second (end_of 1 third))
-      (cond (bytes_eq word (codes "merge")) (merge_of first second third) None)
+      (cond (bytes_eq word (codes "merge")) (merge_of first second third)
+      (cond (bytes_eq word (codes "unwrap")) (unwrap_of first (id_of second) third) None))
       (by_send first second (end_of 1 third))
-      (one_of (bytes_eq word (codes "merge")) (merge_of first second third) None (by_merge first second third) by_none))
+      (one_of (bytes_eq word (codes "merge")) (merge_of first second third)
+      (cond (bytes_eq word (codes "unwrap")) (unwrap_of first (id_of second) third) None) (by_merge first second third)
+      (one_of (bytes_eq word (codes "unwrap")) (unwrap_of first (id_of second) third) None
+      (by_unwrap first (id_of second) third) by_none)))
       e
   written_differ (word ∷ first ∷ second ∷ third ∷ fourth ∷ []) e =
       one_of (bytes_eq word (codes "receive")) (receive_of (end_of 0 first) (session_of second) third fourth) None

@@ -1,6 +1,5 @@
 -- What the steps of a world leave of its receivers, one after the other: a packet that is made, a receiver that accepts
--- it, one
--- that takes in another, one that is written and read again.
+-- it, one that takes in another, one that is written and read again.
 use Rattle.std.specs.Prelude.{◌≡◌, ℕ, ◌+◌, ◌<◌, ◌≤◌, List, length, set, slice_get, Some, Ok, Err}
 use Rattle.field_elements.specs.Field.{Coding}
 use Rattle.packet_frame.specs.Frame.{IsFrame, text}

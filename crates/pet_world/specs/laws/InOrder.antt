@@ -79,8 +79,9 @@ module _ (receiver : ℕ) where
       let later = flat_map f (enumerate_from (k + 1) groups) in
       let above : All (λ q. k < q.0) later =
       flat_all (λ (q : ℕ × ℕ). k < q.0) f groups (k + 1)
-      (λ i n x at is. All-map (λ (q : ℕ × ℕ). k < q.0) (λ (layer : ℕ). (n, layer)) (newly_shown_by before now n x)
-      (λ j d lt. omega (arith, at))) in
+      (λ i n x at is.
+      let lower : k < n = omega (arith, at) in
+      All-map (λ (q : ℕ × ℕ). k < q.0) (λ (layer : ℕ). (n, layer)) (newly_shown_by before now n x) (λ j d lt. lower)) in
       let shown_above : All (λ y. k < y.group) (shown_to receiver later) =
       All-map (λ (y : Shown). k < y.group) named later above in
       let each = λ (x : Shown). All (IsBefore x) (shown_to receiver later) in

@@ -1,6 +1,5 @@
 -- A world after some events that were answered Ok, one after the other: the receivers have the sets after these events,
--- each
--- answer is what its event shows, and each store is that of the session's packets of the receiver's set.
+-- each answer is what its event shows, and each store is that of the session's packets of the receiver's set.
 use Rattle.std.proofs.Common.{◌≡◌, ◌≢◌, ℕ, zero, suc, ◌<◌, List, [], ◌∷◌, length, set, Some, refl, sym, ap, ap₂, subst}
 use Rattle.std.proofs.Common.{◌∙◌, arith, inl, inr}
 use Rattle.std.specs.Prelude.{slice_get}

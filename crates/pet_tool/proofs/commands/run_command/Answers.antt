@@ -3,15 +3,22 @@ use Rattle.outside_routes.specs.Way.{way_of}
 use Rattle.pet_base.specs.Lent.{seen}
 use Rattle.pet_text.specs.declared.words.Command.{Command}
 use Rattle.pet_tool.specs.Does.{Does}
-use Rattle.pet_tool.proofs.WordsRead.{check_words, differs_in}
+use Rattle.pet_tool.proofs.WordsRead.{check_words, differs_in, unwrap_words, video_id_in}
 use Rattle.pet_tool.proofs.commands.run_command.Goals as goal
 
 pub run_send-requires : goal.run_send-requires
 run_send-requires g c = record {
   differ =
       differs_in c.requires.given.0 c.args.command.now c.in-Send.stream c.in-Send.priority c.as_str-in-Send.result.now
-      (way_of c.route.result) c.in-Send.to
-      c.requires.given.1 c.in-Send.is c.as_str-in-Send.ensures c.route.ensures;
+      (way_of c.route-to.result) c.in-Send.to
+      c.requires.given.1 c.in-Send.is c.as_str-in-Send.ensures c.route-to.ensures;
+}
+
+pub run_unwrap-requires : goal.run_unwrap-requires
+run_unwrap-requires g c = record {
+  video =
+      video_id_in c.requires.given.0 c.args.command.now c.in-Unwrap.file c.in-Unwrap.out c.in-Unwrap.id
+      c.requires.given.1 c.in-Unwrap.is;
 }
 
 pub returns-in-Check-clause-does : goal.returns-in-Check-clause-does
@@ -19,3 +26,10 @@ returns-in-Check-clause-does g c told status tells =
     subst (λ (command : Command). Does (Some command) (seen c.args.outside.now) told status)
     (sym (check_words _ _ _ _ _ _ _ c.in-Check.is c.as_str-in-Check.ensures c.as_str-in-Check-2.ensures
     c.as_str-in-Check-3.ensures)) (c.run_check.ensures.does told status tells)
+
+pub returns-in-Unwrap-clause-does : goal.returns-in-Unwrap-clause-does
+returns-in-Unwrap-clause-does g c told status tells =
+    subst (λ (command : Command). Does (Some command) (seen c.args.outside.now) told status)
+    (sym (unwrap_words c.args.command.now c.in-Unwrap.file c.in-Unwrap.id c.in-Unwrap.out c.as_str-in-Unwrap.result.now
+    c.as_str-in-Unwrap-2.result.now c.in-Unwrap.is c.as_str-in-Unwrap.ensures c.as_str-in-Unwrap-2.ensures))
+    (c.run_unwrap.ensures.does told status tells)

@@ -1,4 +1,4 @@
-use Rattle.std.proofs.Common.{◌+◌, ◌-◌, ℕ, List, Option, sym, ap, ◌∙◌, arith}
+use Rattle.std.proofs.Common.{◌+◌, ℕ, List, Option, sym, ap, ◌∙◌, arith}
 use Rattle.text_cuts.specs.Cuts.{lines_of}
 use Rattle.pet_base.specs.declared.event.Event.{Event}
 use Rattle.text_script.specs.Script.{then_events, events_from, behind_events}

@@ -1,4 +1,4 @@
-use Rattle.std.proofs.Common.{◌≡◌, ◌+◌, ◌-◌, ◌≤◌, length}
+use Rattle.std.proofs.Common.{◌≡◌, ◌+◌, ◌≤◌, length}
 use Rattle.text_cuts.specs.Cuts.{lines_of}
 use Rattle.text_script.specs.Script.{script_of, events_from, behind_events}
 use Rattle.text_script.proofs.script.read_script.Given as goal

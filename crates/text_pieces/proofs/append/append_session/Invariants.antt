@@ -1,7 +1,7 @@
 use Rattle.std.proofs.Common.{◌≡◌, ◌+◌, ◌*◌, ◌++◌, drop}
 use Rattle.arrayvec.specs.ArrayVec.{array_vec_len}
 use Rattle.text_plan.specs.PlanLines.{hex_text}
-use Rattle.pet_text.proofs.append.append_session.Given as goal
+use Rattle.text_pieces.proofs.append.append_session.Given as goal
 
 abbrev pub invariant-loop-byte : goal.invariant-loop-byte
 invariant-loop-byte l = record {

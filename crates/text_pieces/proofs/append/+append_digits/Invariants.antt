@@ -1,4 +1,4 @@
-use Rattle.pet_text.proofs.append.+append_digits.Given as goal
+use Rattle.text_pieces.proofs.append.+append_digits.Given as goal
 
 abbrev pub decreases-append_digits : goal.decreases-append_digits
 decreases-append_digits l = l.number

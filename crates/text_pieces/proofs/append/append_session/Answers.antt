@@ -1,7 +1,7 @@
 use Rattle.std.proofs.Common.{ℕ, [], ◌∷◌, ◌++◌, ap, ◌∙◌, arith}
 use Rattle.text_plan.specs.PlanLines.{hex_text}
 use Rattle.text_plan.proofs.HexDigits.{byte_more}
-use Rattle.pet_text.proofs.append.append_session.Goals as goal
+use Rattle.text_pieces.proofs.append.append_session.Goals as goal
 
 pub loop-byte-preserved : goal.loop-byte-preserved
 loop-byte-preserved c =

@@ -1,5 +1,5 @@
 //! The pieces of a line, which take no memory.
-ghost use Rattle.std.specs.Prelude.{◌≡◌, ◌+◌, ◌≤◌, ◌++◌, length, decimal};
+ghost use Rattle.std.specs.Prelude.{◌≡◌, ◌+◌, ◌≤◌, [], ◌++◌, length, codes, decimal};
 ghost use Rattle.arrayvec.specs.ArrayVec.{array_vec_len};
 ghost use Rattle.text_plan.specs.PlanLines.{hex_text};
 
@@ -13,6 +13,17 @@ pub fn append_text(text: &str, into: &mut ArrayVec<u8, 64>)
     ensures len { array_vec_len into.new ≡ array_vec_len into.old + length text.now }
 {
     let _ = into.try_extend_from_slice(text.as_bytes());
+}
+
+/// Leaves words of at most 40 bytes and a number, as a line, in `into`, which must be empty.
+pub fn number_line(words: &str, number: u64, into: &mut ArrayVec<u8, 64>)
+    requires begun { into.old.items ≡ [] }
+    requires short { length words.now ≤ 40 }
+    ensures { into.new.items ≡ words.now ++ decimal number ++ codes "\n" }
+{
+    append_text(words, into);
+    append_number(number, into);
+    append_text("\n", into);
 }
 
 /// Appends a number in decimal digits, of which there are at most 20.

@@ -1,6 +1,6 @@
 use Rattle.std.proofs.Common.{arith}
-use Rattle.pet_text.proofs.Digits.{digits_more, text_more}
-use Rattle.pet_text.proofs.append.+append_digits.Goals as goal
+use Rattle.text_pieces.proofs.Digits.{digits_more, text_more}
+use Rattle.text_pieces.proofs.append.+append_digits.Goals as goal
 
 pub append_digits-requires : goal.append_digits-requires
 append_digits-requires t c = (
