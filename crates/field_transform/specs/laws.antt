@@ -1,3 +1,4 @@
 pub mod PaddedLaws
 pub mod StepLaws
+pub mod BinarySubspaces
 pub mod Gf16Subspaces

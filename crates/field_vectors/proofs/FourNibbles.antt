@@ -1,6 +1,7 @@
 -- The product with a word is the sum of its products with the nibbles.
 use lib.Lanes.{zip2, Each1}
-use Rattle.field_vectors.proofs.LaneMaps.{map_each, map_all}
+use Rattle.field_vectors.proofs.LaneMaps.{map_all}
+use Rattle.field_vectors.specs.laws.LaneLaws.{map_each}
 use Rattle.std.proofs.lemmas.Simd.{zip2_of_maps, Each1-weaker}
 use Rattle.std.proofs.Common.{map, ◌≡◌, ℕ, ◌*◌, ◌/◌, ◌%◌, ◌<◌, ◌^◌, List, [], get_or, bit_xor, sym, ap, ap₂, ◌∙◌, arith}
 use Rattle.std.proofs.lemmas.Nat.{xor_mod, xor_shr, xor_lt}
@@ -9,7 +10,14 @@ use Rattle.field_elements.specs.laws.Gf16Laws.{gf16_modulus}
 use Rattle.field_elements.specs.laws.ResidueLaws.{times_below}
 use Rattle.field_vectors.specs.inside.Lanes.{at_nibbles}
 use Rattle.field_vectors.specs.Nibbles.{AreProducts}
-use Rattle.field_vectors.proofs.Doubling.{T, linear, apart}
+use Rattle.field_vectors.specs.laws.NibbleLaws as nibbles
+use Rattle.field_vectors.specs.laws.NibbleLaws.{apart}
+
+abbrev pub T : ℕ → ℕ → ℕ
+T x a = times 16 0x1100B x a
+
+linear : (x a b : ℕ) → x < 65536 → a < 65536 → b < 65536 → T x (bit_xor a b) ≡ bit_xor (T x a) (T x b)
+linear = nibbles.linear 16 0x1100B gf16_modulus (omega arith)
 
 pub below : (x a : ℕ) → x < 65536 → a < 65536 → T x a < 65536
 below x a h g = times_below 16 0x1100B gf16_modulus.some gf16_modulus.degree x a h g

@@ -6,7 +6,12 @@ use Rattle.field_elements.specs.Carryless.{product_of_bits, remainder_of_bits}
 use Rattle.field_elements.specs.laws.Gf16Laws.{gf16_modulus}
 use Rattle.field_elements.specs.laws.ResidueLaws.{times-one, times_assoc}
 use Rattle.field_vectors.specs.Nibbles.{AreProducts}
-use Rattle.field_vectors.proofs.Doubling.{T, placed}
+use Rattle.field_vectors.specs.laws.NibbleLaws as nibbles
+use Rattle.field_vectors.proofs.FourNibbles.{T}
+
+placed : (x y k n : ℕ) → x < 65536 → 2 ^ k < 65536 → n < 65536 → n * 2 ^ k < 65536 → y ≡ T x (2 ^ k)
+    → T y n ≡ T x (n * 2 ^ k)
+placed = nibbles.placed 16 0x1100B gf16_modulus (omega arith)
 
 pub sixteens : (T 16 16 ≡ 256) × (T 256 16 ≡ 4096)
 unfolding times product_of_bits remainder_of_bits

@@ -11,11 +11,8 @@ use Rattle.std.proofs.lemmas.Simd.{swz_l, SwzOk, SwzOk-from_below, Each1-all, Ea
 use Rattle.std.proofs.lemmas.Simd.{zip2_splat, length-zip2, length-swz_l, get_or-swz_l_below, Each1-get_or, map-map}
 use Rattle.std.proofs.lemmas.Simd.{pick_l_left}
 use lib.Lanes.{zip2, Each1, pick_l}
-use Rattle.field_vectors.specs.inside.Lanes.{IsSpread}
-
-pub map_each : (f g : ℕ → ℕ) (v : List ℕ) → Each1 (λ a. f a ≡ g a) v → map f v ≡ map g v
-map_each f g [] h = refl
-map_each f g (a ∷ v) h = ap₂ ◌∷◌ h.0 (map_each f g v h.1)
+use Rattle.field_vectors.specs.Spread.{IsSpread}
+use Rattle.field_vectors.specs.laws.LaneLaws.{map_each}
 
 pub map_all : (f g : ℕ → ℕ) (v : List ℕ) → ((a : ℕ) → f a ≡ g a) → map f v ≡ map g v
 map_all f g v h = map_each f g v (Each1-all (λ a. f a ≡ g a) h v)

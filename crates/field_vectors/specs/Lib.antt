@@ -1,4 +1,5 @@
 pub mod Nibbles
 pub mod Factors
+pub mod Spread
 pub mod inside
 pub mod laws

@@ -1,1 +1,4 @@
 pub mod WordLaws
+pub mod NibbleLaws
+pub mod LaneLaws
+pub mod LoopLaws

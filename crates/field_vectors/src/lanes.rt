@@ -1,7 +1,8 @@
 //! Vectors, lane by lane.
 ghost use Rattle.std.specs.Prelude.{◌≡◌, ℕ, List, slice_index, ◌+◌, ◌*◌, ◌/◌, ◌%◌, ◌<◌, length, map, bit_xor, bit_and};
 ghost use Rattle.std.specs.Simd.Lanes.{Each1, zip2};
-ghost use Rattle.field_vectors.specs.inside.Lanes.{IsSpread, at_nibbles};
+ghost use Rattle.field_vectors.specs.Spread.{IsSpread};
+ghost use Rattle.field_vectors.specs.inside.Lanes.{at_nibbles};
 
 use std::simd::prelude::*;
 
@@ -31,7 +32,7 @@ pub(crate) fn join(low: u8x32, high: u8x32) -> u16x32
 
 /// A table of sixteen bytes twice.
 #[inline(always)]
-pub(crate) fn spread(table: &[u8; 16]) -> u8x32
+pub fn spread(table: &[u8; 16]) -> u8x32
     ensures { IsSpread table.now result }
 {
     u8x16::from_slice(table).swizzle([
@@ -42,7 +43,7 @@ pub(crate) fn spread(table: &[u8; 16]) -> u8x32
 
 /// The entries at the low nibbles.
 #[inline(always)]
-pub(crate) fn at_low(table: u8x32, v: u8x32) -> u8x32
+pub fn at_low(table: u8x32, v: u8x32) -> u8x32
     ensures { (entries : List ℕ) → IsSpread entries table → result ≡ map (λ a. slice_index entries (a % 16)) v }
 {
     table.swizzle_dyn_within::<16>(v & u8x32::splat(15))
@@ -50,7 +51,7 @@ pub(crate) fn at_low(table: u8x32, v: u8x32) -> u8x32
 
 /// The entries at the high nibbles.
 #[inline(always)]
-pub(crate) fn at_high(table: u8x32, v: u8x32) -> u8x32
+pub fn at_high(table: u8x32, v: u8x32) -> u8x32
     ensures { (entries : List ℕ) → IsSpread entries table → result ≡ map (λ a. slice_index entries (a / 16)) v }
 {
     table.swizzle_dyn_within::<16>(v >> u8x32::splat(4))

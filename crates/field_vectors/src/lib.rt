@@ -16,5 +16,6 @@ mod products;
 
 pub use count::count_steps;
 pub use kernels::{add_multiples, column_values, scale_row};
+pub use lanes::{at_high, at_low, spread};
 pub use long_rows::{add_multiple_row, butterfly_row, multiply_row};
 pub use products::Products;

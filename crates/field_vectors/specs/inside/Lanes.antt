@@ -1,10 +1,5 @@
 -- Vectors, lane by lane.
-use Rattle.std.specs.Prelude.{◌≡◌, ℕ, ◌%◌, ◌/◌, ◌<◌, List, length, slice_index, bit_xor}
-
--- each block of sixteen lanes is the table
-pub record IsSpread (table lanes : List ℕ) : Type 0 where
-  pub long : length lanes ≡ 32
-  pub entry : (i : ℕ) → i < 32 → slice_index lanes i ≡ slice_index table (i % 16)
+use Rattle.std.specs.Prelude.{ℕ, ◌%◌, ◌/◌, List, slice_index, bit_xor}
 
 -- the sum of the entries at the four nibbles of a word
 abbrev pub at_nibbles : List ℕ → List ℕ → List ℕ → List ℕ → ℕ → ℕ

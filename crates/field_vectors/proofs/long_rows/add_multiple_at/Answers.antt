@@ -1,20 +1,14 @@
-use Rattle.std.proofs.Common.{◌∙◌, ◌+◌, get_or, length, ap, arith}
-use Rattle.std.proofs.lemmas.List.{length-map}
+use Rattle.std.proofs.Common.{◌∙◌, ◌+◌, get_or, arith}
 use Rattle.field_elements.specs.Gf16.{gf16}
-use Rattle.field_vectors.proofs.LongRows.{product_lane, sum_lane}
+use Rattle.field_vectors.specs.laws.LaneLaws.{added_lane}
 use Rattle.field_vectors.proofs.long_rows.add_multiple_at.Goals as goal
 
 pub returns-clause-inside : goal.returns-clause-inside
 returns-clause-inside c k l m =
-    let x = c.args.by.now.factor in
     let from = c.load in
     let to = c.load-2 in
-    let at = c.args.at in
-    let products = c.times-products.result in
+    let at = c.args.at + k in
     c.store.ensures.inside k l (omega (arith, c.requires.same))
-    ∙ sum_lane k (get_or c.args.into.now (at + k) 0)
-    (gf16.times x (get_or c.args.other.now (at + k) 0)) to.result products to.ensures.long
-    (ap length c.times-products.ensures ∙ length-map from.result (gf16.times x) ∙ from.ensures.long) l
-    (to.ensures.lanes k l)
-    (product_lane x k (get_or c.args.other.now (at + k) 0) from.result products from.ensures.long l
-    c.times-products.ensures (from.ensures.lanes k l))
+    ∙ added_lane (gf16.times c.args.by.now.factor) k (get_or c.args.into.now at 0) (get_or c.args.other.now at 0) to.result
+    from.result c.times-products.result to.ensures.long from.ensures.long l c.times-products.ensures
+    (to.ensures.lanes k l) (from.ensures.lanes k l)

@@ -1,6 +1,6 @@
 use Rattle.std.proofs.Common.{ℕ, ◌+◌, ◌≡◌, ◌≤◌, ◌<◌, ◌∙◌, length, get_or, bit_xor, ap, arith}
 use Rattle.field_elements.specs.Gf16.{gf16}
-use Rattle.field_vectors.proofs.LongRows.{vector_done, vector_others}
+use Rattle.field_vectors.specs.laws.LaneLaws.{vector_done, vector_others}
 use Rattle.field_vectors.proofs.long_rows.add_multiple_row.Goals as goal
 
 pub loop-at-preserved : goal.loop-at-preserved

@@ -1,10 +1,10 @@
 use Rattle.std.proofs.Common.{◌∙◌, ◌+◌, get_or}
-use Rattle.field_vectors.proofs.LongRows.{product_lane}
+use Rattle.field_elements.specs.Gf16.{gf16}
+use Rattle.field_vectors.specs.laws.LaneLaws.{product_lane}
 use Rattle.field_vectors.proofs.long_rows.multiply_at.Goals as goal
 
 pub returns-clause-inside : goal.returns-clause-inside
 returns-clause-inside c k l m =
     c.store.ensures.inside k l m
-    ∙ product_lane c.args.by.now.factor k
-    (get_or c.args.row.now (c.args.at + k) 0) c.load.result c.times.result c.load.ensures.long l c.times.ensures
-    (c.load.ensures.lanes k l)
+    ∙ product_lane (gf16.times c.args.by.now.factor) k (get_or c.args.row.now (c.args.at + k) 0) c.load.result
+    c.times.result c.load.ensures.long l c.times.ensures (c.load.ensures.lanes k l)

@@ -1,5 +1,5 @@
 use Rattle.std.proofs.Common.{◌++◌, length, replicate, get_or, drop, ap, ◌∙◌}
-use Rattle.field_vectors.proofs.Padding.{padded}
+use Rattle.field_vectors.specs.laws.LaneLaws.{padded}
 use Rattle.field_vectors.proofs.memory.part.Goals as goal
 
 pub returns : goal.returns

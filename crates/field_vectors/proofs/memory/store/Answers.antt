@@ -2,7 +2,7 @@ use Rattle.std.proofs.Common.{◌≡◌, ◌-◌, length, take, drop, ap, arith,
 use Rattle.std.proofs.lemmas.Simd.{get_or-put_chunk_at, get_or-put_chunk_below, get_or-put_chunk_above}
 use Rattle.std.proofs.lemmas.List.{take_rest, length-drop}
 use borrow.Rule.Slice.PartMut.{post_of}
-use Rattle.field_vectors.proofs.Padding.{in_middle}
+use Rattle.field_vectors.specs.laws.LaneLaws.{in_middle}
 use Rattle.field_vectors.proofs.memory.store.Goals as goal
 
 pub returns-then-rows-at-ge32-clause-inside : goal.returns-then-rows-at-ge32-clause-inside
