@@ -1,0 +1,2 @@
+pub mod TwoNibbles
+pub mod Powers

@@ -1,0 +1,65 @@
+use Rattle.std.proofs.Common.{◌≡◌, ◌<◌, ◌+◌, ◌*◌, ℕ, get_or, length, bit_xor, ap, sym, ◌∙◌, arith}
+use Rattle.std.proofs.lemmas.List.{get_or-map}
+use Rattle.field_rows.proofs.AddedRows.{sums_more, rest_more, next_room}
+use Rattle.field_rows.specs.laws.PlaceLaws.{more_rows, rows_le}
+use Rattle.field_vectors.specs.laws.LoopLaws.{row_added, row_behind}
+use Rattle.gf8.specs.declared.products.ByteProducts.{ByteProducts}
+use Rattle.gf8.specs.Factors.{factors_of}
+use Rattle.gf8.specs.Gf8.{gf8}
+use Rattle.gf8.specs.laws.Gf8Laws.{gf8_field}
+use Rattle.gf8.proofs.kernels.add_multiples.Goals as goal
+
+pub add_times-requires : goal.add_times-requires
+add_times-requires c =
+    omega (
+      arith,
+      c.loop-j.invariant.place,
+      rows_le c.loop-j.j (length c.args.products.now) (length c.args.row.now) (omega arith),
+      c.requires.room,
+      c.loop-j.auto.rows,
+    )
+
+pub loop-j-preserved : goal.loop-j-preserved
+loop-j-preserved c =
+    let row = c.args.row.now in
+    let w = length row in
+    let j = c.loop-j.j in
+    let at = c.loop-j.at in
+    let rows = c.loop-j.rows in
+    let new = c.add_times.new.rows in
+    let place : at ≡ j * w = c.loop-j.invariant.place in
+    let lane : (i : ℕ) → i < 32 → get_or c.load-from.result i 0 ≡ get_or row i 0 =
+    λ i l. c.load-from.ensures.lanes i l ∙ ap (λ k. get_or row k 0) (omega arith) in
+    let tables = c.index-products-j.result in
+    let f = tables.factor in
+    let factor : ℕ → ℕ = λ (i : ℕ). get_or (factors_of c.args.products.now) i 0 in
+    let f_is : f ≡ factor j =
+    sym (get_or-map (λ (q : ByteProducts). q.factor) c.args.products.now j tables 0 (omega arith)
+    ∙ ap (λ (q : ByteProducts). q.factor) (sym c.index-products-j.is)) in
+    let room = next_room j (length c.args.products.now) at w (length rows) (length c.args.rows.now) (omega arith) place
+    c.requires.room c.loop-j.auto.rows in
+    let lanes : (i : ℕ) → i < 32 → at + i < length rows
+    → get_or new (at + i) 0 ≡ bit_xor (get_or rows (at + i) 0) (gf8.times f (get_or row i 0)) =
+    λ i l m. c.add_times.ensures.inside i l m
+    ∙ ap (λ y. bit_xor (get_or rows (at + i) 0) (gf8.times f y)) (lane i l) in
+    let inside = row_added 8 0x11D gf8_field at f row rows new tables.right.element c.requires.narrow
+    c.add_times.auto.rows lanes c.add_times.ensures.behind room in
+    let behind = row_behind 8 0x11D gf8_field at f row rows new tables.right.element c.requires.narrow
+    c.add_times.auto.rows lanes c.add_times.ensures.behind in
+    record {
+      place = ap (λ k. k + w) place ∙ sym (more_rows j w);
+      done =
+          sums_more gf8 j at row rows c.args.rows.now new f factor place inside c.add_times.ensures.before behind f_is
+          c.loop-j.invariant.rest c.loop-j.invariant.done;
+      rest =
+          rest_more gf8 j at row rows c.args.rows.now new f factor place inside c.add_times.ensures.before behind f_is
+          c.loop-j.invariant.rest;
+    }
+
+pub returns : goal.returns
+returns c =
+    record {
+      sums = λ j k l m. c.loop-j.invariant.done j k (omega arith) m;
+      others = λ i l. c.loop-j.invariant.rest i
+          (omega (arith, rows_le c.loop-j.j (length c.args.products.now) (length c.args.row.now) (omega arith)));
+    }

@@ -1,0 +1,3 @@
+pub mod Gf8Laws
+pub mod Gf8Subspaces
+pub mod ByteLaws

@@ -1,0 +1,182 @@
+//! The field of 256 elements, by tables of the powers of x and of their exponents.
+ghost use Rattle.std.specs.Prelude.{◌≡◌, ◌↔◌, ◌<◌, ℕ, refl, slice_index};
+ghost use Rattle.gf8.specs.Gf8.{gf8, gf8_coding};
+ghost use Rattle.gf8.specs.inside.Powers.{power_of_x};
+ghost use Rattle.gf8.specs.declared.tables.TheConstants.{EXPONENTS};
+ghost use Rattle.gf8.specs.laws.Gf8Laws.{gf8_lawful, gf8_equal};
+
+use crate::plain::Gf8Plain;
+use field_elements::Field;
+use pet_base::Steps;
+use std::sync::ledger::Ledger;
+
+/// x to this power is 1.
+const ORDER: usize = 255;
+
+/// At k, x to the power k, for each sum of two exponents.
+const POWERS: [u8; 510] = [
+    1, 2, 4, 8, 16, 32, 64, 128, 29, 58, 116, 232, 205, 135, 19, 38, 76, 152, 45, 90, 180, 117,
+    234, 201, 143, 3, 6, 12, 24, 48, 96, 192, 157, 39, 78, 156, 37, 74, 148, 53, 106, 212, 181,
+    119, 238, 193, 159, 35, 70, 140, 5, 10, 20, 40, 80, 160, 93, 186, 105, 210, 185, 111, 222, 161,
+    95, 190, 97, 194, 153, 47, 94, 188, 101, 202, 137, 15, 30, 60, 120, 240, 253, 231, 211, 187,
+    107, 214, 177, 127, 254, 225, 223, 163, 91, 182, 113, 226, 217, 175, 67, 134, 17, 34, 68, 136,
+    13, 26, 52, 104, 208, 189, 103, 206, 129, 31, 62, 124, 248, 237, 199, 147, 59, 118, 236, 197,
+    151, 51, 102, 204, 133, 23, 46, 92, 184, 109, 218, 169, 79, 158, 33, 66, 132, 21, 42, 84, 168,
+    77, 154, 41, 82, 164, 85, 170, 73, 146, 57, 114, 228, 213, 183, 115, 230, 209, 191, 99, 198,
+    145, 63, 126, 252, 229, 215, 179, 123, 246, 241, 255, 227, 219, 171, 75, 150, 49, 98, 196, 149,
+    55, 110, 220, 165, 87, 174, 65, 130, 25, 50, 100, 200, 141, 7, 14, 28, 56, 112, 224, 221, 167,
+    83, 166, 81, 162, 89, 178, 121, 242, 249, 239, 195, 155, 43, 86, 172, 69, 138, 9, 18, 36, 72,
+    144, 61, 122, 244, 245, 247, 243, 251, 235, 203, 139, 11, 22, 44, 88, 176, 125, 250, 233, 207,
+    131, 27, 54, 108, 216, 173, 71, 142, 1, 2, 4, 8, 16, 32, 64, 128, 29, 58, 116, 232, 205, 135,
+    19, 38, 76, 152, 45, 90, 180, 117, 234, 201, 143, 3, 6, 12, 24, 48, 96, 192, 157, 39, 78, 156,
+    37, 74, 148, 53, 106, 212, 181, 119, 238, 193, 159, 35, 70, 140, 5, 10, 20, 40, 80, 160, 93,
+    186, 105, 210, 185, 111, 222, 161, 95, 190, 97, 194, 153, 47, 94, 188, 101, 202, 137, 15, 30,
+    60, 120, 240, 253, 231, 211, 187, 107, 214, 177, 127, 254, 225, 223, 163, 91, 182, 113, 226,
+    217, 175, 67, 134, 17, 34, 68, 136, 13, 26, 52, 104, 208, 189, 103, 206, 129, 31, 62, 124, 248,
+    237, 199, 147, 59, 118, 236, 197, 151, 51, 102, 204, 133, 23, 46, 92, 184, 109, 218, 169, 79,
+    158, 33, 66, 132, 21, 42, 84, 168, 77, 154, 41, 82, 164, 85, 170, 73, 146, 57, 114, 228, 213,
+    183, 115, 230, 209, 191, 99, 198, 145, 63, 126, 252, 229, 215, 179, 123, 246, 241, 255, 227,
+    219, 171, 75, 150, 49, 98, 196, 149, 55, 110, 220, 165, 87, 174, 65, 130, 25, 50, 100, 200,
+    141, 7, 14, 28, 56, 112, 224, 221, 167, 83, 166, 81, 162, 89, 178, 121, 242, 249, 239, 195,
+    155, 43, 86, 172, 69, 138, 9, 18, 36, 72, 144, 61, 122, 244, 245, 247, 243, 251, 235, 203, 139,
+    11, 22, 44, 88, 176, 125, 250, 233, 207, 131, 27, 54, 108, 216, 173, 71, 142,
+];
+
+/// At each element but zero, the power of x that it is.
+const EXPONENTS: [u8; 256] = [
+    0, 0, 1, 25, 2, 50, 26, 198, 3, 223, 51, 238, 27, 104, 199, 75, 4, 100, 224, 14, 52, 141, 239,
+    129, 28, 193, 105, 248, 200, 8, 76, 113, 5, 138, 101, 47, 225, 36, 15, 33, 53, 147, 142, 218,
+    240, 18, 130, 69, 29, 181, 194, 125, 106, 39, 249, 185, 201, 154, 9, 120, 77, 228, 114, 166, 6,
+    191, 139, 98, 102, 221, 48, 253, 226, 152, 37, 179, 16, 145, 34, 136, 54, 208, 148, 206, 143,
+    150, 219, 189, 241, 210, 19, 92, 131, 56, 70, 64, 30, 66, 182, 163, 195, 72, 126, 110, 107, 58,
+    40, 84, 250, 133, 186, 61, 202, 94, 155, 159, 10, 21, 121, 43, 78, 212, 229, 172, 115, 243,
+    167, 87, 7, 112, 192, 247, 140, 128, 99, 13, 103, 74, 222, 237, 49, 197, 254, 24, 227, 165,
+    153, 119, 38, 184, 180, 124, 17, 68, 146, 217, 35, 32, 137, 46, 55, 63, 209, 91, 149, 188, 207,
+    205, 144, 135, 151, 178, 220, 252, 190, 97, 242, 86, 211, 171, 20, 42, 93, 158, 132, 60, 57,
+    83, 71, 109, 65, 162, 31, 45, 67, 216, 183, 123, 164, 118, 196, 23, 73, 236, 127, 12, 111, 246,
+    108, 161, 59, 82, 41, 157, 85, 170, 251, 96, 134, 177, 187, 204, 62, 90, 203, 89, 95, 176, 156,
+    169, 160, 81, 11, 245, 22, 235, 122, 117, 44, 215, 79, 174, 213, 233, 230, 231, 173, 232, 116,
+    214, 244, 234, 168, 80, 88, 175,
+];
+
+/// GF(2^8), computed by tables. It has the meaning of `Gf8Plain`.
+#[derive(Drop)]
+pub struct Gf8Tables;
+
+impl Gf8Tables {
+    /// The field. Its tables are constants, so it takes no memory.
+    pub fn new() -> Gf8Tables {
+        Gf8Tables
+    }
+
+    /// What this field is: the field of `Gf8Plain`, with its points and its spellings in bytes.
+    pub fn meaning(&self)
+        ensures coding { ⟦<Gf8Tables as Field>⟧.coding ≡ ⟦<Gf8Plain as Field>⟧.coding }
+        ensures elements { (a : ℕ) → (⟦<Gf8Tables as Field>⟧.is_element a
+            ↔ ⟦<Gf8Plain as Field>⟧.is_element a) }
+        ensures width { ⟦<Gf8Tables as Field>⟧.WIDTH ≡ ⟦<Gf8Plain as Field>⟧.WIDTH }
+        ensures count { ⟦<Gf8Tables as Field>⟧.COUNT ≡ ⟦<Gf8Plain as Field>⟧.COUNT }
+    {}
+}
+
+impl Field for Gf8Tables {
+    type Elem = u8;
+
+    const WIDTH: usize = 1;
+
+    const COUNT: u32 = 256;
+
+    ghost WIDTH = { 1 };
+
+    ghost COUNT = { 256 };
+
+    ghost is_element = { λ a. a < 256 };
+
+    ghost coding = { gf8_coding };
+
+    ghost lawful = { gf8_lawful };
+
+    ghost equal = { gf8_equal };
+
+    ghost wide = { refl };
+
+    fn zero(&self) -> u8 {
+        Gf8Plain.zero()
+    }
+
+    fn one(&self) -> u8 {
+        Gf8Plain.one()
+    }
+
+    fn add(&self, a: u8, b: u8) -> u8 {
+        Gf8Plain.add(a, b)
+    }
+
+    fn sub(&self, a: u8, b: u8) -> u8 {
+        Gf8Plain.sub(a, b)
+    }
+
+    fn mul<L: Ledger>(&self, a: u8, b: u8, steps: &mut Steps<L>) -> u8 {
+        steps.tick();
+        product(a, b)
+    }
+
+    fn inv<L: Ledger>(&self, a: u8, steps: &mut Steps<L>) -> u8 {
+        steps.tick();
+        inverse(a)
+    }
+
+    fn point(&self, number: u32) -> u8 {
+        Gf8Plain.point(number)
+    }
+
+    fn read(&self, bytes: &[u8]) -> u8 {
+        Gf8Plain.read(bytes)
+    }
+
+    fn write(&self, a: u8, into: &mut [u8]) {
+        Gf8Plain.write(a, into);
+    }
+}
+
+/// The product of two elements, by the sum of their exponents.
+fn product(a: u8, b: u8) -> u8
+    ensures { result ≡ gf8.times a b }
+{
+    if a == 0 || b == 0 {
+        return 0;
+    }
+    power(exponent(a) + exponent(b))
+}
+
+/// The inverse of an element but zero, by what its exponent lacks of the order of x.
+fn inverse(a: u8) -> u8
+    requires { 0 < a }
+    ensures { gf8.times a result ≡ 1 }
+{
+    power(ORDER - exponent(a))
+}
+
+/// The exponent of an element but zero.
+fn exponent(a: u8) -> usize
+    requires { 0 < a }
+    ensures below { result < 255 }
+    ensures is { power_of_x result ≡ a }
+{
+    usize::from(entry(a))
+}
+
+/// The entry at an element.
+fn entry(a: u8) -> u8
+    ensures { result ≡ slice_index EXPONENTS a }
+{
+    EXPONENTS[usize::from(a)]
+}
+
+/// A power of x.
+fn power(k: usize) -> u8
+    requires { k < 510 }
+    ensures { result ≡ power_of_x k }
+{
+    POWERS[k]
+}
