@@ -1,6 +1,6 @@
 -- Vectors, lane by lane.
 use Rattle.std.proofs.Common.{◌≡◌, ℕ, ◌+◌, ◌-◌, inl, inr, ◌*◌, ◌/◌, ◌%◌, ◌<◌, ◌^◌, List, [], ◌∷◌, ◌++◌, length, get_or}
-use Rattle.std.proofs.Common.{map, replicate, take, refl, sym, ap, ap₂, ◌∙◌, arith, w8, w16, Fits, bit_xor, bit_and}
+use Rattle.std.proofs.Common.{map, replicate, take, refl, sym, ap, ◌∙◌, arith, w8, w16, Fits, bit_xor, bit_and}
 use Rattle.std.specs.List.{range_with_len}
 use Rattle.std.proofs.lemmas.Bool.{cases_lt}
 use Rattle.std.proofs.lemmas.List.{get_or-map, length-map, ext_get_or, take_all, get_or_append_left}

@@ -1,6 +1,6 @@
 -- The field of 256 elements: degree 8 and the modulus x^8 + x^4 + x^3 + x^2 + 1. The choice of the modulus is this
 -- project's own.
-use Rattle.std.specs.Prelude.{ℕ, List, [], ◌∷◌, slice_index}
+use Rattle.std.specs.Prelude.{ℕ, [], ◌∷◌, slice_index}
 use Rattle.field_elements.specs.Field.{Operations, Coding}
 use Rattle.field_elements.specs.BinaryField.{residues}
 

@@ -7,5 +7,7 @@ use Rattle.gf8.proofs.kernels.column_values.Given as goal
 abbrev pub invariant-loop-j : goal.invariant-loop-j
 invariant-loop-j l = record {
   place : l.at ≡ l.j * length l.into;
-  sums : (c : ℕ) → c < length l.into → slice_index l.sums c ≡ horner_from gf8 0 (drop l.j (column 0 (length l.into) l.fn.count c l.rows)) l.products.factor;
+  sums : (c : ℕ) → c < length l.into
+      → slice_index l.sums c
+      ≡ horner_from gf8 0 (drop l.j (column 0 (length l.into) l.fn.count c l.rows)) l.products.factor;
 }

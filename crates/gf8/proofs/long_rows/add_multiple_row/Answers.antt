@@ -21,9 +21,14 @@ loop-at-preserved g c =
       inside = room;
       long = same;
       done =
-          vector_done at end n old now new c.requires same few far (λ i. bit_xor (get_or old i 0) (gf8.times x (get_or other i 0))) room c.loop-at.invariant.done
+          vector_done at end n old now new c.requires same few far
+          (λ i. bit_xor (get_or old i 0) (gf8.times x (get_or other i 0))) room c.loop-at.invariant.done
           c.add_multiple_at.ensures.before
           (λ i l m.
-          c.add_multiple_at.ensures.inside i l m ∙ ap (λ a. bit_xor a (gf8.times x (get_or other (at + i) 0))) (c.loop-at.invariant.others (at + i) (omega arith)));
-      others = vector_others at end n old now new c.requires same few far (omega arith) c.loop-at.invariant.others c.add_multiple_at.ensures.behind;
+          c.add_multiple_at.ensures.inside i l m
+          ∙ ap (λ a. bit_xor a (gf8.times x (get_or other (at + i) 0)))
+          (c.loop-at.invariant.others (at + i) (omega arith)));
+      others =
+          vector_others at end n old now new c.requires same few far
+          (omega arith) c.loop-at.invariant.others c.add_multiple_at.ensures.behind;
     }

@@ -19,9 +19,13 @@ loop-at-preserved g c =
       inside = omega (arith, same);
       long = same;
       done =
-          vector_done at end (length old) old now new refl same few far (λ i. gf8.times x (get_or old i 0)) room c.loop-at.invariant.done
+          vector_done at end (length old) old now new refl same few far
+          (λ i. gf8.times x (get_or old i 0)) room c.loop-at.invariant.done
           c.multiply_at.ensures.before
           (λ i l m.
-          c.multiply_at.ensures.inside i l (omega (arith, c.loop-at.invariant.long)) ∙ ap (gf8.times x) (c.loop-at.invariant.others (at + i) (omega arith)));
-      others = vector_others at end (length old) old now new refl same few far (omega arith) c.loop-at.invariant.others c.multiply_at.ensures.behind;
+          c.multiply_at.ensures.inside i l (omega (arith, c.loop-at.invariant.long))
+          ∙ ap (gf8.times x) (c.loop-at.invariant.others (at + i) (omega arith)));
+      others =
+          vector_others at end (length old) old now new refl same few far
+          (omega arith) c.loop-at.invariant.others c.multiply_at.ensures.behind;
     }

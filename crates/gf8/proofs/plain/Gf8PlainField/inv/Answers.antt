@@ -8,6 +8,8 @@ invert_modulo-requires-clause-irreducible g c = gf8_irreducible
 
 pub returns-clause-inverse : goal.returns-clause-inverse
 returns-clause-inverse g c =
-    product_unique 8 0x11D gf8_modulus.some gf8_modulus.degree c.args.a c.invert_modulo.result (times 8 0x11D c.args.a c.invert_modulo.result) 1
-    (times_is 8 0x11D gf8_modulus.some gf8_modulus.degree c.args.a c.invert_modulo.result c.requires.element c.invert_modulo.ensures.below)
+    product_unique 8 0x11D gf8_modulus.some gf8_modulus.degree c.args.a c.invert_modulo.result
+    (times 8 0x11D c.args.a c.invert_modulo.result) 1
+    (times_is 8 0x11D gf8_modulus.some gf8_modulus.degree c.args.a c.invert_modulo.result c.requires.element
+    c.invert_modulo.ensures.below)
     (rw c.from.ensures at c.invert_modulo.ensures.inverse)

@@ -6,7 +6,8 @@ use Rattle.gf8.proofs.plain.Gf8PlainField.mul.Goals as goal
 
 pub returns-clause-product : goal.returns-clause-product
 returns-clause-product g c =
-    product_unique 8 0x11D gf8_modulus.some gf8_modulus.degree c.args.a c.args.b c.multiply_modulo.result (times 8 0x11D c.args.a c.args.b)
+    product_unique 8 0x11D gf8_modulus.some gf8_modulus.degree c.args.a c.args.b c.multiply_modulo.result
+    (times 8 0x11D c.args.a c.args.b)
     (rw (c.from.ensures, c.from-2.ensures) at c.multiply_modulo.ensures)
     (times_is 8 0x11D gf8_modulus.some gf8_modulus.degree c.args.a c.args.b c.requires.first c.requires.second)
 

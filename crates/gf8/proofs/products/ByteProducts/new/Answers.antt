@@ -11,6 +11,8 @@ invariant_of-result c =
       right = record {
         element = omega (arith, c.ranges.factor.fits);
         low_is = a.ensures.table;
-        high_is = λ n l. b.ensures.table n l ∙ placed 8 0x11D gf8_modulus (omega arith) c.args.factor a.result.next 4 n (omega (arith, c.ranges.factor.fits)) (omega arith) (omega arith) (omega arith) a.ensures.next;
+        high_is = λ n l. b.ensures.table n l
+            ∙ placed 8 0x11D gf8_modulus (omega arith) c.args.factor a.result.next 4 n
+            (omega (arith, c.ranges.factor.fits)) (omega arith) (omega arith) (omega arith) a.ensures.next;
       };
     }

@@ -1,0 +1,169 @@
+//! Products and inverses of the field of 256 elements, of both types.
+ghost use Rattle.std.specs.Prelude.{◌≡◌, ℕ, ◌<◌, length};
+
+use field_elements::Field;
+use field_transform::values;
+use gf8::{Gf8Plain, Gf8Tables};
+use pet_base::Steps;
+use sha2::{Digest, Sha256};
+use std::marker::Brand;
+use std::sync::ledger::{Blank, Ledger};
+
+/// Two elements, their product, and the inverse of the first, 0 where it has none, as a model in Python has them that
+/// reduces the carryless product by long division and raises the first to the power 254.
+const VECTORS: [[u8; 4]; 64] = [
+    [0x02, 0x80, 0x1D, 0x8E],
+    [0x02, 0x02, 0x04, 0x8E],
+    [0x03, 0x03, 0x05, 0xF4],
+    [0x00, 0x00, 0x00, 0x00],
+    [0x00, 0x01, 0x00, 0x00],
+    [0x01, 0x00, 0x00, 0x01],
+    [0xFF, 0x00, 0x00, 0xFD],
+    [0x00, 0xFF, 0x00, 0x00],
+    [0x01, 0x01, 0x01, 0x01],
+    [0x01, 0xFF, 0xFF, 0x01],
+    [0xFF, 0x01, 0xFF, 0xFD],
+    [0xFF, 0xFF, 0xE2, 0xFD],
+    [0x80, 0x80, 0x13, 0x1B],
+    [0x8E, 0x02, 0x01, 0x02],
+    [0x1D, 0x1D, 0x4C, 0x83],
+    [0x8E, 0x8E, 0x47, 0x02],
+    [0x3B, 0x5F, 0x95, 0xA9],
+    [0xF7, 0x61, 0x77, 0xC9],
+    [0x21, 0x32, 0x3C, 0xED],
+    [0xB5, 0x0C, 0x2F, 0xF2],
+    [0x16, 0x24, 0xA2, 0x4C],
+    [0x40, 0xD0, 0x3E, 0x36],
+    [0x82, 0x36, 0x6E, 0xA1],
+    [0x67, 0xA5, 0x77, 0x4D],
+    [0x08, 0x76, 0x97, 0xAD],
+    [0x7D, 0x75, 0x3A, 0xCD],
+    [0x64, 0x7F, 0x0C, 0xB9],
+    [0x93, 0x32, 0x69, 0x4F],
+    [0xE6, 0xD5, 0xDE, 0xE2],
+    [0x68, 0x17, 0xCB, 0x52],
+    [0x7D, 0x3C, 0xBE, 0xCD],
+    [0xC3, 0x06, 0xB0, 0x35],
+    [0xB4, 0x45, 0x58, 0xEB],
+    [0x86, 0x69, 0xD5, 0xE4],
+    [0x7A, 0xE7, 0xA0, 0x06],
+    [0xEA, 0x62, 0xDD, 0xF3],
+    [0xBA, 0x1E, 0x6D, 0x07],
+    [0xAA, 0x43, 0x36, 0x0D],
+    [0x19, 0xFE, 0x06, 0xDE],
+    [0xD1, 0x11, 0x40, 0x71],
+    [0x63, 0x9F, 0xA2, 0x5B],
+    [0xD5, 0x61, 0x09, 0x43],
+    [0x1C, 0xAA, 0xD9, 0xA0],
+    [0x0F, 0x57, 0x3A, 0x96],
+    [0x3D, 0xB1, 0xD2, 0x0C],
+    [0x17, 0x80, 0x4F, 0x66],
+    [0xE8, 0xA7, 0xC3, 0xFA],
+    [0x85, 0xE7, 0xA2, 0xCC],
+    [0x36, 0x95, 0xAB, 0x40],
+    [0xCF, 0x25, 0x0C, 0x3A],
+    [0x9C, 0x11, 0xA9, 0xAC],
+    [0x8B, 0xF3, 0xEF, 0x2D],
+    [0x0A, 0x7E, 0x2B, 0xDD],
+    [0xB4, 0x32, 0xF9, 0xEB],
+    [0x26, 0xF3, 0x1B, 0x2C],
+    [0xDD, 0x95, 0x6D, 0x0A],
+    [0x75, 0xBB, 0x0D, 0xFB],
+    [0x96, 0xE2, 0xB4, 0x0F],
+    [0x72, 0x4A, 0x82, 0x11],
+    [0x8F, 0x5C, 0x72, 0xF5],
+    [0xDB, 0xE1, 0xE8, 0x78],
+    [0x6E, 0x23, 0xF3, 0x2F],
+    [0x29, 0xC4, 0x0F, 0xD0],
+    [0x9A, 0x19, 0x6B, 0xBD],
+];
+
+/// The SHA-256 digest of the values of 40 columns of 4 rows at the points of 4 to 7, of the same model.
+const VALUES_DIGEST: [u8; 32] = [
+    0x74, 0x1B, 0xE6, 0x27, 0xB8, 0xCD, 0x9E, 0x88, 0xD9, 0x00, 0xE9, 0x76, 0xDA, 0x7F, 0x1F, 0xA1,
+    0x05, 0xE3, 0x87, 0x15, 0xFC, 0xAA, 0x89, 0x39, 0x90, 0xD7, 0x5F, 0xB0, 0x0A, 0x39, 0x5D, 0xCA,
+];
+
+/// How many rows of two elements, their product and the inverse of the first have another product or another inverse. The
+/// inverse of zero is not looked at.
+fn wrong_rows<F: Field<Elem = u8>, L: Ledger>(field: &F, rows: &[[u8; 4]], blank: Blank) -> u32
+    requires all { (a : ℕ) → a < 256 → F.is_element a }
+    requires zero { F.coding.ops.nought ≡ 0 }
+    requires name { blank.name ≡ L.name }
+    requires parts { blank.parts ≡ L.parts }
+    requires some { 0 < blank.parts }
+{
+    let mut steps = Steps::<L>::new(blank);
+    let mut wrong: u32 = 0;
+    for row in rows {
+        let [a, b, product, inverse] = *row;
+        if field.mul(a, b, &mut steps) != product {
+            wrong = wrong.wrapping_add(1);
+        }
+        if a != 0 && field.inv(a, &mut steps) != inverse {
+            wrong = wrong.wrapping_add(1);
+        }
+    }
+    wrong
+}
+
+/// How many of the products of two elements differ between the two types.
+fn other_products<L: Ledger>(blank: Blank) -> u32
+    requires name { blank.name ≡ L.name }
+    requires parts { blank.parts ≡ L.parts }
+    requires some { 0 < blank.parts }
+{
+    let tables = Gf8Tables::new();
+    let mut steps = Steps::<L>::new(blank);
+    let mut other: u32 = 0;
+    for pair in 0..=u16::MAX {
+        let [a, b] = pair.to_be_bytes();
+        if Gf8Plain.mul(a, b, &mut steps) != tables.mul(a, b, &mut steps) {
+            other = other.wrapping_add(1);
+        }
+    }
+    other
+}
+
+/// Takes 4 rows of 40 bytes to the values of their columns at the points of 4 to 7, by the transform.
+fn transform<L: Ledger>(rows: &mut [u8], blank: Blank)
+    requires size { length rows.old ≡ 160 }
+    requires name { blank.name ≡ L.name }
+    requires parts { blank.parts ≡ L.parts }
+    requires some { 0 < blank.parts }
+{
+    let field = Gf8Tables::new();
+    let mut steps = Steps::<L>::new(blank);
+    values(&field, rows, 40, 2, 4, 1, 4, &mut steps);
+}
+
+#[test]
+fn agrees_with_a_model(rt: HostRuntime) {
+    let field = Gf8Plain;
+    let wrong = wrong_rows::<Gf8Plain, Brand>(&field, &VECTORS, Blank::new(1));
+    assert_eq!(rt; wrong, 0);
+}
+
+#[test]
+fn agrees_with_a_model_by_tables(rt: HostRuntime) {
+    let field = Gf8Tables::new();
+    let wrong = wrong_rows::<Gf8Tables, Brand>(&field, &VECTORS, Blank::new(1));
+    assert_eq!(rt; wrong, 0);
+}
+
+#[test]
+fn has_the_same_products_by_tables(rt: HostRuntime) {
+    assert_eq!(rt; other_products::<Brand>(Blank::new(1)), 0);
+}
+
+#[test]
+fn transforms_rows_by_vectors(rt: HostRuntime) {
+    let mut rows = [0u8; 160];
+    let mut byte: u8 = 11;
+    for place in rows.iter_mut() {
+        *place = byte;
+        byte = byte.wrapping_add(37);
+    }
+    transform::<Brand>(&mut rows, Blank::new(1));
+    assert!(rt; Sha256::digest(&rows) == VALUES_DIGEST);
+}
