@@ -34,9 +34,9 @@ use Rattle.stream_session.specs.declared.marking.MarkedPlan.{MarkedPlan}
 use Rattle.stream_session.specs.declared.pass.StreamFault.TheVariants.{Plan}
 use Rattle.stream_session.specs.Tables.{table_of, tables_of, cuts_of_stream, IsFit}
 use Rattle.stream_session.specs.Refusals.{is_wide, cost_in, first_above, size_fault, fault_after, fault_of_cuts}
-use Rattle.stream_session.specs.Refusals.{session_fault}
+use Rattle.stream_session.specs.Refusals.{fault_of_cuts_within, session_fault_within}
 use Rattle.stream_session.specs.Planning.{HasTables}
-use Rattle.stream_session.specs.Passing.{IsStreamFault}
+use Rattle.stream_session.specs.Passing.{IsStreamFault, IsStreamFaultWithin}
 use Rattle.stream_session.specs.Marks.{mark_of}
 use Rattle.stream_session.specs.inside.Marking.{AreKept, HasKept, IsMarkedPlanOf, cuts_in_groups}
 use Rattle.stream_session.specs.Number.{hashed, session_number}
@@ -194,15 +194,15 @@ wide_same priority stream groups =
     position_from-zero (is_wide priority) (cuts_in_groups (map (cut_group priority stream) groups))
     ∙ (wide_from priority stream 0 groups ∙ sym (position_from-zero (is_wide priority) (cuts_of priority groups)))
 
-fault_same : (priority : Priorities) (stream : List ℕ)
-    → fault_of_cuts priority (cuts_in_groups (cut_groups priority stream))
-    ≡ fault_of_cuts priority (cuts_of_stream priority stream)
-fault_same priority stream =
+fault_same : (limit : ℕ) (priority : Priorities) (stream : List ℕ)
+    → fault_of_cuts_within limit priority (cuts_in_groups (cut_groups priority stream))
+    ≡ fault_of_cuts_within limit priority (cuts_of_stream priority stream)
+fault_same limit priority stream =
     let groups : List (List Piece) = groups_of (pieces_of stream) in
-    ap (λ o. size_fault o (first_above MAX_SESSION 0
+    ap (λ o. size_fault o (first_above limit 0
     (map (cost_in priority) (cuts_in_groups (map (cut_group priority stream) groups)))))
     (wide_same priority stream groups)
-    ∙ ap (λ l. size_fault (position (is_wide priority) (cuts_of priority groups)) (first_above MAX_SESSION 0 l))
+    ∙ ap (λ l. size_fault (position (is_wide priority) (cuts_of priority groups)) (first_above limit 0 l))
     (cuts_same (cost_in priority) priority stream groups (λ group. refl))
 
 -- what was kept of all groups
@@ -210,12 +210,12 @@ kept_all : (kept : KeptGroups) (priority : Priorities) (stream : List ℕ) (grou
     → AreAll priority stream groups → AreKept kept priority groups → AreKept kept priority (cut_groups priority stream)
 kept_all kept priority stream groups all h = subst (AreKept kept priority) all.all h
 
-fault_is : (priority : Priorities) (stream : List ℕ) (groups : List CutGroup) (o : Option SessionFault)
-    → AreAll priority stream groups → fault_of_cuts priority (cuts_in_groups (cut_groups priority stream)) ≡ o
-    → session_fault priority (pieces_of stream) ≡ o
-fault_is priority stream groups o all judged =
-    fault_judged priority (pieces_of stream) (cuts_of_stream priority stream) o all.cuttable.1 refl
-    (sym (fault_same priority stream) ∙ judged)
+fault_is : (limit : ℕ) (priority : Priorities) (stream : List ℕ) (groups : List CutGroup) (o : Option SessionFault)
+    → AreAll priority stream groups → fault_of_cuts_within limit priority (cuts_in_groups (cut_groups priority stream)) ≡ o
+    → session_fault_within limit priority (pieces_of stream) ≡ o
+fault_is limit priority stream groups o all judged =
+    fault_judged limit priority (pieces_of stream) (cuts_of_stream priority stream) o all.cuttable.1 refl
+    (sym (fault_same limit priority stream) ∙ judged)
 
 tables_are : (priority : Priorities) (stream : List ℕ) (tables : List Sizes)
     → tables ≡ tables_of priority (cuts_in_groups (cut_groups priority stream))
@@ -230,20 +230,20 @@ told_after (split.GroupTooLong group) cause told is e = cc
 told_after split.TooManyGroups cause told is e = cc
 told_after split.NoMemory cause told is e = told refl
 
-groups_stop : (priority : Priorities) (stream : List ℕ) (fault : SplitFault) (cause : SessionFault)
+groups_stop : (limit : ℕ) (priority : Priorities) (stream : List ℕ) (fault : SplitFault) (cause : SessionFault)
     → fault ≢ split.NoMemory → groups_fault priority stream ≡ Some fault
     → ((later : Option SessionFault) → fault_after (Some fault) later ≡ Some cause)
-    → (cause ≢ session.NoMemory) × (session_fault priority (pieces_of stream) ≡ Some cause)
-groups_stop priority stream fault cause told is after =
-    (told_after fault cause told (after None), fault_refused priority (pieces_of stream) fault (Some cause) is after)
+    → (cause ≢ session.NoMemory) × (session_fault_within limit priority (pieces_of stream) ≡ Some cause)
+groups_stop limit priority stream fault cause told is after =
+    (told_after fault cause told (after None), fault_refused limit priority (pieces_of stream) fault (Some cause) is after)
 
-pub groups_told : (priority : Priorities) (stream : List ℕ) (why : CutFault) (fault : SplitFault)
+pub groups_told : (limit : ℕ) (priority : Priorities) (stream : List ℕ) (why : CutFault) (fault : SplitFault)
     (cause : SessionFault) → why ≡ Groups fault → IsCutFault priority stream why
     → ((later : Option SessionFault) → fault_after (Some fault) later ≡ Some cause)
-    → IsStreamFault priority stream (Plan cause)
-groups_told priority stream why fault cause e is after =
+    → IsStreamFaultWithin limit priority stream (Plan cause)
+groups_told limit priority stream why fault cause e is after =
     let of = subst (IsCutFault priority stream) e is in
-    let stop = groups_stop priority stream fault cause of.1 of.2 after in
+    let stop = groups_stop limit priority stream fault cause of.1 of.2 after in
     (of.0, stop.0, stop.1)
 
 -- the plan of all groups
@@ -261,7 +261,7 @@ marked_plan marked after priority file stream groups all kept number marks judge
       plan =
           record {
             accepted = all.cuttable.0;
-            fits = fault_is priority stream groups None all of.0;
+            fits = fault_is MAX_SESSION priority stream groups None all of.0;
             number = number;
             tables = tables_are priority stream marked.plan.tables.items of.1;
           };
@@ -276,6 +276,6 @@ marked_fault after fault priority stream groups all kept told judged =
     let h = kept_all after priority stream groups all kept in (
       all.cuttable.0,
       told,
-      fault_is priority stream groups (Some fault) all
+      fault_is MAX_SESSION priority stream groups (Some fault) all
           (judged priority (cuts_in_groups (cut_groups priority stream)) h.has_tables),
     )

@@ -3,7 +3,7 @@ use Rattle.std.proofs.Common.{◌≡◌, ◌≢◌, ℕ, suc, ◌<◌, true, fal
 use Rattle.std.proofs.Common.{is_some, refl, sym, ◌∙◌, ap, subst, arith, inl, inr, append-nil, append_assoc}
 use Rattle.std.specs.Prelude.{All}
 use Rattle.std.proofs.lemmas.Bool.{both_ways}
-use Rattle.pet_base.specs.declared.limits.TheConstants.{MAX_GROUPS, MAX_SESSION}
+use Rattle.pet_base.specs.declared.limits.TheConstants.{MAX_GROUPS}
 use Rattle.mpeg_scan.specs.declared.piece.Piece.{Piece}
 use Rattle.priority_file.specs.Priority.{Priorities, layer_of}
 use Rattle.layer_split.specs.declared.fault.SplitFault.{SplitFault}
@@ -16,8 +16,8 @@ use Rattle.stream_session.specs.declared.fault.SessionFault.{SessionFault}
 use Rattle.stream_session.specs.declared.group_tables.GroupTables.{GroupTables}
 use Rattle.stream_session.specs.declared.planner.Planner.{Planner}
 use Rattle.stream_session.specs.Tables.{tables_of, IsFit}
-use Rattle.stream_session.specs.Refusals.{cost_in, first_above, large_fault, size_fault, fault_after, fault_of_cuts}
-use Rattle.stream_session.specs.Refusals.{session_fault}
+use Rattle.stream_session.specs.Refusals.{cost_in, first_above, large_fault, size_fault, fault_after}
+use Rattle.stream_session.specs.Refusals.{fault_of_cuts_within, session_fault_within}
 use Rattle.stream_session.specs.laws.FitLaws.{all_fit, all_short}
 use Rattle.stream_session.specs.Planning.{HasPlanned, HasTables, IsLive}
 use Rattle.stream_session.specs.inside.Planning.{HasRefused, KeepsRest, table_cost}
@@ -55,30 +55,31 @@ costs_same : (priority : Priorities) (cuts : List Cut)
 costs_same priority [] = refl
 costs_same priority (cut ∷ cuts) = ap (λ ns. cost_in priority cut ∷ ns) (costs_same priority cuts)
 
-pub judged_large : (kept : GroupTables) (priority : Priorities) (cuts : List Cut) (large : Option ℕ) → kept.wide ≡ None
-    → large ≡ first_above MAX_SESSION 0 (map table_cost kept.tables.items) → HasTables kept priority cuts
-    → fault_of_cuts priority cuts ≡ large_fault large
-judged_large kept priority cuts large none is h =
-    ap (λ o. size_fault o (first_above MAX_SESSION 0 (map (cost_in priority) cuts))) (sym h.wide ∙ none)
+pub judged_large : (limit : ℕ) (kept : GroupTables) (priority : Priorities) (cuts : List Cut) (large : Option ℕ) → kept.wide ≡ None
+    → large ≡ first_above limit 0 (map table_cost kept.tables.items) → HasTables kept priority cuts
+    → fault_of_cuts_within limit priority cuts ≡ large_fault large
+judged_large limit kept priority cuts large none is h =
+    ap (λ o. size_fault o (first_above limit 0 (map (cost_in priority) cuts))) (sym h.wide ∙ none)
     ∙ sym (ap large_fault
-    (is ∙ ap (first_above MAX_SESSION 0) (ap (map table_cost) (h.tables none) ∙ costs_same priority cuts)))
+    (is ∙ ap (first_above limit 0) (ap (map table_cost) (h.tables none) ∙ costs_same priority cuts)))
 
 -- what the groups and the cuts say of the pieces
-pub fault_refused : (priority : Priorities) (pieces : List Piece) (fault : SplitFault) (o : Option SessionFault)
+pub fault_refused : (limit : ℕ) (priority : Priorities) (pieces : List Piece) (fault : SplitFault) (o : Option SessionFault)
     → fault_of (layer_of priority) (length priority.layers) (groups_of pieces) ≡ Some fault
-    → ((later : Option SessionFault) → fault_after (Some fault) later ≡ o) → session_fault priority pieces ≡ o
-unfolding session_fault
-fault_refused priority pieces fault o is after =
-    ap (λ f. fault_after f (fault_of_cuts priority (cuts_of priority (groups_of pieces)))) is
-    ∙ after (fault_of_cuts priority (cuts_of priority (groups_of pieces)))
+    → ((later : Option SessionFault) → fault_after (Some fault) later ≡ o) → session_fault_within limit priority pieces ≡ o
+unfolding session_fault_within
+fault_refused limit priority pieces fault o is after =
+    ap (λ f. fault_after f (fault_of_cuts_within limit priority (cuts_of priority (groups_of pieces)))) is
+    ∙ after (fault_of_cuts_within limit priority (cuts_of priority (groups_of pieces)))
 
-pub fault_judged : (priority : Priorities) (pieces : List Piece) (cuts : List Cut) (o : Option SessionFault)
+pub fault_judged : (limit : ℕ) (priority : Priorities) (pieces : List Piece) (cuts : List Cut) (o : Option SessionFault)
     → fault_of (layer_of priority) (length priority.layers) (groups_of pieces) ≡ None
-    → cuts ≡ cuts_of priority (groups_of pieces) → fault_of_cuts priority cuts ≡ o → session_fault priority pieces ≡ o
-unfolding session_fault
-fault_judged priority pieces cuts o none is judged =
-    ap (λ f. fault_after f (fault_of_cuts priority (cuts_of priority (groups_of pieces)))) none
-    ∙ (ap (fault_of_cuts priority) (sym is) ∙ judged)
+    → cuts ≡ cuts_of priority (groups_of pieces) → fault_of_cuts_within limit priority cuts ≡ o
+    → session_fault_within limit priority pieces ≡ o
+unfolding session_fault_within
+fault_judged limit priority pieces cuts o none is judged =
+    ap (λ f. fault_after f (fault_of_cuts_within limit priority (cuts_of priority (groups_of pieces)))) none
+    ∙ (ap (fault_of_cuts_within limit priority) (sym is) ∙ judged)
 
 -- a piece more
 abbrev Adds : Splitter → Splitter → Piece → Option Cut → Type 0
@@ -126,19 +127,19 @@ becomes_refused old new piece fault live refused is priority pieces (inr h) =
 becomes_refused old new piece fault live refused is priority pieces (inl h) =
     inr (record {
       some = refused.some;
-      fault = λ later.
-          ap (session_fault priority) (append_assoc pieces (piece ∷ []) later)
-          ∙ fault_refused priority (pieces ++ piece ∷ later) fault new.refused
+      fault = λ limit later.
+          ap (session_fault_within limit priority) (append_assoc pieces (piece ∷ []) later)
+          ∙ fault_refused limit priority (pieces ++ piece ∷ later) fault new.refused
           (is priority pieces h.cuts h.added later) refused.after;
     })
 
 -- the end
-pub ends_refused : (planner : Planner) (fault : SessionFault) → planner.refused ≡ Some fault
+pub ends_refused : (limit : ℕ) (planner : Planner) (fault : SessionFault) → planner.refused ≡ Some fault
     → (priority : Priorities) (pieces : List Piece) → HasPlanned planner priority pieces
-    → session_fault priority pieces ≡ Some fault
-ends_refused planner fault is priority pieces (inl h) = absurd (some_not_none fault (sym is ∙ h.none))
-ends_refused planner fault is priority pieces (inr h) =
-    ap (session_fault priority) (sym (append-nil pieces)) ∙ (h.fault [] ∙ is)
+    → session_fault_within limit priority pieces ≡ Some fault
+ends_refused limit planner fault is priority pieces (inl h) = absurd (some_not_none fault (sym is ∙ h.none))
+ends_refused limit planner fault is priority pieces (inr h) =
+    ap (session_fault_within limit priority) (sym (append-nil pieces)) ∙ (h.fault limit [] ∙ is)
 
 pub live_of : (planner : Planner) (priority : Priorities) (pieces : List Piece)
     → ((fault : SessionFault) → planner.refused ≢ Some fault) → HasPlanned planner priority pieces

@@ -7,14 +7,18 @@ use Rattle.priority_file.specs.Refusals.{refusal_of, priorities_of}
 use Rattle.layer_split.specs.Layers.{Cut, message}
 use Rattle.packet_session.specs.Session.{Session, SessionGroup}
 use Rattle.stream_session.specs.Tables.{sizes_of, cuts_of_stream}
-use Rattle.stream_session.specs.Refusals.{session_fault}
+use Rattle.pet_base.specs.declared.limits.TheConstants.{MAX_SESSION}
+use Rattle.stream_session.specs.Refusals.{session_fault_within}
 use Rattle.stream_session.specs.Number.{session_number}
 
--- neither is refused, and no cause holds against their plan
-pub record IsAcceptedSession (priority stream : List ℕ) : Type 0 where
+-- neither is refused, and no cause holds against their plan, where a session may have so many bytes
+pub record IsAcceptedWithin (limit : ℕ) (priority stream : List ℕ) : Type 0 where
   pub priority_read : refusal_of priority ≡ None
   pub stream_read : IsAccepted stream
-  pub fits : session_fault (priorities_of priority) (pieces_of stream) ≡ None
+  pub fits : session_fault_within limit (priorities_of priority) (pieces_of stream) ≡ None
+
+abbrev pub IsAcceptedSession : List ℕ → List ℕ → Type 0
+IsAcceptedSession priority stream = IsAcceptedWithin MAX_SESSION priority stream
 
 -- a group: its table, and the message of its layers
 abbrev pub group_of : Priorities → List ℕ → Cut → SessionGroup

@@ -1,5 +1,5 @@
 -- Where a planner stands to the pieces that were added. This project's own.
-use Rattle.std.specs.Prelude.{◌≡◌, ◌≤◌, ◌⊎◌, List, ◌++◌, length, map, None, position, is_some, true}
+use Rattle.std.specs.Prelude.{◌≡◌, ◌≤◌, ◌⊎◌, ℕ, List, ◌++◌, length, map, None, position, is_some, true}
 use Rattle.pet_base.specs.declared.limits.TheConstants.{MAX_LAYERS}
 use Rattle.mpeg_scan.specs.declared.piece.Piece.{Piece}
 use Rattle.priority_file.specs.Priority.{Priorities, is_priority}
@@ -9,7 +9,7 @@ use Rattle.stream_session.specs.declared.group_tables.GroupTables.{GroupTables}
 use Rattle.stream_session.specs.declared.needs.LayerNeeds.{LayerNeeds}
 use Rattle.stream_session.specs.declared.planner.Planner.{Planner}
 use Rattle.stream_session.specs.Tables.{tables_of}
-use Rattle.stream_session.specs.Refusals.{is_wide, session_fault}
+use Rattle.stream_session.specs.Refusals.{is_wide, session_fault_within}
 
 -- these are the packets and the needs of the priority
 pub record AreOf (held : LayerNeeds) (priority : Priorities) : Type 0 where
@@ -31,10 +31,11 @@ pub record IsLive (planner : Planner) (priority : Priorities) (pieces : List Pie
   pub added : HasAdded planner.splitter priority pieces cuts
   pub kept : HasTables planner.tables priority cuts
 
--- what was refused is the fault of the pieces, whatever comes later
+-- what was refused is the fault of the pieces, whatever comes later, and however many bytes a session may have
 pub record IsRefused (planner : Planner) (priority : Priorities) (pieces : List Piece) : Type 0 where
   pub some : is_some planner.refused ≡ true
-  pub fault : (later : List Piece) → session_fault priority (pieces ++ later) ≡ planner.refused
+  pub fault : (limit : ℕ) (later : List Piece)
+      → session_fault_within limit priority (pieces ++ later) ≡ planner.refused
 
 -- The planner for this priority was given these pieces.
 abbrev pub HasPlanned : Planner → Priorities → List Piece → Type 0

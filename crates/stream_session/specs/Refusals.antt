@@ -47,13 +47,20 @@ fault_after (Some (split.GroupTooLong group)) later = Some (GroupTooLong group)
 fault_after (Some split.TooManyGroups) later = Some TooManyGroups
 fault_after (Some split.NoMemory) later = Some NoMemory
 
--- what refuses the cuts of all groups
-abbrev pub fault_of_cuts : Priorities → List Cut → Option SessionFault
-fault_of_cuts priority cuts =
-    size_fault (position (is_wide priority) cuts) (first_above MAX_SESSION 0 (map (cost_in priority) cuts))
+-- what refuses the cuts of all groups, where a session may have so many bytes
+abbrev pub fault_of_cuts_within : ℕ → Priorities → List Cut → Option SessionFault
+fault_of_cuts_within limit priority cuts =
+    size_fault (position (is_wide priority) cuts) (first_above limit 0 (map (cost_in priority) cuts))
 
--- why these pieces of an accepted stream have no session, and None where they have one
-unfoldable pub session_fault : Priorities → List Piece → Option SessionFault
-session_fault priority pieces =
+abbrev pub fault_of_cuts : Priorities → List Cut → Option SessionFault
+fault_of_cuts priority cuts = fault_of_cuts_within MAX_SESSION priority cuts
+
+-- why these pieces of an accepted stream have no session of so many bytes, and None where they have one
+unfoldable pub session_fault_within : ℕ → Priorities → List Piece → Option SessionFault
+session_fault_within limit priority pieces =
     fault_after (fault_of (layer_of priority) (length priority.layers) (groups_of pieces))
-    (fault_of_cuts priority (cuts_of priority (groups_of pieces)))
+    (fault_of_cuts_within limit priority (cuts_of priority (groups_of pieces)))
+
+-- the same of a session of the most bytes that one may have
+abbrev pub session_fault : Priorities → List Piece → Option SessionFault
+session_fault priority pieces = session_fault_within MAX_SESSION priority pieces

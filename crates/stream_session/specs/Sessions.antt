@@ -1,10 +1,11 @@
 -- The session that a stream and a priority file in two files are, for the contracts of what reads both. This project's
 -- own.
 use Rattle.std.specs.Prelude.{◌≡◌, ℕ, List, Some}
+use Rattle.pet_base.specs.declared.limits.TheConstants.{MAX_SESSION}
 use Rattle.pet_base.specs.Seen.{Seen, Files}
 use Rattle.stripe_plan.specs.Sizes.{Sizes}
 use Rattle.priority_file.specs.Refusals.{priorities_of}
-use Rattle.stream_session.specs.Accepted.{IsAcceptedSession}
+use Rattle.stream_session.specs.Accepted.{IsAcceptedSession, IsAcceptedWithin}
 use Rattle.outside_files.specs.Inputs.{IsFile}
 use Rattle.stream_session.specs.Tables.{tables_of, cuts_of_stream}
 
@@ -16,13 +17,18 @@ pub record HasSession (old : Seen) (stream priority : List ℕ) : Type 0 where
   pub stream_file : IsFile old.files stream stream_bytes
   pub session : IsAcceptedSession priority_bytes stream_bytes
 
--- the files are told, and these two are an accepted session
-pub record IsGiven (old : Seen) (stream priority priority_bytes stream_bytes : List ℕ) : Type 0 where
+-- the files are told, and these two are an accepted session of so many bytes
+pub record IsGivenWithin (limit : ℕ) (old : Seen) (stream priority priority_bytes stream_bytes : List ℕ)
+    : Type 0 where
   pub files : Files
   pub told : old.files ≡ Some files
   pub priority_there : files priority ≡ Some priority_bytes
   pub stream_there : files stream ≡ Some stream_bytes
-  pub session : IsAcceptedSession priority_bytes stream_bytes
+  pub session : IsAcceptedWithin limit priority_bytes stream_bytes
+
+abbrev pub IsGiven : Seen → List ℕ → List ℕ → List ℕ → List ℕ → Type 0
+IsGiven old stream priority priority_bytes stream_bytes =
+    IsGivenWithin MAX_SESSION old stream priority priority_bytes stream_bytes
 
 -- the tables of a session's groups
 abbrev pub tables_in : List ℕ → List ℕ → List Sizes

@@ -15,9 +15,10 @@ use Rattle.stream_session.specs.declared.source.Source.{Source}
 use Rattle.stream_session.specs.declared.source.SourceFault.{SourceFault}
 use Rattle.stream_session.specs.declared.source.SourceFault.TheVariants.{NoMemory, Failed, Priority, Stream, Plan}
 use Rattle.stream_session.specs.Tables.{tables_of, cuts_of_stream}
-use Rattle.stream_session.specs.Refusals.{session_fault}
+use Rattle.pet_base.specs.declared.limits.TheConstants.{MAX_SESSION}
+use Rattle.stream_session.specs.Refusals.{session_fault_within}
 use Rattle.stream_session.specs.Number.{session_number}
-use Rattle.stream_session.specs.Accepted.{IsAcceptedSession}
+use Rattle.stream_session.specs.Accepted.{IsAcceptedWithin}
 use Rattle.outside_files.specs.Inputs.{IsFile, IsRead}
 
 -- each cause as one of both files
@@ -34,16 +35,20 @@ of_stream (pass.Stream scan) = Stream scan
 of_stream (pass.Plan fault) = Plan fault
 of_stream pass.NoMemory = NoMemory
 
--- The files are an accepted session, and this is its priority, its number and its tables.
-pub record IsSource (files : Option Files) (stream priority : List ℕ) (source : Source) : Type 0 where
+-- The files are an accepted session of so many bytes, and this is its priority, its number and its tables.
+pub record IsSourceWithin (limit : ℕ) (files : Option Files) (stream priority : List ℕ) (source : Source)
+    : Type 0 where
   pub file : List ℕ
   pub bytes : List ℕ
   pub priority_is : IsFile files priority file
   pub stream_is : IsFile files stream bytes
-  pub accepted : IsAcceptedSession file bytes
+  pub accepted : IsAcceptedWithin limit file bytes
   pub rules : source.priority ≡ priorities_of file
   pub number : source.number ≡ session_number file bytes
   pub tables : source.tables.items ≡ tables_of (priorities_of file) (cuts_of_stream (priorities_of file) bytes)
+
+abbrev pub IsSource : Option Files → List ℕ → List ℕ → Source → Type 0
+IsSource files stream priority source = IsSourceWithin MAX_SESSION files stream priority source
 
 -- The priority file is accepted, and this holds of both files.
 pub record BothFiles (files : Option Files) (stream priority : List ℕ) (P : List ℕ → List ℕ → Type 0) : Type 0 where
@@ -68,16 +73,19 @@ has_failed (Priority fault) = false
 has_failed (Stream scan) = false
 has_failed (Plan fault) = false
 
--- When each fault comes: want of memory at any time, a failure where the place had a fault at one of the files, and
--- else
--- the first refusal, of the priority file, of the stream, or of the plan.
-abbrev pub IsSourceFault : Seen → Seen → List ℕ → List ℕ → SourceFault → Type 0
-IsSourceFault old new stream priority NoMemory = Unit {0}
-IsSourceFault old new stream priority Failed = HadFault old new (IsOfSource old.files stream priority)
-IsSourceFault old new stream priority (Priority fault) =
+-- When each fault comes, where a session may have so many bytes: want of memory at any time, a failure where the place
+-- had a fault at one of the files, and else the first refusal, of the priority file, of the stream, or of the plan.
+abbrev pub IsSourceFaultWithin : ℕ → Seen → Seen → List ℕ → List ℕ → SourceFault → Type 0
+IsSourceFaultWithin limit old new stream priority NoMemory = Unit {0}
+IsSourceFaultWithin limit old new stream priority Failed = HadFault old new (IsOfSource old.files stream priority)
+IsSourceFaultWithin limit old new stream priority (Priority fault) =
     (file : List ℕ) × IsFile old.files priority file × (refusal_of file ≡ Some fault)
-IsSourceFault old new stream priority (Stream scan) =
+IsSourceFaultWithin limit old new stream priority (Stream scan) =
     BothFiles old.files stream priority (λ file bytes. Refuses bytes scan)
-IsSourceFault old new stream priority (Plan fault) =
+IsSourceFaultWithin limit old new stream priority (Plan fault) =
     BothFiles old.files stream priority (λ file bytes.
-    IsAccepted bytes × (fault ≢ session.NoMemory) × (session_fault (priorities_of file) (pieces_of bytes) ≡ Some fault))
+    IsAccepted bytes × (fault ≢ session.NoMemory)
+    × (session_fault_within limit (priorities_of file) (pieces_of bytes) ≡ Some fault))
+
+abbrev pub IsSourceFault : Seen → Seen → List ℕ → List ℕ → SourceFault → Type 0
+IsSourceFault old new stream priority fault = IsSourceFaultWithin MAX_SESSION old new stream priority fault

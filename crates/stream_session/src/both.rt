@@ -9,7 +9,7 @@ ghost use Rattle.priority_file.specs.Refusals.{priorities_of};
 ghost use Rattle.outside_files.specs.declared.input.TheConstants.{MAX_PORTION};
 ghost use Rattle.outside_files.specs.Failures.{has_failed as stop_failed};
 ghost use Rattle.outside_files.specs.Inputs.{IsFrontOf, IsRead, Licensed, HasTakenAll};
-ghost use Rattle.stream_session.specs.Sources.{BothFiles, IsSourceFault, has_failed};
+ghost use Rattle.stream_session.specs.Sources.{BothFiles, IsSourceFaultWithin, has_failed};
 
 use crate::reader::StreamReader;
 use crate::source::SourceFault;
@@ -30,8 +30,8 @@ pub(crate) fn read_both<P: Place, R: StreamReader>(
         (both.0 ≡ priorities_of file) × R.answers both.1 (priorities_of file) file bytes)) }
     ensures others { KeepsOutput (P.seen place.old) (P.seen place.new) }
     ensures later { (P.seen place.old).faults ≤ (P.seen place.new).faults }
-    ensures cause { IfErr result (IsSourceFault (P.seen place.old) (P.seen place.new) stream.now
-        priority.now) }
+    ensures cause { IfErr result (IsSourceFaultWithin R.limit (P.seen place.old) (P.seen place.new)
+        stream.now priority.now) }
     ensures once { PlaceStops (stops has_failed result) (P.seen place.old) (P.seen place.new) }
 {
     let file = read_file(alloc, priority, u64::from(MAX_PRIORITY_FILE), place)?;

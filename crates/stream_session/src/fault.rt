@@ -9,7 +9,8 @@ pub enum SessionFault {
     TooManyGroups,
     /// The datagrams of this group, counted from 0, would have more than 65,000 bytes.
     TooWide(u32),
-    /// With this group the packets times their datagram lengths, summed from group 0, pass 536,870,912 bytes.
+    /// With this group the packets times their datagram lengths, summed from group 0, pass 536,870,912 bytes, or
+    /// the lower limit at which the session is judged.
     TooLarge(u32),
     /// No memory was found. Nothing is said of the stream.
     NoMemory,

@@ -1,11 +1,11 @@
 //! The tables of groups that come one by one.
-ghost use Rattle.std.specs.Prelude.{◌≡◌, ◌≢◌, ◌<◌, ◌++◌, ◌∷◌, List, [], length, Some, None, IfOk, IfErr, OnOk};
-ghost use Rattle.pet_base.specs.declared.limits.TheConstants.{MAX_GROUPS};
+ghost use Rattle.std.specs.Prelude.{◌≡◌, ◌≢◌, ◌<◌, ◌≤◌, ◌++◌, ◌∷◌, List, [], length, Some, None, IfOk, IfErr, OnOk};
+ghost use Rattle.pet_base.specs.declared.limits.TheConstants.{MAX_GROUPS, MAX_SESSION};
 ghost use Rattle.priority_file.specs.Priority.{Priorities};
 ghost use Rattle.layer_split.specs.Layers.{Cut};
 ghost use Rattle.stream_session.specs.declared.fault.SessionFault.{SessionFault};
 ghost use Rattle.stream_session.specs.Tables.{tables_of, IsFit};
-ghost use Rattle.stream_session.specs.Refusals.{fault_of_cuts};
+ghost use Rattle.stream_session.specs.Refusals.{fault_of_cuts_within};
 ghost use Rattle.stream_session.specs.Planning.{HasTables};
 
 use crate::fault::SessionFault;
@@ -59,18 +59,19 @@ impl GroupTables {
         }
     }
 
-    /// The tables, or the first cause that holds against the groups.
-    pub(crate) fn judged(self) -> Result<Vec<Table>, SessionFault>
+    /// The tables, or the first cause that holds against the groups, where a session may have so many bytes.
+    pub(crate) fn judged(self, limit: u64) -> Result<Vec<Table>, SessionFault>
+        requires { limit ≤ MAX_SESSION }
         ensures tables { IfOk result (λ tables. (priority : Priorities) (cuts : List Cut) → HasTables self priority cuts
-            → (fault_of_cuts priority cuts ≡ None) × (tables.items ≡ tables_of priority cuts)) }
+            → (fault_of_cuts_within limit priority cuts ≡ None) × (tables.items ≡ tables_of priority cuts)) }
         ensures refused { IfErr result (λ fault. (priority : Priorities) (cuts : List Cut) → HasTables self priority cuts
-            → fault_of_cuts priority cuts ≡ Some fault) }
+            → fault_of_cuts_within limit priority cuts ≡ Some fault) }
         ensures told { IfErr result (λ fault. fault ≢ SessionFault.NoMemory) }
     {
         if let Some(group) = self.wide {
             return Err(SessionFault::TooWide(group));
         }
-        match first_too_large(&self.tables) {
+        match first_too_large(&self.tables, limit) {
             Some(group) => Err(SessionFault::TooLarge(group)),
             None => Ok(self.tables),
         }

@@ -5,6 +5,7 @@
 //! holds no bytes of the stream, and one table a group. `Pass` does so for a stream that comes in portions of any size, and
 //! hashes it. `read_source` reads both files of a place, and answers the session that they are, or why they are none.
 //! `read_marked` reads as `read_source` does, and gives each group's mark too, by which a later reading can be compared.
+//! `read_whole` reads as `read_source` does, for a session of at most 67,108,864 bytes, and holds the stream.
 #![tactic(auto)]
 
 mod both;
@@ -19,6 +20,7 @@ mod planner;
 mod reader;
 mod source;
 mod total;
+mod whole;
 
 pub use fault::SessionFault;
 pub use mark::GroupMark;
@@ -27,3 +29,4 @@ pub use needs::is_table_of;
 pub use pass::{Pass, SessionPlan, StreamFault};
 pub use planner::Planner;
 pub use source::{Source, SourceFault, read_source};
+pub use whole::{WholeSource, read_whole};

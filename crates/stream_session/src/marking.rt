@@ -1,6 +1,6 @@
 //! The first pass over a stream whose groups are marked.
 ghost use Rattle.std.specs.Prelude.{◌≡◌, ◌<◌, ◌≤◌, ◌++◌, ◌∷◌, ℕ, List, [], All, length, OnOk, IfOk, IfErr};
-ghost use Rattle.pet_base.specs.declared.limits.TheConstants.{MAX_GROUPS};
+ghost use Rattle.pet_base.specs.declared.limits.TheConstants.{MAX_GROUPS, MAX_SESSION};
 ghost use Rattle.sha2.specs.Hashers.{Holds256};
 ghost use Rattle.priority_file.specs.Priority.{Priorities};
 ghost use Rattle.stream_groups.specs.CutGroups.{CutGroup};
@@ -15,7 +15,7 @@ use crate::mark::GroupMark;
 use crate::pass::{SessionPlan, StreamFault, first_eight, hasher_of};
 use crate::planner::refusal_of;
 use crate::reader::StreamReader;
-use pet_base::NoMemory;
+use pet_base::{MAX_SESSION, NoMemory};
 use priority_file::Priority;
 use sha2::{Digest, Sha256};
 use std::alloc::Global;
@@ -47,6 +47,8 @@ pub(crate) struct MarkedPass {
 
 impl StreamReader for MarkedPass {
     type Answer = MarkedPlan;
+
+    ghost limit = { MAX_SESSION };
 
     ghost has_read = { HasMarked };
 
@@ -124,7 +126,7 @@ fn plan_with(
         → AreKept kept priority given → IsStreamFault priority stream fault) }
 {
     keep_all(left, &mut kept)?;
-    match kept.tables.judged() {
+    match kept.tables.judged(MAX_SESSION) {
         Ok(tables) => Ok(MarkedPlan {
             plan: SessionPlan {
                 number: first_eight(hasher.finalize()),

@@ -1,5 +1,6 @@
 //! The first pass over a stream.
-ghost use Rattle.std.specs.Prelude.{◌≡◌, ◌≢◌, ◌<◌, ◌^◌, ◌++◌, ℕ, List, [], length, take, OnOk, IfOk, IfErr};
+ghost use Rattle.std.specs.Prelude.{◌≡◌, ◌≢◌, ◌<◌, ◌≤◌, ◌^◌, ◌++◌, ℕ, List, [], length, take, OnOk, IfOk, IfErr};
+ghost use Rattle.pet_base.specs.declared.limits.TheConstants.{MAX_SESSION};
 ghost use Rattle.mpeg_scan.specs.declared.piece.Piece.{Piece};
 ghost use Rattle.mpeg_scan.specs.declared.refusal.Scan.{Scan};
 ghost use Rattle.mpeg_scan.specs.Refusals.{IsRefusal};
@@ -7,13 +8,13 @@ ghost use Rattle.sha2.specs.Hashers.{Holds256};
 ghost use Rattle.priority_file.specs.Priority.{Priorities};
 ghost use Rattle.stream_session.specs.Planning.{HasPlanned};
 ghost use Rattle.stream_session.specs.Number.{hashed};
-ghost use Rattle.stream_session.specs.Passing.{HasPassed, IsPlanOf, IsStreamFault, IsPlanBy, IsPlanFault};
+ghost use Rattle.stream_session.specs.Passing.{HasPassed, IsPlanOf, IsPlanWithin, IsStreamFault, IsStreamFaultWithin, IsPlanBy, IsPlanFault};
 
 use crate::fault::SessionFault;
 use crate::planner::Planner;
 use crate::reader::StreamReader;
 use mpeg_scan::{Piece, Scan, Scanner};
-use pet_base::NoMemory;
+use pet_base::{MAX_SESSION, NoMemory};
 use priority_file::Priority;
 use sha2::{Digest, Sha256};
 use std::alloc::Global;
@@ -112,13 +113,28 @@ impl Pass {
         ensures refused { IfErr result (λ fault. (priority : Priorities) (file stream : List ℕ) → HasPassed self priority file stream
             → IsStreamFault priority stream fault) }
     {
+        self.finish_within(MAX_SESSION)
+    }
+
+    /// The same, where a session may have so many bytes, at most `MAX_SESSION`.
+    ///
+    /// # Errors
+    ///
+    /// The refusal of the stream, or else that of its plan.
+    pub fn finish_within(self, limit: u64) -> Result<SessionPlan, StreamFault>
+        requires { limit ≤ MAX_SESSION }
+        ensures plan { IfOk result (λ plan. (priority : Priorities) (file stream : List ℕ) → HasPassed self priority file stream
+            → IsPlanWithin limit plan priority file stream) }
+        ensures refused { IfErr result (λ fault. (priority : Priorities) (file stream : List ℕ) → HasPassed self priority file stream
+            → IsStreamFaultWithin limit priority stream fault) }
+    {
         if let Some(scan) = self.refused {
             return Err(StreamFault::Stream(scan));
         }
         let mut scanner = self.scanner;
         let mut pieces = self.pieces;
         match scanner.finish(&mut pieces) {
-            Ok(()) => plan_of(self.planner, self.hasher, &pieces),
+            Ok(()) => plan_of(self.planner, self.hasher, &pieces, limit),
             Err(scan) => Err(scan_fault(scan)),
         }
     }
@@ -126,6 +142,8 @@ impl Pass {
 
 impl StreamReader for Pass {
     type Answer = SessionPlan;
+
+    ghost limit = { MAX_SESSION };
 
     ghost has_read = { HasPassed };
 
@@ -146,8 +164,8 @@ impl StreamReader for Pass {
 
 /// The same refusal, as one against a session.
 fn scan_fault(scan: Scan) -> StreamFault
-    ensures { (priority : Priorities) (stream : List ℕ) → (scan ≢ Scan.NoMemory → IsRefusal stream scan)
-        → IsStreamFault priority stream result }
+    ensures { (limit : ℕ) (priority : Priorities) (stream : List ℕ) → (scan ≢ Scan.NoMemory → IsRefusal stream scan)
+        → IsStreamFaultWithin limit priority stream result }
 {
     match scan {
         Scan::NoMemory => StreamFault::NoMemory,
@@ -155,15 +173,22 @@ fn scan_fault(scan: Scan) -> StreamFault
     }
 }
 
-/// The plan of an accepted stream, by a planner that is still to be given its last pieces, and a hasher that has read all.
-fn plan_of(mut planner: Planner, hasher: Sha256, last: &[Piece]) -> Result<SessionPlan, StreamFault>
+/// The plan of an accepted stream, by a planner that is still to be given its last pieces, and a hasher that has read all,
+/// where a session may have so many bytes.
+fn plan_of(
+    mut planner: Planner,
+    hasher: Sha256,
+    last: &[Piece],
+    limit: u64,
+) -> Result<SessionPlan, StreamFault>
+    requires { limit ≤ MAX_SESSION }
     ensures plan { IfOk result (λ plan. (priority : Priorities) (given : List Piece) (message : List ℕ) → HasPlanned planner priority given
-        → Holds256 hasher message → IsPlanBy plan priority (given ++ last.now) message) }
+        → Holds256 hasher message → IsPlanBy limit plan priority (given ++ last.now) message) }
     ensures refused { IfErr result (λ fault. (priority : Priorities) (given : List Piece) → HasPlanned planner priority given
-        → IsPlanFault priority (given ++ last.now) fault) }
+        → IsPlanFault limit priority (given ++ last.now) fault) }
 {
     add_all(&mut planner, last)?;
-    match planner.finish() {
+    match planner.finish_within(limit) {
         Ok(tables) => Ok(SessionPlan {
             number: first_eight(hasher.finalize()),
             tables,

@@ -1,6 +1,6 @@
 //! The tables of a stream's groups, made piece by piece.
-ghost use Rattle.std.specs.Prelude.{◌≡◌, ◌≢◌, ◌<◌, ◌++◌, ◌∷◌, List, [], All, length, Option, Some, None, IfOk, IfErr, OnOk};
-ghost use Rattle.pet_base.specs.declared.limits.TheConstants.{MAX_GROUPS};
+ghost use Rattle.std.specs.Prelude.{◌≡◌, ◌≢◌, ◌<◌, ◌≤◌, ◌++◌, ◌∷◌, List, [], All, length, Option, Some, None, IfOk, IfErr, OnOk};
+ghost use Rattle.pet_base.specs.declared.limits.TheConstants.{MAX_GROUPS, MAX_SESSION};
 ghost use Rattle.mpeg_scan.specs.declared.piece.Piece.{Piece};
 ghost use Rattle.priority_file.specs.Priority.{Priorities};
 ghost use Rattle.layer_split.specs.Groups.{groups_of};
@@ -8,7 +8,7 @@ ghost use Rattle.layer_split.specs.Layers.{Cut};
 ghost use Rattle.layer_split.specs.Splitting.{cuts_of, cuts_in};
 ghost use Rattle.stream_session.specs.declared.fault.SessionFault.{SessionFault};
 ghost use Rattle.stream_session.specs.Tables.{tables_of, IsFit};
-ghost use Rattle.stream_session.specs.Refusals.{session_fault, fault_after, fault_of_cuts};
+ghost use Rattle.stream_session.specs.Refusals.{session_fault, session_fault_within, fault_after, fault_of_cuts_within};
 ghost use Rattle.stream_session.specs.Planning.{HasPlanned, HasTables};
 ghost use Rattle.stream_session.specs.inside.Planning.{HasRefused, KeepsRest};
 
@@ -16,7 +16,7 @@ use crate::fault::SessionFault;
 use crate::group_tables::GroupTables;
 use layer_split::{GroupCut, SplitFault, Splitter};
 use mpeg_scan::Piece;
-use pet_base::NoMemory;
+use pet_base::{MAX_SESSION, NoMemory};
 use priority_file::Priority;
 use std::alloc::Global;
 use stripe_plan::Table;
@@ -61,32 +61,44 @@ impl Planner {
     }
 
     /// The tables of all groups in order, or the first cause that holds against them.
-    pub fn finish(mut self) -> Result<Vec<Table>, SessionFault>
+    pub fn finish(self) -> Result<Vec<Table>, SessionFault>
         ensures tables { IfOk result (λ tables. (priority : Priorities) (pieces : List Piece) → HasPlanned self priority pieces
             → (session_fault priority pieces ≡ None) × (tables.items ≡ tables_of priority (cuts_of priority (groups_of pieces)))) }
         ensures refused { IfErr result (λ fault. fault ≢ SessionFault.NoMemory → (priority : Priorities) (pieces : List Piece) → HasPlanned self priority pieces
             → session_fault priority pieces ≡ Some fault) }
     {
+        self.finish_within(MAX_SESSION)
+    }
+
+    /// The same, where a session may have so many bytes, at most `MAX_SESSION`.
+    pub fn finish_within(mut self, limit: u64) -> Result<Vec<Table>, SessionFault>
+        requires { limit ≤ MAX_SESSION }
+        ensures tables { IfOk result (λ tables. (priority : Priorities) (pieces : List Piece) → HasPlanned self priority pieces
+            → (session_fault_within limit priority pieces ≡ None) × (tables.items ≡ tables_of priority (cuts_of priority (groups_of pieces)))) }
+        ensures refused { IfErr result (λ fault. fault ≢ SessionFault.NoMemory → (priority : Priorities) (pieces : List Piece) → HasPlanned self priority pieces
+            → session_fault_within limit priority pieces ≡ Some fault) }
+    {
         if let Some(fault) = self.refused {
             return Err(fault);
         }
         match self.splitter.finish() {
-            Ok(cut) => self.end(cut),
+            Ok(cut) => self.end(cut, limit),
             Err(fault) => Err(refusal_of(fault)),
         }
     }
 
     /// The tables with that of the last group, or the first cause that holds against the groups.
-    fn end(mut self, cut: Option<GroupCut>) -> Result<Vec<Table>, SessionFault>
+    fn end(mut self, cut: Option<GroupCut>, limit: u64) -> Result<Vec<Table>, SessionFault>
+        requires { limit ≤ MAX_SESSION }
         ensures tables { IfOk result (λ tables. (priority : Priorities) (cuts : List Cut) → length cuts < MAX_GROUPS → All (IsFit priority) (cuts_in cut)
             → HasTables self.tables priority cuts
-            → (fault_of_cuts priority (cuts ++ cuts_in cut) ≡ None) × (tables.items ≡ tables_of priority (cuts ++ cuts_in cut))) }
+            → (fault_of_cuts_within limit priority (cuts ++ cuts_in cut) ≡ None) × (tables.items ≡ tables_of priority (cuts ++ cuts_in cut))) }
         ensures refused { IfErr result (λ fault. fault ≢ SessionFault.NoMemory → (priority : Priorities) (cuts : List Cut) → length cuts < MAX_GROUPS
             → All (IsFit priority) (cuts_in cut) → HasTables self.tables priority cuts
-            → fault_of_cuts priority (cuts ++ cuts_in cut) ≡ Some fault) }
+            → fault_of_cuts_within limit priority (cuts ++ cuts_in cut) ≡ Some fault) }
     {
         match self.keep(cut) {
-            Ok(()) => self.tables.judged(),
+            Ok(()) => self.tables.judged(limit),
             Err(NoMemory) => Err(SessionFault::NoMemory),
         }
     }

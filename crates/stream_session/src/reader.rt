@@ -2,7 +2,7 @@
 ghost use Rattle.std.specs.Prelude.{◌<◌, ◌^◌, ◌++◌, ℕ, List, [], length, OnOk, IfOk, IfErr};
 ghost use Rattle.mpeg_scan.specs.Refusals.{IsAccepted};
 ghost use Rattle.priority_file.specs.Priority.{Priorities};
-ghost use Rattle.stream_session.specs.Passing.{IsStreamFault};
+ghost use Rattle.stream_session.specs.Passing.{IsStreamFaultWithin};
 
 use crate::pass::StreamFault;
 use pet_base::NoMemory;
@@ -13,6 +13,9 @@ use std::alloc::Global;
 pub(crate) trait StreamReader: Drop {
     /// What it answers of the stream.
     type Answer;
+
+    /// How many bytes a session may have.
+    ghost limit: { ℕ };
 
     /// Under this priority, of a priority file of these bytes, it has read this stream.
     ghost has_read: { Self → Priorities → List ℕ → List ℕ → Type 0 };
@@ -39,5 +42,5 @@ pub(crate) trait StreamReader: Drop {
         ensures answer { IfOk result (λ answer. (priority : Priorities) (file stream : List ℕ) → has_read self priority file stream
             → IsAccepted stream × answers answer priority file stream) }
         ensures refused { IfErr result (λ fault. (priority : Priorities) (file stream : List ℕ) → has_read self priority file stream
-            → IsStreamFault priority stream fault) };
+            → IsStreamFaultWithin limit priority stream fault) };
 }

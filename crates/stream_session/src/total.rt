@@ -1,21 +1,21 @@
 //! The group with which a session is too large.
-ghost use Rattle.std.specs.Prelude.{◌≡◌, map};
+ghost use Rattle.std.specs.Prelude.{◌≡◌, ◌≤◌, map};
 ghost use Rattle.pet_base.specs.declared.limits.TheConstants.{MAX_SESSION};
 ghost use Rattle.stream_session.specs.Refusals.{first_above};
 ghost use Rattle.stream_session.specs.inside.Planning.{table_cost};
 
 use packet_session::group_cost;
-use pet_base::MAX_SESSION;
 use stripe_plan::Table;
 
-/// The first group with which the packets of these tables, times their datagram lengths, pass the bytes of a session.
-pub fn first_too_large(tables: &[Table]) -> Option<u32>
-    ensures { result ≡ first_above MAX_SESSION 0 (map table_cost tables.now) }
+/// The first group with which the packets of these tables, times their datagram lengths, pass so many bytes.
+pub fn first_too_large(tables: &[Table], limit: u64) -> Option<u32>
+    requires { limit ≤ MAX_SESSION }
+    ensures { result ≡ first_above limit 0 (map table_cost tables.now) }
 {
     let mut total = 0;
     for group in 0..tables.len() {
         total += group_cost(&tables[group]);
-        if total > MAX_SESSION {
+        if total > limit {
             return Some(group as u32);
         }
     }

@@ -22,8 +22,8 @@ use Rattle.layer_split.specs.Faults.{is_too_long, fault_of, fault_by}
 use Rattle.layer_split.specs.Splitting.{cuts_of}
 use Rattle.stream_session.specs.declared.fault.SessionFault.{SessionFault}
 use Rattle.stream_session.specs.Tables.{table_of, tables_of, IsFit}
-use Rattle.stream_session.specs.Refusals.{is_wide, cost_in, first_above, size_fault, fault_after, fault_of_cuts}
-use Rattle.stream_session.specs.Refusals.{session_fault}
+use Rattle.stream_session.specs.Refusals.{is_wide, cost_in, first_above, size_fault, fault_after}
+use Rattle.stream_session.specs.Refusals.{fault_of_cuts, fault_of_cuts_within, session_fault, session_fault_within}
 use Rattle.stream_session.specs.laws.TableLaws.{cut_fits, is_table}
 
 some_not_none : {A : Type 0} (x : A) → Some x ≡ None → ⊥
@@ -86,17 +86,30 @@ size_none (Some group) large e = absurd cc
 size_none None (Some group) e = absurd cc
 size_none None None e = (refl, refl)
 
+pub no_cause_within : (limit : ℕ) (priority : Priorities) (pieces : List Piece)
+    → session_fault_within limit priority pieces ≡ None
+    → (fault_of (layer_of priority) (length priority.layers) (groups_of pieces) ≡ None)
+    × (fault_of_cuts_within limit priority (cuts_of priority (groups_of pieces)) ≡ None)
+unfolding session_fault_within
+no_cause_within limit priority pieces e =
+    after_none (fault_of (layer_of priority) (length priority.layers) (groups_of pieces))
+    (fault_of_cuts_within limit priority (cuts_of priority (groups_of pieces))) e
+
+pub few_groups_within : (limit : ℕ) (priority : Priorities) (pieces : List Piece)
+    → session_fault_within limit priority pieces ≡ None
+    → length (groups_of pieces) ≤ MAX_GROUPS
+few_groups_within limit priority pieces e =
+    groups_few priority (groups_of pieces) (no_cause_within limit priority pieces e).0
+
+-- the same of a session of the most bytes that one may have
 pub no_cause : (priority : Priorities) (pieces : List Piece) → session_fault priority pieces ≡ None
     → (fault_of (layer_of priority) (length priority.layers) (groups_of pieces) ≡ None)
     × (fault_of_cuts priority (cuts_of priority (groups_of pieces)) ≡ None)
-unfolding session_fault
-no_cause priority pieces e =
-    after_none (fault_of (layer_of priority) (length priority.layers) (groups_of pieces))
-    (fault_of_cuts priority (cuts_of priority (groups_of pieces))) e
+no_cause priority pieces e = no_cause_within MAX_SESSION priority pieces e
 
 pub few_groups : (priority : Priorities) (pieces : List Piece) → session_fault priority pieces ≡ None
     → length (groups_of pieces) ≤ MAX_GROUPS
-few_groups priority pieces e = groups_few priority (groups_of pieces) (no_cause priority pieces e).0
+few_groups priority pieces e = few_groups_within MAX_SESSION priority pieces e
 
 -- each group has a table
 abbrev pub IsWithinBounds : Sizes → Type 0
@@ -112,16 +125,21 @@ all_stand priority (cut ∷ cuts) lawful few fit narrow =
     (all_stand priority cuts lawful few (λ k d lt. fit (suc k) d (omega arith))
     (λ k d lt. narrow (suc k) d (omega arith)))
 
+pub tables_stand_within : (limit : ℕ) (priority : Priorities) (pieces : List Piece) → is_priority priority ≡ true
+    → length priority.layers ≤ MAX_LAYERS → session_fault_within limit priority pieces ≡ None
+    → All IsWithinBounds (tables_of priority (cuts_of priority (groups_of pieces)))
+tables_stand_within limit priority pieces lawful few e =
+    let cuts : List Cut = cuts_of priority (groups_of pieces) in
+    let (groups, sizes) = no_cause_within limit priority pieces e in
+    let (wide, large) = size_none (position (is_wide priority) cuts)
+    (first_above limit 0 (map (cost_in priority) cuts)) sizes in
+    all_stand priority cuts lawful few (all_fit priority (groups_of pieces)
+    (all_short priority (groups_of pieces) groups)) (nowhere (is_wide priority) cuts wide)
+
 pub tables_stand : (priority : Priorities) (pieces : List Piece) → is_priority priority ≡ true
     → length priority.layers ≤ MAX_LAYERS → session_fault priority pieces ≡ None
     → All IsWithinBounds (tables_of priority (cuts_of priority (groups_of pieces)))
-tables_stand priority pieces lawful few e =
-    let cuts : List Cut = cuts_of priority (groups_of pieces) in
-    let (groups, sizes) = no_cause priority pieces e in
-    let (wide, large) = size_none (position (is_wide priority) cuts)
-    (first_above MAX_SESSION 0 (map (cost_in priority) cuts)) sizes in
-    all_stand priority cuts lawful few (all_fit priority (groups_of pieces)
-    (all_short priority (groups_of pieces) groups)) (nowhere (is_wide priority) cuts wide)
+tables_stand priority pieces lawful few e = tables_stand_within MAX_SESSION priority pieces lawful few e
 
 -- the costs together
 mapped_none : (o : Option ℕ) → option_map (λ n. n + 1) o ≡ None → o ≡ None
@@ -144,11 +162,12 @@ none_above limit before (cost ∷ costs) le e = elim (cases_Bool (nat_lt limit (
       omega arith)
 ]
 
-pub costs_fit : (priority : Priorities) (pieces : List Piece) → session_fault priority pieces ≡ None
-    → sum (map (cost_in priority) (cuts_of priority (groups_of pieces))) ≤ MAX_SESSION
-costs_fit priority pieces e =
+pub costs_fit : {limit : ℕ} (priority : Priorities) (pieces : List Piece)
+    → session_fault_within limit priority pieces ≡ None
+    → sum (map (cost_in priority) (cuts_of priority (groups_of pieces))) ≤ limit
+costs_fit {limit} priority pieces e =
     let costs : List ℕ = map (cost_in priority) (cuts_of priority (groups_of pieces)) in
     let large = (size_none (position (is_wide priority) (cuts_of priority (groups_of pieces)))
-    (first_above MAX_SESSION 0 costs) (no_cause priority pieces e).1).1 in
-    let fits = none_above MAX_SESSION 0 costs (omega arith) large in
+    (first_above limit 0 costs) (no_cause_within limit priority pieces e).1).1 in
+    let fits = none_above limit 0 costs (omega arith) large in
     omega arith

@@ -9,7 +9,7 @@ use Rattle.std.proofs.lemmas.Bool.{ltb-false}
 use Rattle.std.proofs.lemmas.List.{length-append, length-map, length-replicate, length-take}
 use Rattle.std.proofs.lemmas.List.Elements.{All-cons, All-nil}
 use Rattle.std.proofs.lemmas.List.FromFn.{length-map-range_with_len}
-use Rattle.pet_base.specs.declared.limits.TheConstants.{MAX_GROUPS, MAX_LAYERS}
+use Rattle.pet_base.specs.declared.limits.TheConstants.{MAX_GROUPS, MAX_LAYERS, MAX_SESSION}
 use Rattle.pet_base.specs.declared.Kind.TheVariants.{D}
 use Rattle.sha2.specs.Sha256.{sha256}
 use Rattle.mpeg_scan.specs.declared.piece.Piece.{Piece}
@@ -27,9 +27,9 @@ use Rattle.layer_split.specs.Splitting.{cuts_of}
 use Rattle.stripe_plan.specs.declared.layer.LayerSize.{LayerSize}
 use Rattle.stripe_plan.specs.Layers.{words_of, needs_of}
 use Rattle.stripe_plan.specs.Sizes.{Sizes}
-use Rattle.stream_session.specs.laws.FitLaws.{few_groups}
+use Rattle.stream_session.specs.laws.FitLaws.{few_groups_within}
 use Rattle.stream_session.specs.Number.{hashed, session_number}
-use Rattle.stream_session.specs.Refusals.{session_fault}
+use Rattle.stream_session.specs.Refusals.{session_fault, session_fault_within}
 use Rattle.stream_session.specs.Tables.{sizes_with, sizes_of, table_of, tables_of}
 
 -- a session number has no more than eight bytes
@@ -46,9 +46,15 @@ length-tables priority groups =
     omega (arith, tables, cuts)
 
 -- no more than a session may have
+pub tables_few_within : (limit : ℕ) (priority : Priorities) (pieces : List Piece)
+    → session_fault_within limit priority pieces ≡ None
+    → length (tables_of priority (cuts_of priority (groups_of pieces))) ≤ MAX_GROUPS
+tables_few_within limit priority pieces e =
+    omega (arith, length-tables priority (groups_of pieces), few_groups_within limit priority pieces e)
+
 pub tables_few : (priority : Priorities) (pieces : List Piece) → session_fault priority pieces ≡ None
     → length (tables_of priority (cuts_of priority (groups_of pieces))) ≤ MAX_GROUPS
-tables_few priority pieces e = omega (arith, length-tables priority (groups_of pieces), few_groups priority pieces e)
+tables_few priority pieces e = tables_few_within MAX_SESSION priority pieces e
 
 length-sizes_with : (lengths : List ℕ) (rules : List Rule) → length lengths ≡ length rules
     → length (sizes_with lengths rules) ≡ length rules

@@ -12,7 +12,7 @@ use Rattle.std.proofs.lemmas.List.{length-map, length-take-le}
 use Rattle.std.proofs.lemmas.List.Sums.{sum_by-cons}
 use Rattle.std.proofs.lemmas.List.Elements.{All-append, All-cons, All-head, All-nil, All-tail, All-take}
 use Rattle.std.proofs.lemmas.List.FromFn.{length-map-range_with_len}
-use Rattle.pet_base.specs.declared.limits.TheConstants.{MAX_LAYERS, MAX_SESSION}
+use Rattle.pet_base.specs.declared.limits.TheConstants.{MAX_LAYERS}
 use Rattle.sha2.proofs.Facts256.{length-sha256}
 use Rattle.sha2.specs.Sha256.{sha256, digest_bytes}
 use Rattle.mpeg_scan.specs.declared.piece.Piece.{Piece}
@@ -35,9 +35,9 @@ use Rattle.layer_split.specs.Layers.{Cut, cut_of, lengths_of, layer_length, mess
 use Rattle.layer_split.specs.Runs.{runs_of}
 use Rattle.layer_split.specs.Splitting.{cuts_of}
 use Rattle.packet_session.specs.Session.{SessionGroup, IsMessage, IsSession, IsSessionGroup, Fits}
-use Rattle.stream_session.specs.Accepted.{IsAcceptedSession, group_of, session_of}
+use Rattle.stream_session.specs.Accepted.{IsAcceptedWithin, group_of, session_of}
 use Rattle.stream_groups.specs.CutGroups.{CutGroup}
-use Rattle.stream_session.specs.laws.FitLaws.{IsWithinBounds, few_groups, tables_stand, costs_fit}
+use Rattle.stream_session.specs.laws.FitLaws.{IsWithinBounds, few_groups_within, tables_stand_within, costs_fit}
 use Rattle.stream_session.specs.laws.MessageLaws.{IsByte, word_bytes, message_words, message_bytes}
 use Rattle.stream_session.specs.Number.{hashed, session_number}
 use Rattle.stream_session.specs.Refusals.{cost_in}
@@ -218,15 +218,16 @@ groups_count priority stream =
     ∙ length-map (groups_of (pieces_of stream)) (cut_of (layer_of p) (length p.layers))
 
 -- an accepted session of a stream of bytes is a session
-pub is_session : (priority stream : List ℕ) → All (λ b. b < 256) stream → IsAcceptedSession priority stream
+pub is_session : {limit : ℕ} (priority stream : List ℕ) → All (λ b. b < 256) stream
+    → IsAcceptedWithin limit priority stream
     → IsSession 2 (session_of priority stream)
-is_session priority stream small is =
+is_session {limit} priority stream small is =
     let p : Priorities = priorities_of priority in
     let lawful = accepted_lawful priority is.priority_read in
     let named = layers_named priority is.priority_read in
     let count = groups_count priority stream in
     let some = some_groups stream is.stream_read in
-    let few = few_groups p (pieces_of stream) is.fits in
+    let few = few_groups_within limit p (pieces_of stream) is.fits in
     record {
       number = number_length priority stream;
       bytes = number_bytes priority stream;
@@ -234,7 +235,7 @@ is_session priority stream small is =
       few = omega arith;
       groups =
           all_groups p stream small lawful named.few (groups_of (pieces_of stream)) (groups_stand stream)
-          (tables_stand p (pieces_of stream) lawful named.few is.fits);
+          (tables_stand_within limit p (pieces_of stream) lawful named.few is.fits);
     }
 
 abbrev cost : SessionGroup → ℕ
@@ -254,9 +255,9 @@ costs_are priority s (cut ∷ cuts) =
     groups ∙ ap (λ n. cost_in priority cut + n) later ∙ sym costs
 
 -- its packets have at most the bytes of a session
-pub session_fits : (priority stream : List ℕ) → IsAcceptedSession priority stream
-    → Fits (session_of priority stream) MAX_SESSION
-session_fits priority stream is =
+pub session_fits : {limit : ℕ} (priority stream : List ℕ) → IsAcceptedWithin limit priority stream
+    → Fits (session_of priority stream) limit
+session_fits {limit} priority stream is =
     let p : Priorities = priorities_of priority in
-    subst (λ n. n ≤ MAX_SESSION) (sym (costs_are p stream (cuts_of_stream p stream)))
+    subst (λ n. n ≤ limit) (sym (costs_are p stream (cuts_of_stream p stream)))
     (costs_fit p (pieces_of stream) is.fits)

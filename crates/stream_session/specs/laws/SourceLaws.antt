@@ -15,13 +15,13 @@ use Rattle.mpeg_scan.specs.Pieces.{pieces_of}
 use Rattle.mpeg_scan.specs.Refusals.{Refuses, holds}
 use Rattle.layer_split.specs.Groups.{groups_of}
 use Rattle.stripe_plan.specs.Sizes.{Sizes}
-use Rattle.stream_session.specs.Refusals.{session_fault}
+use Rattle.stream_session.specs.Refusals.{session_fault_within}
 use Rattle.stream_session.specs.laws.SessionLaws.{tables_few, tables_layered}
-use Rattle.stream_session.specs.Sources.{IsOfSource, IsSource, IsSourceFault}
+use Rattle.stream_session.specs.Sources.{IsOfSource, IsSource, IsSourceFaultWithin}
 use Rattle.stream_session.specs.declared.source.Source.{Source}
 use Rattle.stream_session.specs.declared.source.SourceFault.{SourceFault}
 use Rattle.stream_session.specs.declared.source.SourceFault.TheVariants as source
-use Rattle.stream_session.specs.Sessions.{HasSession, IsGiven, tables_in}
+use Rattle.stream_session.specs.Sessions.{HasSession, IsGivenWithin, tables_in}
 
 pub either_file : (files : Option Files) (stream priority : List ℕ) (blame : Blame)
     → IsOfSource files stream priority blame → IsRead stream blame ⊎ IsRead priority blame
@@ -43,7 +43,8 @@ file_is files f name bytes told e there is =
     same_bytes x y e = cc
 
 -- where both files are told and a session
-module _ (old new : Seen) (stream priority p b : List ℕ) (given : IsGiven old stream priority p b) where
+module _ {limit : ℕ} (old new : Seen) (stream priority p b : List ℕ)
+    (given : IsGivenWithin limit old stream priority p b) where
   pub priority_is : (bytes : List ℕ) → IsFile old.files priority bytes → bytes ≡ p
   priority_is bytes is = file_is old.files given.files priority bytes p given.told given.priority_there is
 
@@ -58,7 +59,7 @@ module _ (old new : Seen) (stream priority p b : List ℕ) (given : IsGiven old 
 
   -- neither file is refused, nor the plan
   pub none_refused : (fault : SourceFault) → fault ≢ source.NoMemory → fault ≢ source.Failed
-      → IsSourceFault old new stream priority fault → ⊥
+      → IsSourceFaultWithin limit old new stream priority fault → ⊥
   none_refused source.NoMemory memory place is = memory refl
   none_refused source.Failed memory place is = place refl
   none_refused (source.Priority fault) memory place is =
@@ -69,16 +70,16 @@ module _ (old new : Seen) (stream priority p b : List ℕ) (given : IsGiven old 
       (stream_is is.bytes is.stream_is) is.holds in
       false_holds (holds b scan) refused.holding (given.session.stream_read scan)
   none_refused (source.Plan fault) memory place is =
-      let at_file = subst (λ (f : List ℕ). session_fault (priorities_of f) (pieces_of is.bytes) ≡ Some fault)
+      let at_file = subst (λ (f : List ℕ). session_fault_within limit (priorities_of f) (pieces_of is.bytes) ≡ Some fault)
       (priority_is is.file is.priority_is) is.holds.2 in
-      let at_both : session_fault (priorities_of p) (pieces_of b) ≡ Some fault =
-      subst (λ (s : List ℕ). session_fault (priorities_of p) (pieces_of s) ≡ Some fault)
+      let at_both : session_fault_within limit (priorities_of p) (pieces_of b) ≡ Some fault =
+      subst (λ (s : List ℕ). session_fault_within limit (priorities_of p) (pieces_of s) ≡ Some fault)
       (stream_is is.bytes is.stream_is) at_file in
-      none_some (session_fault (priorities_of p) (pieces_of b)) fault given.session.fits at_both
+      none_some (session_fault_within limit (priorities_of p) (pieces_of b)) fault given.session.fits at_both
 
   -- no fault of a session holds of them, but that the place had one
   pub no_fault : (fault : SourceFault) → fault ≢ source.NoMemory
-      → (Failed (reading stream ∷ reading priority ∷ []) old new → ⊥) → IsSourceFault old new stream priority fault → ⊥
+      → (Failed (reading stream ∷ reading priority ∷ []) old new → ⊥) → IsSourceFaultWithin limit old new stream priority fault → ⊥
   no_fault source.NoMemory memory well is = memory refl
   no_fault source.Failed memory well is = well (failed_at_either old.files stream priority old new is)
   no_fault (source.Priority fault) memory well is = none_refused (source.Priority fault) memory (λ failed. cc) is

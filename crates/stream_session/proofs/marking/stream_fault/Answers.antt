@@ -1,8 +1,9 @@
 -- A fault of the groups is one of the plan.
+use Rattle.pet_base.specs.declared.limits.TheConstants.{MAX_SESSION}
 use Rattle.stream_session.proofs.KeptInOrder.{groups_told}
 use Rattle.stream_session.proofs.marking.stream_fault.Goals as goal
 
 pub returns-in-Groups : goal.returns-in-Groups
 returns-in-Groups c priority stream is =
-    groups_told priority stream c.args.fault c.in-Groups.fault c.refusal_of.result c.in-Groups.is is
+    groups_told MAX_SESSION priority stream c.args.fault c.in-Groups.fault c.refusal_of.result c.in-Groups.is is
     c.refusal_of.ensures
