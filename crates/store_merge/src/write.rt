@@ -19,7 +19,11 @@ use packet_frame::{FORMAT, Header, frame_length, write_frame};
 use pet_base::NoMemory;
 use pet_receive::Receiver;
 use sha2::{Digest, Sha256};
-use store_text::MARK;
+use store_text::{HEAD_LENGTH, MARK};
+use stripe_plan::datagram_length;
+
+/// The bytes that tell the length of an entry.
+const LENGTH_BYTES: usize = 2;
 
 /// Appends the store of all packets that the receiver has kept, by group, then number. `into` is as before where no memory
 /// is found.
@@ -52,8 +56,38 @@ fn has_eight_bytes(session: &[u8; 8])
     let _session = session;
 }
 
-/// Appends the store. Where no memory is found, a front of it may stand there.
+/// Takes the room for the store at once, and appends it. Where no memory is found, a front of it may stand there.
 fn append_store<F: Rows>(receiver: &Receiver<'_, F>, into: &mut Vec<u8>) -> Result<(), NoMemory>
+    ensures text { OnOk result (into.new.items
+        ≡ into.old.items ++ store_text (kept_set receiver.now)) }
+    ensures front { take (length into.old.items) into.new.items ≡ into.old.items }
+{
+    into.reserve_exact(room_for(receiver))?;
+    append_parts(receiver, into)
+}
+
+/// How many bytes the store has of what the receiver has kept.
+fn room_for<F: Rows>(receiver: &Receiver<'_, F>) -> usize {
+    let mut room = HEAD_LENGTH + FORMAT.tag;
+    for group in 0..receiver.groups().unwrap_or(0) {
+        room = room.saturating_add(group_room(receiver, group));
+    }
+    room
+}
+
+/// How many bytes the entries of a group have.
+fn group_room<F: Rows>(receiver: &Receiver<'_, F>, group: u32) -> usize {
+    match receiver.header(group) {
+        Some(header) => {
+            let entry = datagram_length(&header.table) as usize + LENGTH_BYTES;
+            entry.saturating_mul(usize::from(receiver.count(group)))
+        }
+        None => 0,
+    }
+}
+
+/// Appends the head, the entries and the tag. Where no memory is found, a front of them may stand there.
+fn append_parts<F: Rows>(receiver: &Receiver<'_, F>, into: &mut Vec<u8>) -> Result<(), NoMemory>
     ensures text { OnOk result (into.new.items
         ≡ into.old.items ++ store_text (kept_set receiver.now)) }
     ensures front { take (length into.old.items) into.new.items ≡ into.old.items }

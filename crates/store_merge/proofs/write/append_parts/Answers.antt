@@ -5,7 +5,7 @@ use Rattle.packet_verdicts.specs.Union.{frames_in}
 use Rattle.packet_verdicts.specs.laws.FramesLaws.{frames_many}
 use Rattle.store_merge.proofs.Appended.{stored}
 use Rattle.store_text.specs.declared.format.TheConstants.{MARK}
-use Rattle.store_merge.proofs.write.append_store.Goals as goal
+use Rattle.store_merge.proofs.write.append_parts.Goals as goal
 
 pub returns-clause-text : goal.returns-clause-text
 returns-clause-text g c =
