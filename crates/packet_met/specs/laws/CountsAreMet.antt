@@ -40,7 +40,7 @@ none_shown layers n none =
           (Rattle.stripe_plan.specs.Layers.words_before layers (layer + 1)) (plan_stripes layers),
     )))
 
-group_at : {width : ℕ} (gs : List SessionGroup) (i : ℕ) (g : SessionGroup) → slice_get gs i ≡ Some g
+pub group_at : {width : ℕ} (gs : List SessionGroup) (i : ℕ) (g : SessionGroup) → slice_get gs i ≡ Some g
     → All (IsSessionGroup width) gs → IsSessionGroup width g
 group_at [] i g e all = absurd cc
 group_at {width} (x ∷ gs) zero g e all =
