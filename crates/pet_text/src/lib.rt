@@ -1,6 +1,7 @@
 //! The texts of the program: the command words that it takes, the lines of `check`, `send`, `receive`, `merge`, `video`,
 //! `unwrap`, `wrap` and `migrate`, and the statuses that it ends with. The text of `plan` is that of `text_plan`, the
-//! script that of `text_script`, and the stream of `sample` that of `stream_sample`.
+//! script that of `text_script`, the lines of `replay` and `sample` those of `text_world`, and the stream of `sample` that
+//! of `stream_sample`.
 //!
 //! `read_words` reads exactly the words of a form. `least_line`, `send_line`, `merged_line`, `video_line`, `unwrapped_line`,
 //! `wrapped_line`, `migrated_line` and `fault_line`, which take no memory, leave exactly the defined line; `bound_line` and
@@ -28,4 +29,8 @@ pub use text_plan::{
     PlanFault, Repeat, lengths_line, plan_group_line, plan_layer_line, plan_session_line, read_plan,
 };
 pub use text_script::{ScriptFault, read_script};
+pub use text_world::{
+    sample_arrivals_line, sample_layer_line, sample_packets_line, sample_session_line,
+    sample_store_line, sample_stream_line, sample_video_line, shown_line, store_line,
+};
 pub use words::{Command, WordsFault, read_words};
