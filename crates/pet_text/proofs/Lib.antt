@@ -1,3 +1,2 @@
 pub mod OtherWords
 pub mod SessionBytes
-pub mod FaultWords

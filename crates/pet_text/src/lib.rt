@@ -1,10 +1,10 @@
 //! The texts of the program: the command words that it takes, the lines of `check`, `send`, `receive`, `merge`, `video`,
-//! `unwrap`, `wrap` and `migrate`, and the statuses that it ends with. The text of `plan` is that of `text_plan`, the
-//! script that of `text_script`, the lines of `replay` and `sample` those of `text_world`, and the stream of `sample` that
-//! of `stream_sample`.
+//! `unwrap`, `wrap` and `migrate`; and, given out again, the statuses of `text_status`, the text of `plan` of `text_plan`, the
+//! script of `text_script`, the lines of `replay` and `sample` of `text_world`, and the stream of `sample` of
+//! `stream_sample`.
 //!
 //! `read_words` reads exactly the words of a form. `least_line`, `send_line`, `merged_line`, `video_line`, `unwrapped_line`,
-//! `wrapped_line`, `migrated_line` and `fault_line`, which take no memory, leave exactly the defined line; `bound_line` and
+//! `wrapped_line` and `migrated_line`, which take no memory, leave exactly the defined line; `bound_line` and
 //! `receive_line` append exactly theirs, or leave what they were to extend as it was.
 #![tactic(auto)]
 
@@ -13,7 +13,6 @@ mod form;
 mod lines;
 mod name;
 mod session;
-mod status;
 mod words;
 
 pub use end::End;
@@ -22,13 +21,13 @@ pub use lines::{
     video_line, wrapped_line,
 };
 pub use name::Name;
-pub use status::{PlanKind, Status, fault_line};
 pub use stream_sample::sample_stream;
 pub use stream_session::GroupMark;
 pub use text_plan::{
     PlanFault, Repeat, lengths_line, plan_group_line, plan_layer_line, plan_session_line, read_plan,
 };
 pub use text_script::{ScriptFault, read_script};
+pub use text_status::{PlanKind, Status, fault_line};
 pub use text_world::{
     sample_arrivals_line, sample_layer_line, sample_packets_line, sample_session_line,
     sample_store_line, sample_stream_line, sample_video_line, shown_line, store_line,

@@ -45,8 +45,8 @@ use Rattle.command_send.specs.Sends.{IsAimedAt, IsSentOf, Sends, packets_file, p
 use Rattle.command_send.specs.SendsSession.{SendsAll, uses}
 use Rattle.command_send.specs.declared.session.Sent.{Sent as SentNumbers}
 use Rattle.command_send.specs.laws.EndLaws.{sends_session}
-use Rattle.pet_text.specs.declared.status.Status.{Status}
-use Rattle.pet_text.specs.declared.status.Status.TheVariants.{Done, Incomplete, TurnsSpent}
+use Rattle.text_status.specs.declared.status.Status.{Status}
+use Rattle.text_status.specs.declared.status.Status.TheVariants.{Done, Incomplete, TurnsSpent}
 use Rattle.pet_text.specs.declared.words.Command.{Command}
 use Rattle.pet_text.specs.declared.words.Command.TheVariants.{Plan, Check, Send, Receive, Merge, Video, Unwrap, Wrap}
 use Rattle.pet_text.specs.declared.words.Command.TheVariants.{Migrate}
@@ -54,7 +54,8 @@ use Rattle.outside_routes.specs.RouteFaults.{AimedFailed}
 use Rattle.outside_routes.specs.Sending.{Sent}
 use Rattle.outside_routes.specs.Way.{Way, OnFile, OnLink}
 use Rattle.pet_text.specs.Ends.{way_in}
-use Rattle.pet_text.specs.Lines.{fault_text, video_text}
+use Rattle.text_status.specs.Statuses.{fault_text}
+use Rattle.pet_text.specs.Lines.{video_text}
 use Rattle.pet_tool.specs.Completes.{Completes, CompletesPlan, CompletesCheck, CompletesSend, CompletesMerge}
 use Rattle.pet_tool.specs.Completes.{CompletesMigrate}
 use Rattle.pet_tool.specs.declared.end.End.{End}

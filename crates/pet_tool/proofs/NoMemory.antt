@@ -11,14 +11,14 @@ use Rattle.command_video.specs.declared.command.VideoEnd.TheVariants as video
 use Rattle.mpeg_system.specs.declared.unwrap_files.UnwrapEnd.TheVariants as unwrap
 use Rattle.mpeg_system.specs.declared.wrap_files.WrapEnd.TheVariants as wrap
 use Rattle.command_migrate.specs.declared.command.MigrateEnd.TheVariants as migrate
-use Rattle.pet_text.specs.declared.status.Status.TheVariants.{NoMemory}
+use Rattle.text_status.specs.declared.status.Status.TheVariants.{NoMemory}
 use Rattle.pet_text.specs.declared.words.Command.{Command}
 use Rattle.pet_text.specs.declared.words.Command.TheVariants.{Plan, Check, Send, Receive, Merge, Video, Unwrap, Wrap}
 use Rattle.pet_text.specs.declared.words.Command.TheVariants.{Migrate}
 use Rattle.command_receive.specs.laws.SessionReceived.{nothing_received}
 use Rattle.pet_text.specs.Ends.{way_in}
 use Rattle.pet_text.specs.declared.end.End.TheVariants.{File, Udp}
-use Rattle.pet_text.specs.declared.status.Status.{Status}
+use Rattle.text_status.specs.declared.status.Status.{Status}
 use Rattle.pet_tool.specs.Does.{Does, Strikes}
 use Rattle.pet_tool.specs.Told.{Tells}
 use Rattle.pet_tool.proofs.Telling.{strikes}

@@ -15,9 +15,10 @@ use Rattle.mpeg_system.specs.Videos.{refusal_of, video_of}
 use Rattle.mpeg_system.specs.Wrapped.{wrapped}
 use Rattle.mpeg_system.specs.Wraps.{Wraps}
 use Rattle.mpeg_system.specs.laws.Completed.{completes_unwrap, completes_wrap}
-use Rattle.pet_text.specs.declared.status.Status.{Status}
-use Rattle.pet_text.specs.declared.status.Status.TheVariants.{Done, BadSystem}
-use Rattle.pet_text.specs.Lines.{fault_text, wrapped_text}
+use Rattle.text_status.specs.declared.status.Status.{Status}
+use Rattle.text_status.specs.declared.status.Status.TheVariants.{Done, BadSystem}
+use Rattle.text_status.specs.Statuses.{fault_text}
+use Rattle.pet_text.specs.Lines.{wrapped_text}
 use Rattle.pet_tool.specs.Completes.{CompletesUnwrap, CompletesWrap}
 use Rattle.pet_tool.specs.declared.end.End.{End}
 use Rattle.pet_tool.specs.declared.end.End.TheVariants as end

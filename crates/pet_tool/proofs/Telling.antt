@@ -9,9 +9,9 @@ use Rattle.pet_base.specs.LinkSeen.{LinkSeen, LinkStops}
 use Rattle.outside_files.specs.Failures.{EndsAtOnce}
 use Rattle.outside_files.specs.Printed.{PrintsLine}
 use Rattle.outside_files.specs.laws.PrintedLaws.{append_known-twice, append_known-nil}
-use Rattle.pet_text.specs.declared.status.Status.{Status}
-use Rattle.pet_text.specs.declared.status.Status.TheVariants.{Usage}
-use Rattle.pet_text.specs.Lines.{fault_text}
+use Rattle.text_status.specs.declared.status.Status.{Status}
+use Rattle.text_status.specs.declared.status.Status.TheVariants.{Usage}
+use Rattle.text_status.specs.Statuses.{fault_text}
 use Rattle.pet_tool.specs.Does.{Refuses, Strikes}
 use Rattle.pet_tool.specs.declared.end.End.{End}
 use Rattle.pet_tool.specs.declared.end.End.TheVariants as end

@@ -26,8 +26,8 @@ use Rattle.mpeg_system.specs.Completes.{HasFile}
 use Rattle.mpeg_system.specs.Videos.{refusal_of, video_of}
 use Rattle.mpeg_system.specs.Wrapped.{wrapped}
 use Rattle.pet_text.specs.Lines.{merged_text, video_text, unwrapped_text, wrapped_text, migrated_text}
-use Rattle.pet_text.specs.declared.status.Status.{Status}
-use Rattle.pet_text.specs.declared.status.Status.TheVariants.{Done, BadSystem}
+use Rattle.text_status.specs.declared.status.Status.{Status}
+use Rattle.text_status.specs.declared.status.Status.TheVariants.{Done, BadSystem}
 use Rattle.pet_text.specs.declared.words.Command.{Command}
 use Rattle.pet_text.specs.declared.words.Command.TheVariants.{Plan, Check, Send, Receive, Merge, Video, Unwrap, Wrap}
 use Rattle.pet_text.specs.declared.words.Command.TheVariants.{Migrate}

@@ -13,13 +13,13 @@ use Rattle.command_send.specs.Sends.{Sends}
 use Rattle.command_video.specs.Videos.{Videos}
 use Rattle.mpeg_system.specs.Unwraps.{Unwraps}
 use Rattle.mpeg_system.specs.Wraps.{Wraps}
-use Rattle.pet_text.specs.declared.status.Status.{Status}
-use Rattle.pet_text.specs.declared.status.Status.TheVariants.{Usage}
+use Rattle.text_status.specs.declared.status.Status.{Status}
+use Rattle.text_status.specs.declared.status.Status.TheVariants.{Usage}
 use Rattle.pet_text.specs.declared.words.Command.{Command}
 use Rattle.pet_text.specs.declared.words.Command.TheVariants.{Plan, Check, Send, Receive, Merge, Video, Unwrap, Wrap}
 use Rattle.pet_text.specs.declared.words.Command.TheVariants.{Migrate}
 use Rattle.pet_text.specs.Ends.{way_in}
-use Rattle.pet_text.specs.Lines.{fault_text}
+use Rattle.text_status.specs.Statuses.{fault_text}
 use Rattle.pet_tool.specs.declared.end.End.{End}
 use Rattle.pet_tool.specs.declared.end.End.TheVariants as end
 use Rattle.pet_tool.specs.Lines.{line_of}

@@ -17,8 +17,8 @@ use Rattle.command_receive.specs.NamedLayers.{NamesStored}
 use Rattle.command_receive.specs.Opened.{IsBoundTo}
 use Rattle.command_receive.specs.Receives.{port_line, uses_of}
 use Rattle.command_receive.specs.ReceivesSession.{HasDatagrams, HasPacketsOf, session_numbers}
-use Rattle.pet_text.specs.declared.status.Status.{Status}
-use Rattle.pet_text.specs.declared.status.Status.TheVariants.{Done, Incomplete, TurnsSpent}
+use Rattle.text_status.specs.declared.status.Status.{Status}
+use Rattle.text_status.specs.declared.status.Status.TheVariants.{Done, Incomplete, TurnsSpent}
 use Rattle.pet_tool.specs.Undisturbed.{IsUndisturbedOn, EndsWith}
 
 -- LAYERS has each shown layer's exact bytes once, numbered by the arrival at which the group's distinct packets reached

@@ -23,12 +23,12 @@ use Rattle.command_migrate.specs.declared.command.MigrateEnd.{MigrateEnd}
 use Rattle.command_migrate.specs.declared.command.MigrateEnd.TheVariants as migrate
 use Rattle.pet_tool.specs.declared.end.End.{End}
 use Rattle.pet_tool.specs.declared.end.End.TheVariants as end
-use Rattle.pet_text.specs.declared.status.PlanKind.TheVariants as kind
-use Rattle.pet_text.specs.declared.status.Status.{Status}
-use Rattle.pet_text.specs.declared.status.Status.TheVariants.{Done, Usage, NoMemory, PlaceFault, LinkFault, OutFault}
-use Rattle.pet_text.specs.declared.status.Status.TheVariants.{BadStream, BadPriority, BadPlan, BadStore, OtherSession}
-use Rattle.pet_text.specs.declared.status.Status.TheVariants.{Clash, Incomplete, TurnsSpent, BadTable, NotLeast}
-use Rattle.pet_text.specs.declared.status.Status.TheVariants.{Changed, Full, BadSystem, AlreadyNew, TooWide}
+use Rattle.text_status.specs.declared.status.PlanKind.TheVariants as kind
+use Rattle.text_status.specs.declared.status.Status.{Status}
+use Rattle.text_status.specs.declared.status.Status.TheVariants.{Done, Usage, NoMemory, PlaceFault, LinkFault, OutFault}
+use Rattle.text_status.specs.declared.status.Status.TheVariants.{BadStream, BadPriority, BadPlan, BadStore, OtherSession}
+use Rattle.text_status.specs.declared.status.Status.TheVariants.{Clash, Incomplete, TurnsSpent, BadTable, NotLeast}
+use Rattle.text_status.specs.declared.status.Status.TheVariants.{Changed, Full, BadSystem, AlreadyNew, TooWide, BadScript}
 
 -- of a session's refusal
 abbrev pub status_of_session : SessionFault → Status
@@ -152,6 +152,7 @@ of_place (Changed group first second) = false
 of_place (Full group) = false
 of_place (BadSystem fault) = false
 of_place AlreadyNew = false
+of_place (BadScript line) = false
 of_place (TooWide group) = false
 
 abbrev pub of_link : Status → Bool
@@ -175,4 +176,5 @@ of_link (Changed group first second) = false
 of_link (Full group) = false
 of_link (BadSystem fault) = false
 of_link AlreadyNew = false
+of_link (BadScript line) = false
 of_link (TooWide group) = false

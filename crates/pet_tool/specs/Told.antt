@@ -3,9 +3,9 @@ use Rattle.std.specs.Prelude.{◌≡◌, ◌≢◌, ◌⊎◌, ℕ, List, []}
 use Rattle.pet_base.specs.Causes.{one_more}
 use Rattle.pet_base.specs.OutsideSeen.{OutsideSeen}
 use Rattle.outside_files.specs.Printed.{Printed, PrintedFront, PrintsLine}
-use Rattle.pet_text.specs.declared.status.Status.{Status}
-use Rattle.pet_text.specs.declared.status.Status.TheVariants.{OutFault}
-use Rattle.pet_text.specs.Lines.{fault_text}
+use Rattle.text_status.specs.declared.status.Status.{Status}
+use Rattle.text_status.specs.declared.status.Status.TheVariants.{OutFault}
+use Rattle.text_status.specs.Statuses.{fault_text}
 
 -- nothing but printing was done
 pub record OnlyTells (before after : OutsideSeen) : Type 0 where

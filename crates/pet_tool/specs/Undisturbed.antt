@@ -5,9 +5,9 @@ use Rattle.pet_base.specs.LinkSeen.{LinkSeen}
 use Rattle.pet_base.specs.OutsideSeen.{OutsideSeen}
 use Rattle.outside_files.specs.Printed.{Printed}
 use Rattle.outside_files.specs.Uses.{IsWell}
-use Rattle.pet_text.specs.declared.status.Status.{Status}
-use Rattle.pet_text.specs.declared.status.Status.TheVariants.{NoMemory}
-use Rattle.pet_text.specs.Lines.{fault_text}
+use Rattle.text_status.specs.declared.status.Status.{Status}
+use Rattle.text_status.specs.declared.status.Status.TheVariants.{NoMemory}
+use Rattle.text_status.specs.Statuses.{fault_text}
 
 -- memory was found, and neither the place, at one of these files, nor the output had a fault
 pub record IsUndisturbed (uses : List Blame) (before after : OutsideSeen) (status : Status) : Type 0 where

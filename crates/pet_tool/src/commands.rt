@@ -17,7 +17,7 @@ ghost use Rattle.pet_tool.specs.Does.{Does, Runs, OnFiles, OnRead};
 ghost use Rattle.pet_tool.specs.Lines.{line_of};
 ghost use Rattle.pet_tool.specs.Told.{Tells};
 ghost use Rattle.pet_tool.specs.Statuses.{status_of};
-ghost use Rattle.pet_text.specs.declared.status.Status.{Status};
+ghost use Rattle.text_status.specs.declared.status.Status.{Status};
 
 use crate::end::End;
 use command_merge::merge;

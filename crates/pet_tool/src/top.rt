@@ -5,7 +5,7 @@ ghost use Rattle.pet_base.specs.Lent.{seen, AreSame};
 ghost use Rattle.pet_base.specs.Causes.{one_more};
 ghost use Rattle.outside_files.specs.Printed.{Printed, PrintedFront, PrintsLine};
 ghost use Rattle.pet_text.specs.Words.{texts_of, command_of};
-ghost use Rattle.pet_text.specs.Lines.{fault_text};
+ghost use Rattle.text_status.specs.Statuses.{fault_text};
 ghost use Rattle.pet_tool.specs.Completes.{Completes};
 ghost use Rattle.pet_tool.specs.Does.{Does};
 ghost use Rattle.pet_tool.specs.Lines.{line_of};

@@ -20,3 +20,5 @@ mod system_tests;
 mod text_fixtures;
 #[cfg(test)]
 mod text_tests;
+#[cfg(test)]
+mod world_text_tests;

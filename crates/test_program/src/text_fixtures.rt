@@ -39,7 +39,7 @@ const NONE: GroupMark = GroupMark {
 };
 
 /// Statuses with their numbers and lines.
-pub(crate) static FAULTS: [(Status, u8, &str); 22] = [
+pub(crate) static FAULTS: [(Status, u8, &str); 24] = [
     (Status::Incomplete, 12, "fault incomplete\n"),
     (Status::LinkFault, 4, "fault link\n"),
     (
@@ -81,6 +81,12 @@ pub(crate) static FAULTS: [(Status, u8, &str); 22] = [
     (Status::Full(4_294_967_295), 19, "fault full 4294967295\n"),
     (Status::AlreadyNew, 18, "fault version\n"),
     (Status::TooWide(65_534), 20, "fault wide 65534\n"),
+    (Status::BadScript(0), 14, "fault script 0\n"),
+    (
+        Status::BadScript(18_446_744_073_709_551_615),
+        14,
+        "fault script 18446744073709551615\n",
+    ),
     (
         Status::BadSystem(System::NotUnit(18_446_744_073_709_551_615, 184)),
         24,

@@ -1,7 +1,7 @@
 use Rattle.std.proofs.Common.{◌≡◌, ◌↔◌, None, sym, subst}
 use Rattle.pet_base.specs.Lent.{seen}
-use Rattle.pet_text.specs.declared.status.Status.{Status}
-use Rattle.pet_text.specs.declared.status.Status.TheVariants.{Usage}
+use Rattle.text_status.specs.declared.status.Status.{Status}
+use Rattle.text_status.specs.declared.status.Status.TheVariants.{Usage}
 use Rattle.pet_text.specs.Words.{texts_of, command_of}
 use Rattle.pet_tool.specs.Does.{Does}
 use Rattle.pet_tool.proofs.Telling.{usage_told}

@@ -1,7 +1,7 @@
 use Rattle.std.proofs.Common.{arith, refl}
 use Rattle.mpeg_scan.specs.declared.refusal.Scan.TheVariants.{NoHead, System, ShortPicture}
-use Rattle.pet_text.proofs.FaultWords.{numbered}
-use Rattle.pet_text.proofs.status.append_scan.Goals as goal
+use Rattle.text_status.proofs.FaultWords.{numbered}
+use Rattle.text_status.proofs.status.append_scan.Goals as goal
 
 pub returns-in-NoHead : goal.returns-in-NoHead
 returns-in-NoHead c = record {

@@ -1,7 +1,7 @@
 -- The words of a fault line.
 use Rattle.std.proofs.Common.{◌≡◌, ℕ, List, ◌++◌, append_assoc, ap, sym, ◌∙◌}
 use Rattle.mpeg_scan.specs.declared.refusal.Scan.{Scan}
-use Rattle.pet_text.specs.Lines.{scan_text}
+use Rattle.text_status.specs.Statuses.{scan_text}
 
 -- a word and a number behind it are the text of a refusal that is spelled so
 pub numbered : (fault shown : Scan) (old new word digits : List ℕ) → fault ≡ shown → scan_text shown ≡ word ++ digits

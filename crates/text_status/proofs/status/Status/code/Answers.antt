@@ -1,5 +1,5 @@
 use Rattle.std.proofs.Common.{rules}
-use Rattle.pet_text.proofs.status.Status.code.Goals as goal
+use Rattle.text_status.proofs.status.Status.code.Goals as goal
 
 pub returns-in-LinkFault : goal.returns-in-LinkFault
 returns-in-LinkFault c = search rules

@@ -1,8 +1,8 @@
 //! How the program ends.
 ghost use Rattle.std.specs.Prelude.{◌≡◌, ◌+◌, ◌≤◌, [], ◌++◌, length, codes, decimal};
 ghost use Rattle.arrayvec.specs.ArrayVec.{array_vec_len};
-ghost use Rattle.pet_text.specs.declared.status.Status.TheVariants.{BadStream, BadPriority, BadPlan, BadStore, Clash, BadSystem};
-ghost use Rattle.pet_text.specs.Lines.{code_of, scan_text, system_text, priority_text, plan_kind_text, store_kind_text, fault_text};
+ghost use Rattle.text_status.specs.declared.status.Status.TheVariants.{BadStream, BadPriority, BadPlan, BadStore, Clash, BadSystem};
+ghost use Rattle.text_status.specs.Statuses.{code_of, scan_text, system_text, priority_text, plan_kind_text, store_kind_text, fault_text};
 
 use arrayvec::ArrayVec;
 use mpeg_scan::Scan;
@@ -95,6 +95,9 @@ pub enum Status {
     AlreadyNew,
     /// The datagrams of this group, the first such, would be longer than 65,000 bytes.
     TooWide(u32),
+    /// This line of the script, counted from 1, is the first that is no event of the session; 0 where the script has more
+    /// than 1,048,576 bytes.
+    BadScript(u64),
 }
 
 impl Status {
@@ -124,6 +127,7 @@ impl Status {
             Status::BadSystem(_) => 24,
             Status::AlreadyNew => 18,
             Status::TooWide(_) => 20,
+            Status::BadScript(_) => 14,
         }
     }
 }
@@ -155,6 +159,7 @@ pub fn fault_line(status: &Status, into: &mut ArrayVec<u8, 64>)
         Status::BadSystem(fault) => system_fault(fault, into),
         Status::AlreadyNew => append_text("fault version\n", into),
         Status::TooWide(group) => number_line("fault wide ", u64::from(*group), into),
+        Status::BadScript(line) => number_line("fault script ", *line, into),
     }
 }
 
