@@ -1,2 +1,3 @@
 pub mod Filler
 pub mod SampleStream
+pub mod laws
