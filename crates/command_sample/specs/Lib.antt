@@ -1,0 +1,3 @@
+pub mod Arrivals
+pub mod Summary
+pub mod laws

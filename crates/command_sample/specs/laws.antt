@@ -1,0 +1,3 @@
+pub mod ArrivalLaws
+pub mod StartCodeLaws
+pub mod AcceptedLaws
