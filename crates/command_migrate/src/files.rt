@@ -10,10 +10,10 @@ ghost use Rattle.command_migrate.specs.Migrates.{Migrates, WritesMigrated};
 ghost use Rattle.command_migrate.specs.OldStores.{migrated_in, long_fault};
 
 use crate::command::MigrateEnd;
-use outside_files::read_file;
+use outside_files::{put_file, read_file};
 use pet_base::{Failed, MAX_SESSION, MAX_STORE, Place, Stop};
 use std::alloc::Global;
-use store_merge::{MigrateFault, migrate_store, put_file};
+use store_merge::{MigrateFault, migrate_store};
 use store_text::{STORE_FORM, StoreKind};
 
 impl From<Stop> for MigrateEnd {

@@ -164,10 +164,9 @@ pub entering_failed : (file out : List ℕ) (old new : Seen) → HadFault old ne
 entering_failed file out old new h =
     HadFault-since old old new _ _ (omega arith) (λ b is. inl (Blames-some file Read b is)) h
 
-pub making_failed : (file out : List ℕ) (old entered new : Seen) → old.faults ≤ entered.faults
-    → HadFault entered new (Blames Written (Some out)) → Failed (reading file ∷ writing out ∷ []) old new
-making_failed file out old entered new later h =
-    HadFault-since old entered new _ _ later (λ b is. inr (Blames-some out Written b is)) h
+pub writing_failed : (file out : List ℕ) (old entered new : Seen) → old.faults ≤ entered.faults
+    → HadFault entered new (IsOneOf (writing out ∷ [])) → Failed (reading file ∷ writing out ∷ []) old new
+writing_failed file out old entered new later h = HadFault-since old entered new _ _ later (λ b is. inr is) h
 
 -- within the loop
 pub read_failed : (first before after : Seen) (stream given : List ℕ) → Stands first before stream given

@@ -3,16 +3,16 @@ use Rattle.std.proofs.Common.{◌≡◌, ◌⊎◌, ℕ, ◌≤◌, Bool, false,
 use Rattle.std.proofs.Common.{◌∙◌, inl, inr}
 use Rattle.std.specs.Prelude.{None, Some, is_err, OnOk, option_map}
 use Rattle.pet_base.specs.declared.limits.TheConstants.{MAX_STREAM}
-use Rattle.pet_base.specs.declared.place.Side.TheVariants.{Written}
-use Rattle.pet_base.specs.Causes.{Blames}
 use Rattle.pet_base.specs.Seen.{Seen, HadFault}
 use Rattle.outside_files.specs.Inputs.{IsFrontOf}
 use Rattle.outside_files.specs.Outputs.{IsPrefix}
+use Rattle.outside_files.specs.Uses.{IsOneOf, writing}
 use Rattle.outside_files.specs.Wrote.{File, Wrote, with_files}
+use Rattle.outside_files.specs.laws.WroteLaws.{Wrote-nothing}
 use Rattle.mpeg_system.specs.declared.wrap_files.WrapEnd.TheVariants.{Done, PlaceFault}
 use Rattle.mpeg_system.specs.Wrapped.{wrapped}
 use Rattle.mpeg_system.specs.Wraps.{Wraps}
-use Rattle.mpeg_system.proofs.Whole.{making_failed}
+use Rattle.mpeg_system.proofs.Whole.{writing_failed}
 
 pub ok_of : {T E P : Type 0} (result : Result T E) (failed : Bool) → failed ≡ is_err result → failed ≡ false
     → OnOk result P → P
@@ -41,14 +41,14 @@ module _ (file out bytes text : List ℕ) (old mid new : Seen) (read : IsFrontOf
   )
 
   pub wraps_fault : old.faults ≤ mid.faults
-      → Wrote [] None mid new ⊎ Wrote [] (Some (record { name = out; bytes = text })) mid new
-      → HadFault mid new (Blames Written (Some out)) → Wraps file out old new PlaceFault
-  wraps_fault later (inl wrote) fault =
-      (inl (wrote ∙ ap (option_map (with_files [])) same), making_failed file out old mid new later fault)
+      → (new.files ≡ mid.files) ⊎ Wrote [] (Some (record { name = out; bytes = text })) mid new
+      → HadFault mid new (IsOneOf (writing out ∷ [])) → Wraps file out old new PlaceFault
+  wraps_fault later (inl kept) fault =
+      (inl (Wrote-nothing old new (kept ∙ same)), writing_failed file out old mid new later fault)
   wraps_fault later (inr part) fault = (
     inr (
       record { bytes = bytes; read = read; short = short },
       (part.0, subst (IsPrefix part.0) is part.1, part.2 ∙ ap (option_map (with_files (made part.0 ∷ []))) same),
     ),
-    making_failed file out old mid new later fault,
+    writing_failed file out old mid new later fault,
   )

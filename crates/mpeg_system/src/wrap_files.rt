@@ -1,17 +1,13 @@
 //! A video wrapped from a file into a file.
-ghost use Rattle.std.specs.Prelude.{◌≤◌, ◌⊎◌, [], ◌∷◌, None, Some, is_err, OnOk, OnErr};
-ghost use Rattle.pet_base.specs.declared.place.Side.TheVariants.{Written};
-ghost use Rattle.pet_base.specs.Causes.{Blames};
-ghost use Rattle.pet_base.specs.Seen.{HadFault, PlaceStops};
-ghost use Rattle.outside_files.specs.Wrote.{Wrote};
+ghost use Rattle.pet_base.specs.Seen.{PlaceStops};
 ghost use Rattle.mpeg_system.specs.Completes.{CompletesWrap};
 ghost use Rattle.mpeg_system.specs.Ends.{wrap_failed};
 ghost use Rattle.mpeg_system.specs.Wraps.{Wraps};
 
 use crate::refusal::System;
 use crate::wrapping::wrap;
-use outside_files::read_file;
-use pet_base::{Failed, MAX_STREAM, Place, Stop};
+use outside_files::{put_file, read_file};
+use pet_base::{MAX_STREAM, Place, Stop};
 use std::alloc::Global;
 
 /// How wrapping ended.
@@ -54,20 +50,4 @@ pub fn wrap_loop<P: Place>(alloc: Global, file: &str, out: &str, place: &mut P) 
             Stop::Failed => WrapEnd::PlaceFault,
         },
     }
-}
-
-/// Makes a file of this name and puts its bytes.
-fn put_file<P: Place>(out: &str, bytes: &[u8], place: &mut P) -> Result<(), Failed>
-    ensures ok { OnOk result (Wrote (record { name = out.now; bytes = bytes.now } ∷ []) None
-        (P.seen place.old) (P.seen place.new)) }
-    ensures part { OnErr result (Wrote [] None (P.seen place.old) (P.seen place.new)
-        ⊎ Wrote [] (Some (record { name = out.now; bytes = bytes.now }))
-        (P.seen place.old) (P.seen place.new)) }
-    ensures cause { OnErr result (HadFault (P.seen place.old) (P.seen place.new)
-        (Blames Written (Some out.now))) }
-    ensures later { (P.seen place.old).faults ≤ (P.seen place.new).faults }
-    ensures once { PlaceStops (is_err result) (P.seen place.old) (P.seen place.new) }
-{
-    place.create(out)?;
-    place.put(bytes)
 }

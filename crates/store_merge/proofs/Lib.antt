@@ -1,5 +1,4 @@
 pub mod Appended
-pub mod WrittenFiles
 pub mod Entry
 pub mod Walk
 pub mod Text

@@ -25,4 +25,4 @@ pub use read_files::{StoreStop, read_store_file};
 pub use store_packets::{MigrateFault, migrate_store};
 pub use store_text::{BadStore, StoreKind};
 pub use write::write_store;
-pub use write_files::{put_file, write_store_file};
+pub use write_files::write_store_file;

@@ -1,17 +1,18 @@
 //! The file of a store.
-ghost use Rattle.std.specs.Prelude.{◌≡◌, ◌⊎◌, ◌≤◌, [], ◌∷◌, None, Some, Err, is_err, IfErr, OnOk, OnErr};
-ghost use Rattle.pet_base.specs.Seen.{Seen, KeepsInput, HasBlame, PlaceStops};
+ghost use Rattle.std.specs.Prelude.{◌≡◌, ◌⊎◌, ◌≤◌, [], ◌∷◌, None, Some, Err, IfErr, OnOk, OnErr};
+ghost use Rattle.pet_base.specs.Seen.{Seen, KeepsInput, PlaceStops};
 ghost use Rattle.pet_base.specs.Causes.{stops};
 ghost use Rattle.outside_files.specs.Failures.{has_failed};
 ghost use Rattle.outside_files.specs.Inputs.{Licensed};
-ghost use Rattle.outside_files.specs.Uses.{writing, IsOneOf, Failed as HasFailed};
+ghost use Rattle.outside_files.specs.Uses.{writing, Failed as HasFailed};
 ghost use Rattle.outside_files.specs.Wrote.{Wrote};
 ghost use Rattle.pet_receive.specs.Arrivals.{kept_set};
 ghost use Rattle.store_text.specs.Files.{store_file};
 
 use crate::write::write_store;
 use field_rows::Rows;
-use pet_base::{Failed, Place, Stop};
+use outside_files::put_file;
+use pet_base::{Place, Stop};
 use pet_receive::Receiver;
 use std::alloc::Global;
 
@@ -37,23 +38,4 @@ pub fn write_store_file<F: Rows, P: Place>(
     write_store(receiver, &mut text)?;
     put_file(name, text.as_slice(), place)?;
     Ok(())
-}
-
-/// Makes a file of this name and puts its bytes.
-///
-/// # Errors
-///
-/// `Failed` where a call of the place failed, and then its count of faults rose. No file has changed then, or this one has a front
-/// of the bytes.
-pub fn put_file<P: Place>(name: &str, bytes: &[u8], place: &mut P) -> Result<(), Failed>
-    ensures written { OnOk result (Wrote (record { name = name.now; bytes = bytes.now } ∷ []) None (P.seen place.old) (P.seen place.new)) }
-    ensures front { OnErr result (((P.seen place.new).files ≡ (P.seen place.old).files)
-        ⊎ Wrote [] (Some (record { name = name.now; bytes = bytes.now })) (P.seen place.old) (P.seen place.new)) }
-    ensures input { KeepsInput (P.seen place.old) (P.seen place.new) }
-    ensures cause { HasBlame (P.seen place.old) (P.seen place.new) result
-        (IsOneOf (writing name.now ∷ [])) }
-    ensures once { PlaceStops (is_err result) (P.seen place.old) (P.seen place.new) }
-{
-    place.create(name)?;
-    place.put(bytes)
 }

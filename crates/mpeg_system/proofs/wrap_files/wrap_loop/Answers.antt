@@ -1,4 +1,6 @@
-use Rattle.std.proofs.Common.{ℕ, List, length, ap, arith}
+use Rattle.std.proofs.Common.{ℕ, List, [], ◌∷◌, length, ap, arith}
+use Rattle.pet_base.specs.laws.SeenLaws.{HadFault-err}
+use Rattle.outside_files.specs.Uses.{IsOneOf, writing}
 use Rattle.mpeg_system.proofs.Writing.{ok_of, form_is, wraps_done, wraps_fault}
 use Rattle.mpeg_system.proofs.wrap_files.wrap_loop.Goals as goal
 
@@ -19,7 +21,7 @@ returns-in-Ok-put_file-clause-wraps g c =
       c.len-in-Ok-put_file.ensures,
       ap length c.as_slice-in-Ok.ensures.value,
       c.as_slice-in-Ok.ensures.len,
-    )) c.in-Ok-put_file.ensures.ok
+    )) c.in-Ok-put_file.ensures.written
 
 pub returns-in-Ok-clause-wraps : goal.returns-in-Ok-clause-wraps
 returns-in-Ok-clause-wraps g c =
@@ -32,4 +34,6 @@ returns-in-Ok-clause-wraps g c =
     (form_is c.as_slice.result.now bytes c.new-text.result.items c.wrap.new.into.items text c.as_slice.ensures.value
     c.new-text.ensures.items c.as_slice-in-Ok.ensures.value
     (ok_of c.wrap.result c.is_err.result c.is_err.ensures.value c.if-is_err.false c.wrap.ensures.ok))
-    c.in-Ok.ensures.others.files c.in-Ok.ensures.later c.in-Err-put_file.ensures.part c.in-Err-put_file.ensures.cause
+    c.in-Ok.ensures.others.files c.in-Ok.ensures.later c.in-Err-put_file.ensures.front
+    (HadFault-err (seen c.read_file.new.place) (seen c.put_file.new.place) c.in-Err-put_file.field-0
+    (IsOneOf (writing c.args.out.now ∷ [])) c.in-Err-put_file.ensures.cause)
