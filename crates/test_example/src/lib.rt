@@ -1,11 +1,14 @@
-//! The example session, which the tests of several crates share: a stream, priorities, their plan and their packets.
+//! The example session, which the tests of several crates share: a stream, priorities, their plan and their packets, also as
+//! stores of the first version.
 //!
-//! Everything here was made outside, by a program of another language. No program of this repository uses this crate;
-//! `examples/` has the stream and the priorities as files.
+//! Everything here was made outside, by programs of another language; the old stores by `data/old_stores.py`. No
+//! program of this repository uses this crate; `examples/` has the stream and the priorities as files.
 #![tactic(auto)]
 
 mod entries;
+mod old_stores;
 mod source;
 
 pub use entries::{ENTRY_LENGTH, packets};
+pub use old_stores::{OLD_EMPTY_STORE, old_store, old_wide_store};
 pub use source::{PLAN, PRIORITIES, SESSION, STREAM};

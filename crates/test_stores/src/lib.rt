@@ -20,8 +20,6 @@ mod merge_tests;
 #[cfg(test)]
 mod migrate_tests;
 #[cfg(test)]
-mod old_stores;
-#[cfg(test)]
 mod read_tests;
 #[cfg(test)]
 mod store_fixtures;

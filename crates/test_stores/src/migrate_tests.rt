@@ -1,14 +1,16 @@
 //! Stores of the first version, taken into the form of today.
 ghost use Rattle.std.specs.Prelude.{◌≡◌, ◌≤◌};
 
-use crate::old_stores::{OLD, OLD_NONE, OLD_TWO_GROUPS, WIDE_STORE_TAG, WIDE_TAG};
 use crate::store_fixtures::{LIMIT, written};
 use std::alloc::{AllocError, Global};
 use store_merge::{MigrateFault, StoreKind, migrate_store};
-use test_example::SESSION;
+use test_example::{OLD_EMPTY_STORE, old_store, old_wide_store};
 
 /// The bytes of an entry of the example session's store.
 const ENTRY: usize = 83;
+
+/// The tag of packet 1 as of a session of two groups, as `data/old_stores.py` of `test_example` made it.
+const OLD_TWO_GROUPS: [u8; 8] = [0xC1, 0xEC, 0x67, 0x82, 0xAB, 0x0B, 0xA3, 0x01];
 
 /// What a store of the first version comes to: how many packets, or why there is none. Where there is none, nothing is appended.
 fn migrated(alloc: Global, bytes: &[u8], limit: u64) -> Option<Result<u32, MigrateFault>> {
@@ -30,8 +32,8 @@ fn store_of(alloc: Global, bytes: &[u8]) -> Option<Vec<u8>> {
 #[test]
 fn takes_an_old_store_over(rt: HostRuntime) {
     let alloc = rt.alloc();
-    assert_eq!(rt; migrated(alloc, &OLD, LIMIT), Some(Ok(6)));
-    let got = store_of(alloc, &OLD);
+    assert_eq!(rt; migrated(alloc, &old_store(), LIMIT), Some(Ok(6)));
+    let got = store_of(alloc, &old_store());
     let wanted = written(alloc, &[0, 1, 2, 3, 4, 5], LIMIT).ok();
     assert!(rt; got == wanted && got.is_some_and(|bytes| bytes.len() == 578));
 }
@@ -39,15 +41,15 @@ fn takes_an_old_store_over(rt: HostRuntime) {
 #[test]
 fn takes_an_old_empty_store_over(rt: HostRuntime) {
     let alloc = rt.alloc();
-    assert_eq!(rt; migrated(alloc, &OLD_NONE, LIMIT), Some(Ok(0)));
-    let got = store_of(alloc, &OLD_NONE);
+    assert_eq!(rt; migrated(alloc, &OLD_EMPTY_STORE, LIMIT), Some(Ok(0)));
+    let got = store_of(alloc, &OLD_EMPTY_STORE);
     let wanted = written(alloc, &[], LIMIT).ok();
     assert!(rt; got == wanted && got.is_some_and(|bytes| bytes.len() == 32));
 }
 
 /// What a store of today comes to.
 fn migrated_again(alloc: Global) -> Option<Result<u32, MigrateFault>> {
-    let bytes = store_of(alloc, &OLD)?;
+    let bytes = store_of(alloc, &old_store())?;
     migrated(alloc, &bytes, LIMIT)
 }
 
@@ -69,10 +71,11 @@ fn cut_at(length: usize) -> usize {
 
 /// The first length below the whole with which the store is refused otherwise.
 fn first_cut_otherwise(alloc: Global) -> Option<usize> {
-    for length in 0..OLD.len() {
+    let old = old_store();
+    for length in 0..old.len() {
         let at = cut_at(length) as u64;
         let wanted = Some(Err(MigrateFault::At(at, StoreKind::Cut)));
-        if migrated(alloc, &OLD[..length], LIMIT) != wanted {
+        if migrated(alloc, &old[..length], LIMIT) != wanted {
             return Some(length);
         }
     }
@@ -98,10 +101,11 @@ static CHANGES: [Change; 6] = [
 
 /// The store with these bytes at a place.
 fn changed(alloc: Global, at: usize, bytes: &[u8]) -> Option<Vec<u8>> {
+    let old = old_store();
     let mut store = Vec::new(alloc);
-    store.extend_from_slice(OLD.get(..at)?).ok()?;
+    store.extend_from_slice(old.get(..at)?).ok()?;
     store.extend_from_slice(bytes).ok()?;
-    store.extend_from_slice(OLD.get(store.len()..)?).ok()?;
+    store.extend_from_slice(old.get(store.len()..)?).ok()?;
     Some(store)
 }
 
@@ -130,14 +134,14 @@ fn refuses_changed_stores(rt: HostRuntime) {
 #[test]
 fn refuses_a_packet_twice(rt: HostRuntime) {
     let twice = Some(Err(MigrateFault::At(99, StoreKind::Order)));
-    assert_eq!(rt; comes_to(rt.alloc(), 99, &OLD[16..99]), twice);
+    assert_eq!(rt; comes_to(rt.alloc(), 99, &old_store()[16..99]), twice);
 }
 
 /// Packet 1 as of a session of two groups, as an entry.
 fn of_two_groups(alloc: Global) -> Result<Vec<u8>, AllocError> {
-    let mut entry = Vec::from_slice(alloc, &OLD[99..174])?;
+    let mut entry = Vec::from_slice(alloc, &old_store()[99..174])?;
     entry[17] = 2;
-    entry.extend_from_slice(&OLD_TWO_GROUPS)?;
+    entry.extend_from_slice(&old_store()_TWO_GROUPS)?;
     Ok(entry)
 }
 
@@ -157,39 +161,21 @@ fn refuses_two_numbers_of_groups(rt: HostRuntime) {
 fn goes_by_both_costs(rt: HostRuntime) {
     let alloc = rt.alloc();
     let full = Some(Err(MigrateFault::At(16, StoreKind::Full)));
-    assert_eq!(rt; migrated(alloc, &OLD, 485), full);
+    assert_eq!(rt; migrated(alloc, &old_store(), 485), full);
     assert_eq!(rt;
-        migrated(alloc, &OLD, 486),
+        migrated(alloc, &old_store(), 486),
         Some(Err(MigrateFault::Full(0)))
     );
     assert_eq!(rt;
-        migrated(alloc, &OLD, 533),
+        migrated(alloc, &old_store(), 533),
         Some(Err(MigrateFault::Full(0)))
     );
-    assert_eq!(rt; migrated(alloc, &OLD, 534), Some(Ok(6)));
+    assert_eq!(rt; migrated(alloc, &old_store(), 534), Some(Ok(6)));
 }
 
-/// The store of one packet of 64,999 bytes, one group of one layer, whose words are all 0.
-fn wide(alloc: Global) -> Result<Vec<u8>, AllocError> {
-    let mut store = Vec::from_slice(alloc, b"PETS")?;
-    store.extend_from_slice(&SESSION)?;
-    store.extend_from_slice(&[0, 0, 0, 1, 0xFD, 0xE7])?;
-    store.extend_from_slice(b"PET1")?;
-    store.extend_from_slice(&SESSION)?;
-    store.extend_from_slice(&[
-        0, 0, 0, 1, 0, 0, 0, 0, 0, 1, 0, 0, 1, 0, 0, 0xFD, 0xC0, 0, 1,
-    ])?;
-    for _ in 0..64_960 {
-        store.push(0)?;
-    }
-    store.extend_from_slice(&WIDE_TAG)?;
-    store.extend_from_slice(&WIDE_STORE_TAG)?;
-    Ok(store)
-}
-
-/// What that store comes to.
+/// What the store of a packet of 64,999 bytes comes to.
 fn migrated_wide(alloc: Global, limit: u64) -> Option<Result<u32, MigrateFault>> {
-    let store = wide(alloc).ok()?;
+    let store = old_wide_store(alloc).ok()?;
     migrated(alloc, &store, limit)
 }
 

@@ -1,7 +1,6 @@
 #!/usr/bin/env python3
-"""Makes the stores of the first version that src/old_stores.rt has, from the definition of that form alone: `python3
-old_stores.py` prints its arrays. Numbers are big-endian, and a tag is the first 8 bytes of the SHA-256 digest of all bytes
-before it."""
+"""Makes the stores of the first version that src/old_stores.rt has, and one tag of the tests of `test_stores`, from the
+definition of that form alone: `python3 old_stores.py` prints the arrays. Numbers are big-endian, and a tag is the first 8 bytes of the SHA-256 digest of all bytes before it."""
 import hashlib
 
 # the words of the stripes of packets 0 to 5 of the example session, as its datagram file has them
@@ -32,8 +31,8 @@ def store(frames):
     return tagged(b"PETS" + SESSION + len(frames).to_bytes(4, "big") + entries)
 
 
-def array(name, doc, data):
-    print(f"/// {doc}\npub(crate) static {name}: [u8; {len(data)}] = [")
+def array(kind, name, doc, data):
+    print(f"/// {doc}\n{kind} {name}: [u8; {len(data)}] = [")
     for at in range(0, len(data), 16):
         print("    " + " ".join(f"0x{byte:02X}," for byte in data[at:at + 16]))
     print("];\n")
@@ -42,8 +41,9 @@ def array(name, doc, data):
 PACKETS = [frame(1, 6, number, LAYERS, bytes.fromhex(words)) for number, words in enumerate(WORDS)]
 WIDE = frame(1, 1, 0, [(64960, 1)], bytes(64960))
 assert len(WIDE) == 64999
-array("OLD", "The packets 0 to 5 of the example session.", store(PACKETS))
-array("OLD_NONE", "None of them.", store([]))
-array("OLD_TWO_GROUPS", "The tag of packet 1 as of a session of two groups.", frame(2, 6, 1, LAYERS, bytes.fromhex(WORDS[1]))[-8:])
-array("WIDE_TAG", "The tag of a packet of 64,999 bytes, all of whose words are 0.", WIDE[-8:])
-array("WIDE_STORE_TAG", "The tag of the store of that packet alone.", store([WIDE])[-8:])
+array("static", "OLD", "The store of packets 0 to 5.", store(PACKETS))
+array("pub const", "OLD_EMPTY_STORE", "The store of no packet, in the first version.", store([]))
+array("const", "WIDE_TAG", "The tag of a packet of 64,999 bytes, all of whose words are 0.", WIDE[-8:])
+array("const", "WIDE_STORE_TAG", "The tag of the store of that packet alone.", store([WIDE])[-8:])
+TWO_GROUPS = frame(2, 6, 1, LAYERS, bytes.fromhex(WORDS[1]))
+array("const", "OLD_TWO_GROUPS", "The tag of packet 1 as of a session of two groups.", TWO_GROUPS[-8:])

@@ -1,7 +1,9 @@
-//! Stores of the first version, and tags of such, as `data/old_stores.py` made them.
+//! The packets of the example session, none of them, and one packet too wide for today, as stores of the first version.
+use crate::SESSION;
+use std::alloc::{AllocError, Global};
 
-/// The packets 0 to 5 of the example session.
-pub(crate) static OLD: [u8; 522] = [
+/// The store of packets 0 to 5.
+static OLD: [u8; 522] = [
     0x50, 0x45, 0x54, 0x53, 0xA5, 0xAC, 0x94, 0x61, 0xB0, 0x3B, 0xCF, 0x36, 0x00, 0x00, 0x00, 0x06,
     0x00, 0x51, 0x50, 0x45, 0x54, 0x31, 0xA5, 0xAC, 0x94, 0x61, 0xB0, 0x3B, 0xCF, 0x36, 0x00, 0x00,
     0x00, 0x01, 0x00, 0x00, 0x00, 0x00, 0x00, 0x06, 0x00, 0x00, 0x03, 0x00, 0x00, 0x00, 0x2E, 0x00,
@@ -37,17 +39,37 @@ pub(crate) static OLD: [u8; 522] = [
     0x7D, 0xBC, 0xEC, 0xCA, 0x5E, 0x8F, 0x06, 0x99, 0x8A, 0xD3,
 ];
 
-/// None of them.
-pub(crate) static OLD_NONE: [u8; 24] = [
+/// The store of no packet, in the first version.
+pub const OLD_EMPTY_STORE: [u8; 24] = [
     0x50, 0x45, 0x54, 0x53, 0xA5, 0xAC, 0x94, 0x61, 0xB0, 0x3B, 0xCF, 0x36, 0x00, 0x00, 0x00, 0x00,
     0x28, 0xF3, 0x03, 0x47, 0xEC, 0xB1, 0xD7, 0x25,
 ];
 
-/// The tag of packet 1 as of a session of two groups.
-pub(crate) static OLD_TWO_GROUPS: [u8; 8] = [0xC1, 0xEC, 0x67, 0x82, 0xAB, 0x0B, 0xA3, 0x01];
-
 /// The tag of a packet of 64,999 bytes, all of whose words are 0.
-pub(crate) static WIDE_TAG: [u8; 8] = [0xB7, 0xE2, 0xD1, 0x34, 0xD0, 0x31, 0x5F, 0xF3];
+const WIDE_TAG: [u8; 8] = [0xB7, 0xE2, 0xD1, 0x34, 0xD0, 0x31, 0x5F, 0xF3];
 
 /// The tag of the store of that packet alone.
-pub(crate) static WIDE_STORE_TAG: [u8; 8] = [0xBF, 0xF6, 0x71, 0x1B, 0xB4, 0xB1, 0x45, 0xD9];
+const WIDE_STORE_TAG: [u8; 8] = [0xBF, 0xF6, 0x71, 0x1B, 0xB4, 0xB1, 0x45, 0xD9];
+
+/// The store of packets 0 to 5, in the first version.
+pub fn old_store() -> [u8; 522] {
+    OLD
+}
+
+/// The store, in the first version, of one packet of 64,999 bytes, of one group of one layer, whose words are all 0.
+pub fn old_wide_store(alloc: Global) -> Result<Vec<u8>, AllocError> {
+    let mut store = Vec::from_slice(alloc, b"PETS")?;
+    store.extend_from_slice(&SESSION)?;
+    store.extend_from_slice(&[0, 0, 0, 1, 0xFD, 0xE7])?;
+    store.extend_from_slice(b"PET1")?;
+    store.extend_from_slice(&SESSION)?;
+    store.extend_from_slice(&[
+        0, 0, 0, 1, 0, 0, 0, 0, 0, 1, 0, 0, 1, 0, 0, 0xFD, 0xC0, 0, 1,
+    ])?;
+    for _ in 0..64_960 {
+        store.push(0)?;
+    }
+    store.extend_from_slice(&WIDE_TAG)?;
+    store.extend_from_slice(&WIDE_STORE_TAG)?;
+    Ok(store)
+}
