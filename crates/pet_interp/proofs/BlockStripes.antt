@@ -16,6 +16,7 @@ use native.Mathlib.Nat.{mul_comm}
 use Rattle.std.proofs.Math.Nat.{div-lt_iff_lt-mul}
 use Rattle.std.proofs.lemmas.Nat.{div-add-mod'}
 use Rattle.pet_interp.specs.Progressive.{longer_than}
+use Rattle.pet_interp.proofs.Counted.{longer_none}
 use Rattle.pet_interp.specs.Blocks.{HeldBlock, stripes_of}
 use Rattle.pet_interp.specs.inside.Lifted.{begun, begun_all, grown}
 use Rattle.field_rows.specs.laws.PlaceLaws.{more_rows, rows_le, place_below}
@@ -197,3 +198,11 @@ longer_seen P d b w k places seen is whole elements met longer =
     ap (λ v. longer_than met (map length v.stripes)) (sym is)
     ∙ longer_all met k (stripes_of d b w k places) (All P) longer (stripes_each P d b w k places whole elements)
     ∙ length-stripes d b w k places
+
+pub none_longer : {E : Type 0} (P : E → Type 0) (d : E) (b : Bool) (w k : ℕ) (places : List E) (seen : HeldBlock E)
+    → block_of d b w k places ≡ seen → length places ≡ k * w → All P places
+    → (met : ℕ) → k ≤ met → longer_than met (map length seen.stripes) ≡ 0
+none_longer P d b w k places seen is whole elements met short =
+    let each = stripes_each P d b w k places whole elements in
+    ap (λ v. longer_than met (map length v.stripes)) (sym is)
+    ∙ longer_none met k (stripes_of d b w k places) short (λ c t m. omega (arith, (each c t m).0))

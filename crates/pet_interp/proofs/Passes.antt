@@ -270,9 +270,9 @@ longer_more_block r bs i l =
 
 pub cost_block : {E : Type 0} (met k : ℕ) (now old : List (HeldBlock E)) (i : ℕ) (b : HeldBlock E) (m0 m1 m2 : ℕ)
     → i < length old → get_or now i b ≡ get_or old i no_block
-    → m1 ≤ m0 + longer_than met (map length (stripes_in (take i old))) * k
-    → m2 ≤ m1 + longer_than met (map length (get_or now i b).stripes) * k
-    → m2 ≤ m0 + longer_than met (map length (stripes_in (take (i + 1) old))) * k
+    → m1 ≡ m0 + longer_than met (map length (stripes_in (take i old))) * k
+    → m2 ≡ m1 + longer_than met (map length (get_or now i b).stripes) * k
+    → m2 ≡ m0 + longer_than met (map length (stripes_in (take (i + 1) old))) * k
 cost_block met k now old i b m0 m1 m2 l same before more =
     cost_more m0 m1 m2 (longer_than met (map length (stripes_in (take i old))))
     (longer_than met (map length (get_or now i b).stripes))
@@ -282,16 +282,16 @@ cost_block met k now old i b m0 m1 m2 l same before more =
     ∙ ap (λ v. longer_than met (map length (stripes_in (take i old))) + longer_than met (map length v.stripes))
     (sym same))
 
-pub cost_part : (m0 m1 m2 q q' from n n' : ℕ) → m1 ≤ m0 + q * from → m2 ≤ m1 + q' * n' → q' ≡ q → n' ≡ n
-    → m2 ≤ m0 + q * (from + n)
+pub cost_part : (m0 m1 m2 q q' from n n' : ℕ) → m1 ≡ m0 + q * from → m2 ≡ m1 + q' * n' → q' ≡ q → n' ≡ n
+    → m2 ≡ m0 + q * (from + n)
 cost_part m0 m1 m2 q q' from n n' a b e f =
     let g : q' * n' ≡ q * n = ap₂ ◌*◌ e f in
     let h : q * (from + n) ≡ q * from + q * n = omega arith in
     omega (arith, g, h)
 
-pub cost_all : (m0 m1 m2 m3 m4 m5 q q' r r' : ℕ) → m1 ≤ m0 + r' → m2 ≤ m1 + 1 → m3 ≤ m2 + q * (r + 1)
-    → m4 ≤ m3 + q' * r' → m5 ≤ m4 + r → q' ≡ q → r' ≡ r
-    → m5 ≤ m0 + (q + 1) * (2 * r + 1)
+pub cost_all : (m0 m1 m2 m3 m4 m5 q q' r r' : ℕ) → m1 ≡ m0 + r' → m2 ≡ m1 + 1 → m3 ≡ m2 + q * (r + 1)
+    → m4 ≡ m3 + q' * r' → m5 ≡ m4 + r → q' ≡ q → r' ≡ r
+    → m5 ≡ m0 + (q + 1) * (2 * r + 1)
 cost_all m0 m1 m2 m3 m4 m5 q q' r r' a b c d e f g =
     let h : q' * r' ≡ q * r = ap₂ ◌*◌ f g in
     let i : q * (r + 1) ≡ q * r + q = omega arith in
@@ -373,7 +373,7 @@ all_stripes made now old i long all done =
     sym (ap stripes_in (take_all i now (omega arith))) ∙ done ∙ ap (λ b. made (stripes_in b)) (take_all i old all)
 
 pub all_cost : {E : Type 0} (met each before after : ℕ) (old : List (HeldBlock E)) (i : ℕ) → length old ≤ i
-    → after ≤ before + longer_than met (map length (stripes_in (take i old))) * each
-    → after ≤ before + longer_than met (map length (stripes_in old)) * each
+    → after ≡ before + longer_than met (map length (stripes_in (take i old))) * each
+    → after ≡ before + longer_than met (map length (stripes_in old)) * each
 all_cost met each before after old i all cost =
-    subst (λ b. after ≤ before + longer_than met (map length (stripes_in b)) * each) (take_all i old all) cost
+    subst (λ b. after ≡ before + longer_than met (map length (stripes_in b)) * each) (take_all i old all) cost

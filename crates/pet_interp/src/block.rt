@@ -96,7 +96,7 @@ impl<F: Rows> StripeBlock<F> {
         ensures each { All (λ s. (length s ≡ self.new.size) × All F.is_element s) self.new.stripes }
         ensures stripes { self.new.stripes ≡ begun_all F.coding.ops met (F.element_of x.now) (F.element_of inverse.now)
             self.old.stripes (words F.coding.spelt F.coding.width (length self.old.stripes) values.now) }
-        ensures cost { steps.new ≤ steps.old + longer_than met (map length self.old.stripes) * (met + 1) }
+        ensures cost { steps.new ≡ steps.old + longer_than met (map length self.old.stripes) * (met + 1) }
     {
         if met < self.size {
             begin_row(
@@ -129,7 +129,7 @@ impl<F: Rows> StripeBlock<F> {
         ensures waits { self.new.waits ≡ self.old.waits }
         ensures each { All (λ s. (length s ≡ self.new.size) × All F.is_element s) self.new.stripes }
         ensures stripes { self.new.stripes ≡ map (grown F.coding.ops met from (map F.element_of factors.now)) self.old.stripes }
-        ensures cost { steps.new ≤ steps.old + longer_than met (map length self.old.stripes) * length factors.now }
+        ensures cost { steps.new ≡ steps.old + longer_than met (map length self.old.stripes) * length factors.now }
     {
         if met < self.size {
             add_rows(

@@ -44,7 +44,9 @@ pub(crate) fn advance<F: Rows, L: Ledger>(
         ++ drop (met + 1) product.old }
     ensures same { length product.old ≤ met → (stripes_in blocks.new ≡ stripes_in blocks.old)
         × (product.new ≡ product.old) }
-    ensures cost { steps.new ≤ steps.old + step_bound met (map length (stripes_in blocks.old)) }
+    ensures cost { met < length product.old
+        → steps.new ≡ steps.old + step_bound met (map length (stripes_in blocks.old)) }
+    ensures idle { length product.old ≤ met → steps.new ≡ steps.old }
 {
     if met < product.len() {
         let weight = eval_monic(f, &product[..met], x, steps);
@@ -75,7 +77,7 @@ fn begin<F: Rows, L: Ledger>(
         → All (IsBlock F.is_element met room) blocks.new }
     ensures stripes { stripes_in blocks.new ≡ begun_all F.coding.ops met (F.element_of x.now) (F.element_of inverse.now)
         (stripes_in blocks.old) (words F.coding.spelt F.coding.width (length (stripes_in blocks.old)) values.now) }
-    ensures cost { steps.new ≤ steps.old + longer_than met (map length (stripes_in blocks.old)) * (met + 1) }
+    ensures cost { steps.new ≡ steps.old + longer_than met (map length (stripes_in blocks.old)) * (met + 1) }
 {
     let mut at = 0;
     for i in 0..blocks.len() {
@@ -99,7 +101,7 @@ fn add_product<F: Rows, L: Ledger>(
     ensures blocks { (room : ℕ) → All (IsBlock F.is_element (length product.now) room) blocks.old
         → All (IsBlock F.is_element (length product.now) room) blocks.new }
     ensures stripes { stripes_in blocks.new ≡ map (grown_to F.coding.ops (length product.now) product.now) (stripes_in blocks.old) }
-    ensures cost { steps.new ≤ steps.old + longer_than (length product.now) (map length (stripes_in blocks.old)) * length product.now }
+    ensures cost { steps.new ≡ steps.old + longer_than (length product.now) (map length (stripes_in blocks.old)) * length product.now }
 {
     let met = product.len();
     let mut from = 0;
@@ -137,7 +139,7 @@ fn add_part<F: Rows, L: Ledger>(
     ensures blocks { (room : ℕ) → All (IsBlock F.is_element met room) blocks.old
         → All (IsBlock F.is_element met room) blocks.new }
     ensures stripes { stripes_in blocks.new ≡ map (grown F.coding.ops met from (map F.element_of factors.now)) (stripes_in blocks.old) }
-    ensures cost { steps.new ≤ steps.old + longer_than met (map length (stripes_in blocks.old)) * length factors.now }
+    ensures cost { steps.new ≡ steps.old + longer_than met (map length (stripes_in blocks.old)) * length factors.now }
 {
     for i in 0..blocks.len() {
         blocks[i].add_multiples(f, met, from, factors, steps);

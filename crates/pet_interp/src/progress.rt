@@ -1,7 +1,7 @@
 //! A progressive state.
 ghost use Rattle.std.specs.Prelude.{◌≡◌, ◌≢◌, ℕ, ◌+◌, ◌*◌, ◌-◌, ◌<◌, ◌≤◌, ◌&&◌, ◌==◌, nat_lt, true, false, length, take, All, List, [], ◌∷◌, ◌++◌, slice_index, slice_index_or, replicate, IfOk};
 ghost use Rattle.std.specs.List.{list_any};
-ghost use Rattle.pet_interp.specs.Progressive.{StandsFor, stripe_of, lengths_of, column, step_bound};
+ghost use Rattle.pet_interp.specs.Progressive.{StandsFor, stripe_of, lengths_of, column, step_bound, point_steps};
 ghost use Rattle.pet_interp.specs.Blocks.{stripes_in, no_block, HasRoom};
 ghost use Rattle.field_rows.specs.declared.blocks.TheConstants.{MAX_WIDTH};
 ghost use Rattle.pet_poly.specs.Rows.{words};
@@ -83,8 +83,8 @@ impl<'f, F: Rows> Progress<'f, F> {
     }
 
     /// Adds the point `x`, with one value for each stripe, as the field writes them, one after another. The state must
-    /// stand for some list of fewer than 65,536 points, none of them at `x`. It takes no memory, and counts at most
-    /// (q + 1)(2r + 1) steps after r points, where q stripes are longer than r.
+    /// stand for some list of fewer than 65,536 points, none of them at `x`. It takes no memory, and counts
+    /// (q + 1)(2r + 1) steps after r points, where q stripes are longer than r, and none where no stripe is.
     pub fn add<L: Ledger>(&mut self, x: F::Elem, values: &[u8], steps: &mut Steps<L>)
         requires stands { (points : List (F.Elem × List F.Elem))
             × (StandsFor F.is_element F.coding.ops self.old points × All (λ p. x ≢ p.0) points) }
@@ -98,6 +98,7 @@ impl<'f, F: Rows> Progress<'f, F> {
         ensures met { self.new.met ≡ self.old.met + 1 }
         ensures lengths { lengths_of self.new ≡ lengths_of self.old }
         ensures cost { steps.new ≤ steps.old + step_bound self.old.met (lengths_of self.old) }
+        ensures counted { steps.new ≡ steps.old + point_steps self.old.met (lengths_of self.old) }
     {
         let met = self.met as usize;
         advance(

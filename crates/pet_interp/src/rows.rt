@@ -36,7 +36,7 @@ pub(crate) fn begin_row<F: Rows, L: Ledger>(
         (column F.coding.ops.nought width count c rows.old)
         (slice_index_or (words F.coding.spelt F.coding.width width values.now) c F.coding.ops.nought) }
     ensures elements { All F.is_element rows.new }
-    ensures cost { steps.new ≤ steps.old + width * (met + 1) }
+    ensures cost { steps.new ≡ steps.old + width * (met + 1) }
 {
     let (low, rest) = rows.split_at_mut(met * width);
     let row = &mut rest[..width];
@@ -85,7 +85,7 @@ pub(crate) fn add_rows<F: Rows, L: Ledger>(
         ≡ grown F.coding.ops met from (map F.element_of factors.now)
         (column F.coding.ops.nought width count c rows.old) }
     ensures elements { All F.is_element rows.new }
-    ensures cost { steps.new ≤ steps.old + width * length factors.now }
+    ensures cost { steps.new ≡ steps.old + width * length factors.now }
 {
     let (low, rest) = rows.split_at_mut(met * width);
     f.add_products(factors, &rest[..width], &mut low[from * width..], steps);

@@ -1,4 +1,4 @@
-use Rattle.std.proofs.Common.{◌≡◌, ℕ, ◌+◌, ◌*◌, ◌≤◌, All, length, map, take, drop}
+use Rattle.std.proofs.Common.{◌≡◌, ℕ, ◌+◌, ◌*◌, All, length, map, take, drop}
 use Rattle.pet_interp.specs.Progressive.{longer_than}
 use Rattle.pet_interp.specs.Blocks.{IsBlock, stripes_in}
 use Rattle.pet_interp.specs.inside.Lifted.{grown}
@@ -14,5 +14,5 @@ invariant-loop-i g l = record {
       (stripes_in (take l.i l.initial.blocks));
   rest : drop l.i l.blocks ≡ drop l.i l.initial.blocks;
   cost : l.steps
-      ≤ l.initial.steps + longer_than l.met (map length (stripes_in (take l.i l.initial.blocks))) * length l.factors;
+      ≡ l.initial.steps + longer_than l.met (map length (stripes_in (take l.i l.initial.blocks))) * length l.factors;
 }

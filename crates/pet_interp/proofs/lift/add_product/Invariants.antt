@@ -14,7 +14,7 @@ invariant-loop-from g l = record {
   done : stripes_in l.blocks
       ≡ map (grown_to g.F.Field.coding.ops (length l.product) (take l.from l.product)) (stripes_in l.initial.blocks);
   lengths : map length (stripes_in l.blocks) ≡ map length (stripes_in l.initial.blocks);
-  cost : l.steps ≤ l.initial.steps + longer_than (length l.product) (map length (stripes_in l.initial.blocks)) * l.from;
+  cost : l.steps ≡ l.initial.steps + longer_than (length l.product) (map length (stripes_in l.initial.blocks)) * l.from;
 }
 
 abbrev pub decreases-loop-from : goal.decreases-loop-from

@@ -1,4 +1,4 @@
-use Rattle.std.proofs.Common.{◌≡◌, ℕ, ◌+◌, ◌*◌, ◌≤◌, All, length, map, take, drop}
+use Rattle.std.proofs.Common.{◌≡◌, ℕ, ◌+◌, ◌*◌, All, length, map, take, drop}
 use Rattle.pet_poly.specs.Rows.{words}
 use Rattle.pet_interp.specs.Progressive.{longer_than}
 use Rattle.pet_interp.specs.Blocks.{IsBlock, stripes_in}
@@ -17,5 +17,5 @@ invariant-loop-i g l = record {
       (words g.F.Field.coding.spelt g.F.Field.coding.width (length (stripes_in (take l.i l.initial.blocks))) l.values);
   rest : drop l.i l.blocks ≡ drop l.i l.initial.blocks;
   cost : l.steps
-      ≤ l.initial.steps + longer_than l.met (map length (stripes_in (take l.i l.initial.blocks))) * (l.met + 1);
+      ≡ l.initial.steps + longer_than l.met (map length (stripes_in (take l.i l.initial.blocks))) * (l.met + 1);
 }

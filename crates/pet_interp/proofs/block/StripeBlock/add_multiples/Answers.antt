@@ -6,7 +6,7 @@ use Rattle.field_rows.specs.Columns.{block_columns}
 use Rattle.pet_interp.specs.Blocks.{HeldBlock, stripes_of}
 use Rattle.pet_interp.specs.inside.Lifted.{grown}
 use Rattle.pet_interp.proofs.BlockStripes.{stripes_each, stripes_waiting, columns_grown, grown_none, each_new}
-use Rattle.pet_interp.proofs.BlockStripes.{waits_here, each_seen, longer_seen}
+use Rattle.pet_interp.proofs.BlockStripes.{waits_here, each_seen, longer_seen, none_longer}
 use Rattle.pet_interp.proofs.block.StripeBlock.add_multiples.Goals as goal
 
 pub add_rows-requires-clause-whole : goal.add_rows-requires-clause-whole
@@ -103,4 +103,9 @@ pub returns-else-met-self-clause-waits : goal.returns-else-met-self-clause-waits
 returns-else-met-self-clause-waits g c = refl
 
 pub returns-else-met-self-clause-cost : goal.returns-else-met-self-clause-cost
-returns-else-met-self-clause-cost g c = omega arith
+returns-else-met-self-clause-cost g c =
+    let F = g.F.Field in
+    let b = c.self.inside in
+    let none = none_longer F.is_element F.coding.ops.nought b.waits b.width b.size b.places.items _ c.self.view_is
+    c.self.invariant.whole c.self.invariant.elements c.args.met (omega arith) in
+    omega (arith, ap (λ n. n * (length c.args.factors.now)) none)

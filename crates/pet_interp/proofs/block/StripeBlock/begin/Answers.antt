@@ -8,7 +8,7 @@ use Rattle.pet_interp.specs.inside.Lifted.{begun_all}
 use Rattle.pet_poly.specs.Rows.{words}
 use Rattle.pet_poly.specs.laws.RowLaws.{length-words}
 use Rattle.pet_interp.proofs.BlockStripes.{stripes_each, stripes_waiting, columns_begun, begun_none, each_new}
-use Rattle.pet_interp.proofs.BlockStripes.{waits_here, count_seen, each_seen, longer_seen}
+use Rattle.pet_interp.proofs.BlockStripes.{waits_here, count_seen, each_seen, longer_seen, none_longer}
 use Rattle.pet_interp.proofs.block.StripeBlock.begin.Goals as goal
 
 pub begin_row-requires-clause-whole : goal.begin_row-requires-clause-whole
@@ -121,4 +121,9 @@ pub returns-else-met-self-clause-waits : goal.returns-else-met-self-clause-waits
 returns-else-met-self-clause-waits g c = refl
 
 pub returns-else-met-self-clause-cost : goal.returns-else-met-self-clause-cost
-returns-else-met-self-clause-cost g c = omega arith
+returns-else-met-self-clause-cost g c =
+    let F = g.F.Field in
+    let b = c.self.inside in
+    let none = none_longer F.is_element F.coding.ops.nought b.waits b.width b.size b.places.items _ c.self.view_is
+    c.self.invariant.whole c.self.invariant.elements c.args.met (omega arith) in
+    omega (arith, ap (λ n. n * (c.args.met + 1)) none)

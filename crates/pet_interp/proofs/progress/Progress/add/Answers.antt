@@ -1,4 +1,4 @@
-use Rattle.std.proofs.Common.{◌≡◌, ◌∙◌, ap, sym, arith, subst, ◌+◌, ◌-◌, ◌*◌, ◌<◌, ◌≤◌, ◌++◌, All, refl, length, map}
+use Rattle.std.proofs.Common.{◌≡◌, ◌∙◌, ap, sym, arith, subst, ◌+◌, ◌-◌, ◌*◌, ◌<◌, ◌++◌, All, refl, length, map}
 use Rattle.std.proofs.Common.{take, drop}
 use Rattle.std.specs.Vec.{with_items}
 use Rattle.std.proofs.lemmas.List.{with_items_is}
@@ -7,11 +7,12 @@ use Rattle.pet_poly.specs.InPlace.{linear_product}
 use Rattle.pet_poly.specs.Rows.{words}
 use Rattle.pet_poly.specs.laws.InPlaceLaws.{linear_front}
 use Rattle.pet_poly.specs.laws.RowLaws.{length-words, words_are}
-use Rattle.pet_interp.specs.Progressive.{Held, StandsFor, step_bound}
+use Rattle.pet_interp.specs.Progressive.{Held, StandsFor, lengths_of, step_bound, point_steps}
 use Rattle.pet_interp.specs.Blocks.{IsBlock, stripes_in}
 use Rattle.pet_interp.proofs.Grown.{longest_same}
 use Rattle.pet_interp.proofs.Added.{weight_of, stands_added}
 use Rattle.pet_interp.proofs.Along.{HaveMet, met_along, moved_along}
+use Rattle.pet_interp.proofs.Counted.{counted, at_most}
 use Rattle.pet_interp.proofs.progress.Progress.add.Given as given
 use Rattle.pet_interp.proofs.progress.Progress.add.Goals.{After-self-6-1}
 use Rattle.pet_interp.proofs.progress.Progress.add.Goals as goal
@@ -186,9 +187,20 @@ overflow_add-self g c = omega (arith, c.requires.few, ap (λ (v : Held g.row.F-E
 pub turn_back-requires-clause-some : goal.turn_back-requires-clause-some
 turn_back-requires-clause-some g c = omega arith
 
+pub returns-clause-counted : goal.returns-clause-counted
+returns-clause-counted g c =
+    let s = c.self.inside in
+    let met = s.met in
+    let product = ap length c.deref_mut-2.ensures.value in
+    subst (λ (v : Held g.row.F-Elem.Denot). c.advance.new.steps
+    ≡ c.args.steps.now + point_steps v.met (map length v.stripes)) c.self.view_is
+    (counted c.args.steps.now c.advance.new.steps met (length s.product.items) (stripes_in s.blocks.items)
+    c.self.invariant.longest
+    (λ l. subst (λ t. c.advance.new.steps ≡ c.args.steps.now + step_bound met (map length (stripes_in t)))
+    c.deref_mut.ensures.value (c.advance.ensures.cost (rw product l)))
+    (λ l. c.advance.ensures.idle (rw product l)))
+
 pub returns-clause-cost : goal.returns-clause-cost
 returns-clause-cost g c =
-    subst (λ (v : Held g.row.F-Elem.Denot). c.advance.new.steps
-    ≤ c.args.steps.now + step_bound v.met (map length v.stripes)) c.self.view_is
-    (subst (λ t. c.advance.new.steps ≤ c.args.steps.now + step_bound c.self.inside.met (map length (stripes_in t)))
-    c.deref_mut.ensures.value c.advance.ensures.cost)
+    at_most c.args.steps.now c.advance.new.steps c.args.self.now.met (lengths_of c.args.self.now)
+    (returns-clause-counted g c)
