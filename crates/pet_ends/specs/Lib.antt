@@ -1,2 +1,4 @@
+pub mod Steady
 pub mod Untold
 pub mod Waits
+pub mod laws

@@ -5,3 +5,4 @@ pub mod Does
 pub mod Undisturbed
 pub mod Headline
 pub mod Completes
+pub mod Starts

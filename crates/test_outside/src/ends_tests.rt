@@ -1,6 +1,8 @@
 //! A real file, and a writer that takes little at a time and gives out in the middle.
+ghost use Rattle.pet_ends.specs.laws.SteadyLaws.{never_told};
+
 use pet_base::{Failed, Place, Sink};
-use pet_ends::{FilePlace, StandardOut};
+use pet_ends::{FilePlace, Printer, StandardOut};
 use std::io::{ErrorKind, Write};
 use std::test::Fail;
 use std::{fs, io};
@@ -30,6 +32,10 @@ impl Write for Narrow {
     }
 }
 
+impl Printer for Narrow {
+    ghost steady = { never_told };
+}
+
 #[test]
 fn a_text_is_printed_whole_or_fails(rt: HostRuntime) {
     for (room, printed) in [(3, Ok(())), (2, Err(Failed)), (0, Err(Failed))] {
@@ -39,6 +45,14 @@ fn a_text_is_printed_whole_or_fails(rt: HostRuntime) {
         });
         assert_eq!(rt; out.put(b"abc"), printed, "room {room}");
     }
+}
+
+#[test]
+fn a_vector_gives_back_what_was_printed(rt: HostRuntime) {
+    let mut out = StandardOut::new(Vec::new(rt.alloc()));
+    assert_eq!(rt; out.put(b"ab"), Ok(()));
+    assert_eq!(rt; out.put(b"c"), Ok(()));
+    assert_eq!(rt; out.into_writer().as_slice(), b"abc".as_slice());
 }
 
 /// Whether a file that is not there is made and written.

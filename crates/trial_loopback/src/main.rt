@@ -41,7 +41,7 @@ const CLOSED: &str = "closed streams: the line is not printed, and the file is w
 
 fn main(rt: HostRuntime) -> io::Result<ExitCode> {
     if !has_no_words(&rt) {
-        let status = start_words(&rt, rt.stdout());
+        let (status, _) = start_words(&rt, rt.stdout());
         return Ok(ExitCode::from(status.code()));
     }
     if links_come_out(&rt)? && files_come_out(&rt)? {
