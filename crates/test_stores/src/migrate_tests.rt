@@ -141,7 +141,7 @@ fn refuses_a_packet_twice(rt: HostRuntime) {
 fn of_two_groups(alloc: Global) -> Result<Vec<u8>, AllocError> {
     let mut entry = Vec::from_slice(alloc, &old_store()[99..174])?;
     entry[17] = 2;
-    entry.extend_from_slice(&old_store()_TWO_GROUPS)?;
+    entry.extend_from_slice(&OLD_TWO_GROUPS)?;
     Ok(entry)
 }
 

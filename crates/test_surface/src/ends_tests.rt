@@ -6,34 +6,17 @@ use pet_ends::{FilePlace, StandardOut, UdpLink};
 use pet_text::Status;
 use pet_tool::run;
 use std::alloc::Global;
-use std::io;
-use std::io::Write;
 use std::marker::Brand;
 use std::sync::ledger::{Blank, Ledger};
 use test_example::{PLAN, PRIORITIES, STREAM};
-
-/// It takes all.
-#[derive(Drop)]
-struct Taken {
-    count: usize,
-}
-
-impl Write for Taken {
-    fn write(&mut self, buf: &[u8]) -> io::Result<usize> {
-        self.count = self.count.saturating_add(buf.len());
-        Ok(buf.len())
-    }
-
-    fn flush(&mut self) -> io::Result<()> {
-        Ok(())
-    }
-}
 
 #[test]
 fn the_real_ends(rt: HostRuntime) {
     assert!(rt; FilePlace::new(&rt).enter("pet_surface_missing").is_err());
     assert!(rt; UdpLink::new(rt.alloc(), &rt).aim("no address").is_err());
-    assert!(rt; StandardOut::new(Taken { count: 0 }).put(b"abc").is_ok());
+    let mut out = StandardOut::new(Vec::new(rt.alloc()));
+    assert!(rt; out.put(b"abc").is_ok());
+    assert_eq!(rt; out.into_writer().as_slice(), b"abc".as_slice());
 }
 
 /// How these words end on a place with the example stream, where what is printed is the plan.

@@ -1,0 +1,12 @@
+//! Tests of what a run does once a call of the outside has failed, over all commands.
+//!
+//! They stand apart because the gate proves a crate with tests twice, once alone and once with them: here the second time is
+//! the tests' own. No program uses this crate.
+#![tactic(auto)]
+
+mod watch;
+
+pub use watch::{Watch, Watched};
+
+#[cfg(test)]
+mod first_failure_tests;
