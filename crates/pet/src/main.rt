@@ -10,9 +10,14 @@ use pet_tool::start_words;
 use std::process::ExitCode;
 use text_status::Status;
 
-fn main(rt: HostRuntime) -> ExitCode
+fn main(rt: HostRuntime) -> ExitCode {
+    run_program(&rt)
+}
+
+/// Runs the command of the program's words, and gives the code of its status.
+fn run_program(rt: &HostRuntime) -> ExitCode
     ensures { (status : Status) × StartsWords None None status × (exit_status result ≡ code_of status) }
 {
-    let (status, _) = start_words(&rt, rt.stdout());
+    let (status, _) = start_words(rt, rt.stdout());
     ExitCode::from(status.code())
 }

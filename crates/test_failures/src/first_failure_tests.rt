@@ -54,12 +54,17 @@ fn files(alloc: Global, failing: Vec<u64>) -> Result<MemoryPlace, NoMemory> {
     place.add("f", PRIORITIES.as_bytes())?;
     place.add("p", PLAN.as_bytes())?;
     place.add("a", &NOTHING)?;
-    let mut entries = Vec::new(alloc);
-    for packet in packets() {
-        entries.extend_from_slice(&packet)?;
-    }
-    place.add("q", &entries)?;
+    place.add("q", &entries(alloc)?)?;
     Ok(place)
+}
+
+/// The packets of the example, as a datagram file has them.
+fn entries(alloc: Global) -> Result<Vec<u8>, AllocError> {
+    let mut bytes = Vec::new(alloc);
+    for packet in packets().iter() {
+        bytes.extend_from_slice(packet)?;
+    }
+    Ok(bytes)
 }
 
 /// The packets of the example, as they come.

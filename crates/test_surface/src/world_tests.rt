@@ -60,17 +60,25 @@ fn keeps_two(world: &World<'_, Gf16Plain>) -> bool {
     }
 }
 
+/// Two receivers of the example session.
+fn world_of_two_receivers<'f>(
+    alloc: Global,
+    f: &'f Gf16Plain,
+) -> Result<World<'f, Gf16Plain>, Fail> {
+    let mut encoders = Vec::new(alloc);
+    encoders.push(group_encoder(alloc, f, 1, 0)?)?;
+    Ok(World::new(alloc, f, encoders, 2, MAX_SESSION)?)
+}
+
 /// Whether a world of two receivers does so.
 fn plays<L: Ledger>(alloc: Global, blank: Blank) -> Result<bool, Fail>
     requires name { blank.name ≡ L.name }
     requires parts { blank.parts ≡ L.parts }
     requires some { 0 < blank.parts }
 {
-    let mut steps = Steps::<L>::new(blank);
     let field = Gf16Plain;
-    let mut encoders = Vec::new(alloc);
-    encoders.push(group_encoder(alloc, &field, 1, 0)?)?;
-    let mut world = World::new(alloc, &field, encoders, 2, MAX_SESSION)?;
+    let mut steps = Steps::<L>::new(blank);
+    let mut world = world_of_two_receivers(alloc, &field)?;
     let shown = shows(&mut world, &mut steps)?;
     Ok(shown && keeps_two(&world))
 }
