@@ -9,7 +9,7 @@ use pet_tool::run;
 use std::alloc::{AllocError, Global};
 use std::marker::Brand;
 use std::sync::ledger::{Blank, Ledger};
-use test_example::{PLAN, PRIORITIES, STREAM, packets};
+use test_example::{PLAN, PRIORITIES, STREAM, old_store, packets};
 use text_status::Status;
 
 /// The store of the example session that has no packet.
@@ -47,13 +47,14 @@ fn failing(alloc: Global, call: u64, fails: bool) -> Result<Vec<u64>, AllocError
     Ok(calls)
 }
 
-/// The files of the example: stream, priorities, plan, datagrams, and a store.
+/// The files of the example: stream, priorities, plan, datagrams, a store, and one of the first version.
 fn files(alloc: Global, failing: Vec<u64>) -> Result<MemoryPlace, NoMemory> {
     let mut place = MemoryPlace::new(alloc, failing);
     place.add("s", &STREAM)?;
     place.add("f", PRIORITIES.as_bytes())?;
     place.add("p", PLAN.as_bytes())?;
     place.add("a", &NOTHING)?;
+    place.add("m", &old_store())?;
     place.add("q", &entries(alloc)?)?;
     Ok(place)
 }
@@ -159,7 +160,7 @@ fn calls_of(alloc: Global, words: &[&str], object: Object) -> Result<Option<u64>
 /// Words, and how many calls of the link and of the output they come to.
 type Row = (&'static [&'static str], [u64; 2]);
 
-static ROWS: [Row; 10] = [
+static ROWS: [Row; 11] = [
     (&["plan", "s", "f"], [0, 1]),
     (&["check", "s", "f", "p"], [0, 1]),
     (&["send", "s", "f", "file:d"], [0, 1]),
@@ -173,6 +174,7 @@ static ROWS: [Row; 10] = [
     (&["video", "a", "o"], [0, 1]),
     (&["wrap", "s", "o"], [0, 1]),
     (&["unwrap", "s", "e0", "o"], [0, 0]),
+    (&["migrate", "m", "o"], [0, 1]),
 ];
 
 #[test]
