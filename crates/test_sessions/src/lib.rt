@@ -21,3 +21,5 @@ mod source_tests;
 mod split_tests;
 #[cfg(test)]
 mod text_tests;
+#[cfg(test)]
+mod whole_tests;
