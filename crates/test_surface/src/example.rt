@@ -24,7 +24,10 @@ pub const LAYERS: [LayerSize; 3] = [
 ];
 
 /// The encoder of the only group of the session.
-pub fn encoder_of<'f>(alloc: Global, field: &'f Gf16Plain) -> Result<Encoder<'f, Gf16Plain>, Fail>
+pub fn example_encoder<'f>(
+    alloc: Global,
+    field: &'f Gf16Plain,
+) -> Result<Encoder<'f, Gf16Plain>, Fail>
     ensures packets { IfOk result (λ encoder. encoder.header.table.packets ≡ 6) }
 {
     let header = Header {

@@ -7,7 +7,7 @@
 
 mod example;
 
-pub use example::{LAYERS, encoder_of};
+pub use example::{LAYERS, example_encoder};
 
 #[cfg(test)]
 mod base_tests;

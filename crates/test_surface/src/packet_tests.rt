@@ -1,7 +1,7 @@
 //! What `packet_frame`, `pet_encode` and `packet_set` give out, of packet 4 of the example session.
 ghost use Rattle.std.specs.Prelude.{◌≡◌, ◌<◌, length, IfOk};
 
-use crate::{LAYERS, encoder_of};
+use crate::{LAYERS, example_encoder};
 use packet_frame::{
     Field1, Frame, FrameFault, Header, OldFrame, read_frame, read_old_frame, write_frame,
 };
@@ -79,7 +79,7 @@ fn is_made<L: Ledger>(alloc: Global, blank: Blank) -> Result<bool, Fail>
 {
     let mut steps = Steps::<L>::new(blank);
     let field = Gf16Plain;
-    let encoder: Encoder<'_, Gf16Plain> = encoder_of(alloc, &field)?;
+    let encoder: Encoder<'_, Gf16Plain> = example_encoder(alloc, &field)?;
     let mut bytes = Vec::new(alloc);
     encoder.packet(4, &mut bytes, &mut steps)?;
     let packet = packets()[FOUR];
