@@ -4,7 +4,7 @@ ghost use Rattle.pet_base.specs.declared.limits.TheConstants.{MAX_ENTRY};
 ghost use Rattle.pet_base.specs.LinkSeen.{IsShortGot};
 
 use crate::datagrams::{open_at, receive};
-use crate::waiting::Waiting;
+use crate::waiting::{Room, Waiting};
 use pet_base::{Failed, Got};
 use std::alloc::Global;
 use std::io;
@@ -59,7 +59,7 @@ impl Inbox {
         ensures { length through.new ≡ length through.old }
     {
         for _ in 0..u64::MAX {
-            if self.failed || !self.waiting.has_room() {
+            if self.failed || self.waiting.make_room() != Room::There {
                 return;
             }
             match receive(&self.socket, through) {

@@ -1,8 +1,8 @@
 //! Datagrams that have come and wait to be handed on.
-ghost use Rattle.std.specs.Prelude.{◌≡◌, ◌≤◌, ◌+◌, ◌++◌, [], true, length, take, drop, Some, vec_len, vec_capacity, MatchOption};
+ghost use Rattle.std.specs.Prelude.{◌≡◌, ◌≤◌, ◌+◌, ◌++◌, [], length, take, drop, Some, vec_len, vec_capacity, MatchOption};
 ghost use Rattle.pet_base.specs.declared.limits.TheConstants.{MAX_ENTRY};
 ghost use Rattle.pet_base.specs.Entries.{entry_text, first_entry};
-ghost use Rattle.pet_ends.specs.Waits.{Waits};
+ghost use Rattle.pet_ends.specs.Waits.{Waits, LacksEntry, HasMadeRoom};
 ghost use Rattle.pet_ends.specs.declared.waiting.TheConstants.{MOST_KEPT, LENGTH_BYTES};
 
 use pet_base::MAX_ENTRY;
@@ -14,6 +14,16 @@ const MOST_KEPT: usize = 67_108_864;
 
 /// The bytes of a datagram's length.
 const LENGTH_BYTES: usize = 2;
+
+/// Whether a queue can keep one more datagram, however long.
+#[derive(Clone, Copy, PartialEq, Eq)]
+pub enum Room {
+    /// It can.
+    There,
+    /// It would pass the most bytes that are kept.
+    Full,
+    NoMemory,
+}
 
 /// A queue of datagrams. They are kept on end, each after its length, as in a datagram file.
 #[derive(Drop)]
@@ -46,14 +56,19 @@ impl Waiting {
         }
     }
 
-    /// Whether there is room for one more, however long. It makes that room, if memory is found.
-    pub fn has_room(&mut self) -> bool
+    /// Makes room for one more, however long.
+    pub fn make_room(&mut self) -> Room
         ensures same { self.new.entries ≡ self.old.entries }
-        ensures most { result ≡ true → self.new.kept + LENGTH_BYTES + MAX_ENTRY ≤ MOST_KEPT }
-        ensures room { result ≡ true → self.new.kept + LENGTH_BYTES + MAX_ENTRY ≤ self.new.room }
+        ensures room { HasMadeRoom result self.new }
     {
         let longest = LENGTH_BYTES + usize::from(MAX_ENTRY);
-        self.entries.len() <= MOST_KEPT - longest && self.entries.reserve(longest).is_ok()
+        if self.entries.len() > MOST_KEPT - longest {
+            return Room::Full;
+        }
+        match self.entries.reserve(longest) {
+            Ok(()) => Room::There,
+            Err(_) => Room::NoMemory,
+        }
     }
 
     /// Puts a datagram behind the others, for which there is room.
@@ -67,10 +82,11 @@ impl Waiting {
         let _ = self.entries.extend_from_slice(datagram);
     }
 
-    /// Moves the datagram that came first to the front of the buffer, and says how long it is. None where none waits.
+    /// Moves the datagram that came first to the front of the buffer, and says how long it is. None where no
+    /// whole one waits.
     pub fn pop(&mut self, into: &mut [u8]) -> Option<usize>
         requires { MAX_ENTRY ≤ length into.old }
-        ensures first { MatchOption result (self.new.entries ≡ self.old.entries)
+        ensures first { MatchOption result (LacksEntry self.old.entries × (self.new.entries ≡ self.old.entries))
             (λ count. (count ≤ MAX_ENTRY) × (first_entry self.old.entries ≡ Some (take count into.new, self.new.entries))) }
         ensures buffer { length into.new ≡ length into.old }
     {
