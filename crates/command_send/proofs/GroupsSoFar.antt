@@ -22,6 +22,7 @@ use Rattle.stream_groups.specs.laws.FilledLaws.{IsFilled, given_filled}
 use Rattle.stream_groups.specs.laws.FittingLaws.{IsWhole, given_whole}
 use Rattle.stream_session.specs.Marks.{mark_of, no_mark, mark_at, group_marks}
 use Rattle.stream_session.specs.Tables.{table_of}
+use Rattle.command_send.specs.inside.Job.{job}
 use Rattle.command_send.specs.declared.sent_group.Change.{Change}
 use Rattle.command_send.specs.declared.second.SentGroups.{SentGroups}
 use Rattle.packet_session.specs.Datagrams.{group_datagrams}
@@ -131,9 +132,9 @@ tables_more source groups g h at =
 
 -- one group more was sent
 pub some_more : (way : Way) (source : Source) (marks : List GroupMark) (groups : List CutGroup) (g : CutGroup)
-    (first before after : Routes) → HasSentSome way source marks groups first before
-    → SendsGroup way source marks (length groups) g before after → after.place.target ≡ before.place.target
-    → HasSentSome way source marks (groups ++ g ∷ []) first after
+    (first before after : Routes) → HasSentSome (job way source marks) groups first before
+    → SendsGroup (job way source marks) (length groups) g before after → after.place.target ≡ before.place.target
+    → HasSentSome (job way source marks) (groups ++ g ∷ []) first after
 some_more way source marks groups g first before after h sends target = record {
   agree = agree_more marks groups g h.agree sends.0.mark;
   tables = tables_more source groups g h.tables sends.0.table;
@@ -147,8 +148,8 @@ some_more way source marks groups g first before after h sends target = record {
 -- a front of the next group's packets
 part_at : (way : Way) (source : Source) (marks : List GroupMark) (First : List CutGroup → Type 0)
     (groups : List CutGroup) (g : CutGroup) (first before after : Routes)
-    → HasSentSome way source marks groups first before → First (groups ++ g ∷ [])
-    → SendsGroupPart way source marks (length groups) g before after → IsPart way source marks First first after
+    → HasSentSome (job way source marks) groups first before → First (groups ++ g ∷ [])
+    → SendsGroupPart (job way source marks) (length groups) g before after → IsPart (job way source marks) First first after
 part_at way source marks First groups g first before after h firsts sends = record {
   groups = groups ++ g ∷ [];
   first_groups = firsts;
@@ -162,8 +163,8 @@ part_at way source marks First groups g first before after h firsts sends = reco
 
 -- a failure before a group's packets
 part_some : (way : Way) (source : Source) (marks : List GroupMark) (First : List CutGroup → Type 0)
-    (groups : List CutGroup) (first now : Routes) → HasSentSome way source marks groups first now → First groups
-    → IsPart way source marks First first now
+    (groups : List CutGroup) (first now : Routes) → HasSentSome (job way source marks) groups first now → First groups
+    → IsPart (job way source marks) First first now
 part_some way source marks First groups first now h firsts = record {
   groups = groups;
   first_groups = firsts;
@@ -173,15 +174,15 @@ part_some way source marks First groups first now h firsts = record {
 }
 
 pub part_gone : (way : Way) (source : Source) (marks : List GroupMark) (stream : List ℕ) (pass : SentGroups)
-    (first now : Routes) → HasGone way source marks stream pass first now
-    → IsPart way source marks (HaveEnded source.priority stream) first now
+    (first now : Routes) → HasGone (job way source marks) stream pass first now
+    → IsPart (job way source marks) (HaveEnded source.priority stream) first now
 part_gone way source marks stream pass first now h =
     part_some way source marks (HaveEnded source.priority stream) h.groups first now h.sent
     (given_ended pass.cutter source.priority stream h.groups h.cut)
 
 pub part_stands : (way : Way) (source : Source) (marks : List GroupMark) (stream : List ℕ) (change : Option Change)
-    (pass : SentGroups) (first now : Routes) → HasReached way source marks stream change pass first now
-    → IsPart way source marks (HaveEnded source.priority stream) first now
+    (pass : SentGroups) (first now : Routes) → HasReached (job way source marks) stream change pass first now
+    → IsPart (job way source marks) (HaveEnded source.priority stream) first now
 part_stands way source marks stream None pass first now h = part_gone way source marks stream pass first now h.0
 part_stands way source marks stream (Some change) pass first now h =
     part_some way source marks (HaveEnded source.priority stream) h.0.least.before first now h.0.sent
@@ -189,31 +190,31 @@ part_stands way source marks stream (Some change) pass first now h =
 
 -- one group more has ended and was sent
 pub gone_more : (way : Way) (source : Source) (marks : List GroupMark) (stream : List ℕ) (old new : SentGroups)
-    (g : CutGroup) (first before after : Routes) → HasGone way source marks stream old first before
+    (g : CutGroup) (first before after : Routes) → HasGone (job way source marks) stream old first before
     → ((given : List CutGroup) → HasCut old.cutter source.priority stream given
     → HasCut new.cutter source.priority stream (given ++ g ∷ [])) → new.sent ≡ old.sent + 1
-    → SendsGroup way source marks old.sent g before after → after.place.target ≡ before.place.target
-    → HasGone way source marks stream new first after
+    → SendsGroup (job way source marks) old.sent g before after → after.place.target ≡ before.place.target
+    → HasGone (job way source marks) stream new first after
 gone_more way source marks stream old new g first before after h cut sent sends target = record {
   groups = h.groups ++ g ∷ [];
   cut = cut h.groups h.cut;
   number = omega (arith, sent, h.number, length-append h.groups (g ∷ []));
   sent =
       some_more way source marks h.groups g first before after h.sent
-      (subst (λ n. SendsGroup way source marks n g before after) h.number sends) target;
+      (subst (λ n. SendsGroup (job way source marks) n g before after) h.number sends) target;
 }
 
 pub gone_part : (way : Way) (source : Source) (marks : List GroupMark) (stream : List ℕ) (old : SentGroups)
     (cutter : GroupCutter) (g : CutGroup) (first before after : Routes)
-    → HasGone way source marks stream old first before
+    → HasGone (job way source marks) stream old first before
     → ((given : List CutGroup) → HasCut old.cutter source.priority stream given
     → HasCut cutter source.priority stream (given ++ g ∷ []))
-    → SendsGroupPart way source marks old.sent g before after
-    → IsPart way source marks (HaveEnded source.priority stream) first after
+    → SendsGroupPart (job way source marks) old.sent g before after
+    → IsPart (job way source marks) (HaveEnded source.priority stream) first after
 gone_part way source marks stream old cutter g first before after h cut sends =
     part_at way source marks (HaveEnded source.priority stream) h.groups g first before after h.sent
     (given_ended cutter source.priority stream (h.groups ++ g ∷ []) (cut h.groups h.cut))
-    (subst (λ n. SendsGroupPart way source marks n g before after) h.number sends)
+    (subst (λ n. SendsGroupPart (job way source marks) n g before after) h.number sends)
 
 -- the last of the groups that a cutter has given
 at_last : (P : CutGroup → Type 0) (given : List CutGroup) (g : CutGroup) → All P (given ++ g ∷ []) → P g
@@ -265,39 +266,39 @@ pub left_part : (way : Way) (source : Source) (marks : List GroupMark) (stream :
     (before groups : List CutGroup) (i from number : ℕ) (g : CutGroup) (first old new : Routes)
     → i < length groups → get_or groups i g ≡ g → from ≡ length before → number ≡ from + i
     → AreAll source.priority stream (before ++ groups)
-    → HasSentSome way source marks (before ++ take i groups) first old
-    → SendsGroupPart way source marks number g old new
-    → IsPart way source marks (AreFound source.priority stream) first new
+    → HasSentSome (job way source marks) (before ++ take i groups) first old
+    → SendsGroupPart (job way source marks) number g old new
+    → IsPart (job way source marks) (AreFound source.priority stream) first new
 left_part way source marks stream before groups i from number g first old new lt is at count all h sends =
     let sent = before ++ take i groups in
     let found = found_of_all source.priority stream (sent ++ g ∷ []) (drop (i + 1) groups)
     (subst (AreAll source.priority stream) (left_split before groups i g lt is).1 all) in
     part_at way source marks (AreFound source.priority stream) sent g first old new h found
-    (subst (λ n. SendsGroupPart way source marks n g old new)
+    (subst (λ n. SendsGroupPart (job way source marks) n g old new)
     (left_length before groups i from number lt at count) sends)
 
 pub left_more : (way : Way) (source : Source) (marks : List GroupMark) (before groups : List CutGroup)
     (i from number : ℕ) (g : CutGroup) (first old new : Routes)
     → i < length groups → get_or groups i g ≡ g → from ≡ length before → number ≡ from + i
-    → HasSentSome way source marks (before ++ take i groups) first old → SendsGroup way source marks number g old new
-    → new.place.target ≡ old.place.target → HasSentSome way source marks (before ++ take (i + 1) groups) first new
+    → HasSentSome (job way source marks) (before ++ take i groups) first old → SendsGroup (job way source marks) number g old new
+    → new.place.target ≡ old.place.target → HasSentSome (job way source marks) (before ++ take (i + 1) groups) first new
 left_more way source marks before groups i from number g first old new lt is at count h sends target =
-    subst (λ (l : List CutGroup). HasSentSome way source marks l first new) (sym (left_split before groups i g lt is).0)
+    subst (λ (l : List CutGroup). HasSentSome (job way source marks) l first new) (sym (left_split before groups i g lt is).0)
     (some_more way source marks (before ++ take i groups) g first old new h
-    (subst (λ n. SendsGroup way source marks n g old new) (left_length before groups i from number lt at count) sends)
+    (subst (λ n. SendsGroup (job way source marks) n g old new) (left_length before groups i from number lt at count) sends)
     target)
 
 -- no change was found so far
 pub stands_none : (way : Way) (source : Source) (marks : List GroupMark) (stream : List ℕ) (change : Option Change)
     (pass : SentGroups) (first now : Routes) → is_some change ≡ false
-    → HasReached way source marks stream change pass first now
-    → HasGone way source marks stream pass first now × (pieces_left pass.cutter ≡ 0)
+    → HasReached (job way source marks) stream change pass first now
+    → HasGone (job way source marks) stream pass first now × (pieces_left pass.cutter ≡ 0)
 stands_none way source marks stream None pass first now none h = h
 stands_none way source marks stream (Some c) pass first now none h = absurd cc
 
 -- until then the cutter stands somewhere in a stream
 pub stands_known : (way : Way) (source : Source) (marks : List GroupMark) (stream : List ℕ) (change : Option Change)
-    (pass : SentGroups) (first now : Routes) → HasReached way source marks stream change pass first now
+    (pass : SentGroups) (first now : Routes) → HasReached (job way source marks) stream change pass first now
     → IfNone change (Knows pass.cutter source.priority)
 stands_known way source marks stream None pass first now h =
     record { stream = stream; given = h.0.groups; cut = h.0.cut }
@@ -318,15 +319,15 @@ left_all P priority cutter items groups each k all is =
 
 -- groups that had ended were found
 pub part_found : (way : Way) (source : Source) (marks : List GroupMark) (stream : List ℕ) (first now : Routes)
-    → IsPart way source marks (HaveEnded source.priority stream) first now
-    → IsPart way source marks (AreFound source.priority stream) first now
+    → IsPart (job way source marks) (HaveEnded source.priority stream) first now
+    → IsPart (job way source marks) (AreFound source.priority stream) first now
 part_found way source marks stream first now h =
     record { groups = h.groups; first_groups = inl h.first_groups; agree = h.agree; tables = h.tables; sends = h.sends }
 
 -- and did, however the stream goes on
 pub part_longer : (way : Way) (source : Source) (marks : List GroupMark) (stream portion : List ℕ) (first now : Routes)
-    → IsPart way source marks (HaveEnded source.priority stream) first now
-    → IsPart way source marks (HaveEnded source.priority (stream ++ portion)) first now
+    → IsPart (job way source marks) (HaveEnded source.priority stream) first now
+    → IsPart (job way source marks) (HaveEnded source.priority (stream ++ portion)) first now
 part_longer way source marks stream portion first now h = record {
   groups = h.groups;
   first_groups = ended_longer source.priority stream portion h.groups h.first_groups;

@@ -14,6 +14,7 @@ use Rattle.stream_groups.specs.laws.EndedLaws.{given_ended, ended_longer, ended_
 use Rattle.stream_groups.specs.declared.groups.GroupCutter.{GroupCutter}
 use Rattle.stream_session.specs.Tables.{table_of}
 use Rattle.stream_session.specs.Marks.{no_mark, mark_at}
+use Rattle.command_send.specs.inside.Job.{job}
 use Rattle.command_send.specs.declared.sent_group.Change.{Change}
 use Rattle.command_send.specs.declared.second.SentGroups.{SentGroups}
 use Rattle.command_send.specs.Sending.{AgreeBelow, AreFound, AreAllFound, IsNext}
@@ -46,8 +47,8 @@ sends_none A B (Some c) none b = absurd cc
 -- its group then has a table
 pub sent_within : (way : Way) (source : Source) (marks : List GroupMark) (number : ℕ) (g : CutGroup)
     (before after : Routes) (change : Option Change) → is_some change ≡ false
-    → MatchOption change (SendsGroup way source marks number g before after)
-    (Differs source marks number g before after) → number < length source.tables.items
+    → MatchOption change (SendsGroup (job way source marks) number g before after)
+    (Differs (job way source marks) number g before after) → number < length source.tables.items
 sent_within way source marks number g before after None none sends =
     slice_get_within source.tables.items number (table_of source.priority g.cut) sends.0.table
 sent_within way source marks number g before after (Some c) none sends = absurd cc
@@ -55,7 +56,7 @@ sent_within way source marks number g before after (Some c) none sends = absurd 
 -- the next group is another
 next_at : (way : Way) (source : Source) (marks : List GroupMark) (stream : List ℕ) (groups : List CutGroup)
     (g : CutGroup) (before after : Routes) (change : Change) → AreFound source.priority stream (groups ++ g ∷ [])
-    → Differs source marks (length groups) g before after change
+    → Differs (job way source marks) (length groups) g before after change
     → IsNext source.priority source.tables.items marks stream groups change.group change.second
 next_at way source marks stream groups g before after change found d = record {
   next = g;
@@ -72,9 +73,9 @@ next_at way source marks stream groups g before after change found d = record {
 }
 
 change_is : (way : Way) (source : Source) (marks : List GroupMark) (stream : List ℕ) (groups : List CutGroup)
-    (g : CutGroup) (first before after : Routes) (change : Change) → HasSentSome way source marks groups first before
+    (g : CutGroup) (first before after : Routes) (change : Change) → HasSentSome (job way source marks) groups first before
     → AreFound source.priority stream (groups ++ g ∷ [])
-    → Differs source marks (length groups) g before after change → IsChange way source marks stream change first after
+    → Differs (job way source marks) (length groups) g before after change → IsChange (job way source marks) stream change first after
 change_is way source marks stream groups g first before after change h found d = record {
   least = record {
     before = groups;
@@ -84,14 +85,14 @@ change_is way source marks stream groups g first before after change h found d =
     second_is = inl (next_at way source marks stream groups g before after change found d);
     differ = d.differ;
   };
-  sent = subst (HasSentSome way source marks groups first) (sym d.still) h;
+  sent = subst (HasSentSome (job way source marks) groups first) (sym d.still) h;
 }
 
 change_at : (way : Way) (source : Source) (marks : List GroupMark) (stream : List ℕ) (groups : List CutGroup)
-    (g : CutGroup) (first before after : Routes) (change : Change) → HasSentSome way source marks groups first before
+    (g : CutGroup) (first before after : Routes) (change : Change) → HasSentSome (job way source marks) groups first before
     → HaveEnded source.priority stream (groups ++ g ∷ [])
-    → Differs source marks (length groups) g before after change
-    → HasMetChange way source marks stream first after change
+    → Differs (job way source marks) (length groups) g before after change
+    → HasMetChange (job way source marks) stream first after change
 unfolding change_is next_at
 change_at way source marks stream groups g first before after change h ended d = (
   change_is way source marks stream groups g first before after change h (inl ended) d,
@@ -101,8 +102,8 @@ change_at way source marks stream groups g first before after change h ended d =
 
 -- a change stays one, however the stream goes on
 change_longer : (way : Way) (source : Source) (marks : List GroupMark) (stream portion : List ℕ) (change : Change)
-    (first now : Routes) → HasMetChange way source marks stream first now change
-    → HasMetChange way source marks (stream ++ portion) first now change
+    (first now : Routes) → HasMetChange (job way source marks) stream first now change
+    → HasMetChange (job way source marks) (stream ++ portion) first now change
 change_longer way source marks stream portion change first now h =
     let priority = source.priority in
     let ended = ended_longer priority stream portion (h.0.least.before ++ h.1.next ∷ []) h.2 in
@@ -126,31 +127,31 @@ change_longer way source marks stream portion change first now h =
 
 pub stands_longer : (way : Way) (source : Source) (marks : List GroupMark) (stream portion : List ℕ) (c : Change)
     (change : Option Change) (pass : SentGroups) (first now : Routes) → change ≡ Some c
-    → HasReached way source marks stream change pass first now
-    → HasReached way source marks (stream ++ portion) change pass first now
+    → HasReached (job way source marks) stream change pass first now
+    → HasReached (job way source marks) (stream ++ portion) change pass first now
 stands_longer way source marks stream portion c None pass first now some h = absurd cc
 stands_longer way source marks stream portion c (Some change) pass first now some h =
     change_longer way source marks stream portion change first now h
 
 gone_change : (way : Way) (source : Source) (marks : List GroupMark) (stream : List ℕ) (old : SentGroups)
     (cutter : GroupCutter) (g : CutGroup) (first before after : Routes) (change : Change)
-    → HasGone way source marks stream old first before
+    → HasGone (job way source marks) stream old first before
     → ((given : List CutGroup) → HasCut old.cutter source.priority stream given
     → HasCut cutter source.priority stream (given ++ g ∷ []))
-    → Differs source marks old.sent g before after change → HasMetChange way source marks stream first after change
+    → Differs (job way source marks) old.sent g before after change → HasMetChange (job way source marks) stream first after change
 gone_change way source marks stream old cutter g first before after change h cut d =
     change_at way source marks stream h.groups g first before after change h.sent
     (given_ended cutter source.priority stream (h.groups ++ g ∷ []) (cut h.groups h.cut))
-    (subst (λ n. Differs source marks n g before after change) h.number d)
+    (subst (λ n. Differs (job way source marks) n g before after change) h.number d)
 
 -- and where it found one
 pub stands_change : (way : Way) (source : Source) (marks : List GroupMark) (stream : List ℕ) (old new : SentGroups)
     (cutter : GroupCutter) (g : CutGroup) (first before after : Routes) (change : Option Change) → is_some change ≡ true
-    → MatchOption change (SendsGroup way source marks old.sent g before after)
-    (Differs source marks old.sent g before after) → HasGone way source marks stream old first before
+    → MatchOption change (SendsGroup (job way source marks) old.sent g before after)
+    (Differs (job way source marks) old.sent g before after) → HasGone (job way source marks) stream old first before
     → ((given : List CutGroup) → HasCut old.cutter source.priority stream given
     → HasCut cutter source.priority stream (given ++ g ∷ []))
-    → HasReached way source marks stream change new first after
+    → HasReached (job way source marks) stream change new first after
 stands_change way source marks stream old new cutter g first before after None some sends h cut = absurd cc
 stands_change way source marks stream old new cutter g first before after (Some c) some sends h cut =
     gone_change way source marks stream old cutter g first before after c h cut sends
@@ -165,9 +166,9 @@ agree_past marks groups limit agree none k lt = elim (cases_lt k (length groups)
 
 lost_change : (way : Way) (source : Source) (marks : List GroupMark) (stream : List ℕ) (groups : List CutGroup)
     (from : ℕ) (first now : Routes) (change : Change) → from ≡ length groups
-    → HasSentSome way source marks groups first now
+    → HasSentSome (job way source marks) groups first now
     → AreAllFound source.priority stream groups → IsFirstLost marks from change
-    → IsChange way source marks stream change first now
+    → IsChange (job way source marks) stream change first now
 lost_change way source marks stream groups from first now change at h all lost = record {
   least = record {
     before = groups;
@@ -181,8 +182,8 @@ lost_change way source marks stream groups from first now change at h all lost =
 }
 
 all_sent : (way : Way) (source : Source) (marks : List GroupMark) (stream : List ℕ) (groups : List CutGroup) (from : ℕ)
-    (first now : Routes) → from ≡ length groups → HasSentSome way source marks groups first now
-    → AreAllFound source.priority stream groups → NoneLost marks from → IsAllSent way source marks stream first now
+    (first now : Routes) → from ≡ length groups → HasSentSome (job way source marks) groups first now
+    → AreAllFound source.priority stream groups → NoneLost marks from → IsAllSent (job way source marks) stream first now
 all_sent way source marks stream groups from first now at h all none = record {
   groups = groups;
   all = all;
@@ -193,9 +194,9 @@ all_sent way source marks stream groups from first now at h all none = record {
 -- the end of the pass, where these are all groups that it found
 pub ends_lost : (way : Way) (source : Source) (marks : List GroupMark) (stream : List ℕ) (groups : List CutGroup)
     (from : ℕ) (first now : Routes) (change : Option Change) → from ≡ length groups
-    → HasSentSome way source marks groups first now
+    → HasSentSome (job way source marks) groups first now
     → AreAllFound source.priority stream groups → IfSome change (IsFirstLost marks from)
-    → IfNone change (NoneLost marks from) → Ends way source marks stream change first now
+    → IfNone change (NoneLost marks from) → Ends (job way source marks) stream change first now
 ends_lost way source marks stream groups from first now None at h all lost none =
     all_sent way source marks stream groups from first now at h all none
 ends_lost way source marks stream groups from first now (Some change) at h all lost none =
@@ -206,9 +207,9 @@ pub left_change : (way : Way) (source : Source) (marks : List GroupMark) (stream
     (before groups : List CutGroup) (i from number : ℕ) (g : CutGroup) (first old new : Routes) (change : Option Change)
     → is_some change ≡ true → i < length groups → get_or groups i g ≡ g → from ≡ length before → number ≡ from + i
     → AreAll source.priority stream (before ++ groups)
-    → HasSentSome way source marks (before ++ take i groups) first old
-    → MatchOption change (SendsGroup way source marks number g old new) (Differs source marks number g old new)
-    → Ends way source marks stream change first new
+    → HasSentSome (job way source marks) (before ++ take i groups) first old
+    → MatchOption change (SendsGroup (job way source marks) number g old new) (Differs (job way source marks) number g old new)
+    → Ends (job way source marks) stream change first new
 left_change way source marks stream before groups i from number g first old new None some lt is at count all h sends =
     absurd cc
 left_change way source marks stream before groups i from number g first old new (Some c) some lt is at count all h
@@ -217,4 +218,4 @@ left_change way source marks stream before groups i from number g first old new 
     let found = found_of_all source.priority stream (sent ++ g ∷ []) (drop (i + 1) groups)
     (subst (AreAll source.priority stream) (left_split before groups i g lt is).1 all) in
     change_is way source marks stream sent g first old new c h found
-    (subst (λ n. Differs source marks n g old new c) (left_length before groups i from number lt at count) sends)
+    (subst (λ n. Differs (job way source marks) n g old new c) (left_length before groups i from number lt at count) sends)

@@ -15,6 +15,11 @@ use Rattle.outside_routes.specs.RouteFaults.{IsStop}
 use Rattle.outside_routes.specs.Sending.{Routes, IsOpen, OnlyGrows, OutputFailed, SendingFailed}
 use Rattle.outside_routes.specs.Way.{Way, OnFile, OnLink}
 use Rattle.outside_routes.specs.laws.SendingLaws.{output_failed, sending_failed}
+use Rattle.pet_base.specs.Lent.{AreSame}
+use Rattle.pet_base.specs.declared.place.Place.{Ghosts as PlaceOf}
+use Rattle.pet_base.specs.declared.link.Link.{Ghosts as LinkOf}
+use Rattle.pet_base.specs.declared.sink.Sink.{Ghosts as SinkOf}
+use Rattle.pet_base.specs.declared.outside.Outside.{Outside}
 use Rattle.command_send.specs.inside.Second.{OnlyPasses}
 use Rattle.command_send.specs.inside.Sending.{PassFailed}
 
@@ -119,3 +124,17 @@ stop_after way first before after result why is passes failed =
     handed_on (IsStop (PassFailed way first.place after.place) (SendingFailed way first.link after.link) ⊥) result why
     is
     (stop_by why (place_failed way first before after passes) (link_failed way first before after passes) failed)
+
+-- no reference of a lent value is exchanged for another, over two steps and over none
+module _ {P K S L : Type 0} {p : PlaceOf P} {k : LinkOf K} {s : SinkOf S} where
+  pub same_still : (o : Outside P K S L p k s) → AreSame o o
+  same_still o = record { place = refl; link = refl; out = refl; steps = refl }
+
+  pub same_then : {first before after : Outside P K S L p k s} → AreSame first before → AreSame before after
+      → AreSame first after
+  same_then a b = record {
+    place = b.place ∙ a.place;
+    link = b.link ∙ a.link;
+    out = b.out ∙ a.out;
+    steps = b.steps ∙ a.steps;
+  }

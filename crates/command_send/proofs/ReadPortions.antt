@@ -14,6 +14,7 @@ use Rattle.priority_file.specs.Priority.{Priorities}
 use Rattle.stream_groups.specs.CutGroups.{CutGroup}
 use Rattle.stream_groups.specs.Cutting.{HasCut, HaveEnded, cut_groups}
 use Rattle.stream_groups.specs.laws.EndedLaws.{none_ended, ended_first}
+use Rattle.command_send.specs.inside.Job.{job}
 use Rattle.command_send.specs.declared.sent_group.Change.{Change}
 use Rattle.command_send.specs.declared.second.SentGroups.{SentGroups}
 use Rattle.outside_files.specs.Outputs.{IsPrefix}
@@ -37,7 +38,7 @@ told_at priority stream groups (Some more) ended = ended_first priority stream g
 -- what was read stands at the front of the input
 pub part_read : (way : Way) (source : Source) (marks : List GroupMark) (stream : List ℕ) (known : Option (List ℕ))
     (first now : Routes) → first.place.rest ≡ prepend_known stream known
-    → IsPart way source marks (HaveEnded source.priority stream) first now → SentPart way source marks first now
+    → IsPart (job way source marks) (HaveEnded source.priority stream) first now → SentPart (job way source marks) first now
 part_read way source marks stream known first now rest part = record {
   stream = stream;
   read = subst (λ (o : Option (List ℕ)). IfSome o (IsPrefix stream)) (sym rest) (prefix_at stream known);
@@ -63,8 +64,8 @@ ended_at priority stream groups (Some more) end front =
 
 -- the same of all that was read
 pub part_end : (way : Way) (source : Source) (marks : List GroupMark) (stream : List ℕ) (first mid now : Routes)
-    → IsTaken stream first.place mid.place → IsPart way source marks (AreFound source.priority stream) first now
-    → SentPart way source marks first now
+    → IsTaken stream first.place mid.place → IsPart (job way source marks) (AreFound source.priority stream) first now
+    → SentPart (job way source marks) first now
 part_end way source marks stream first mid now taken part = record {
   stream = stream;
   read = subst (λ (o : Option (List ℕ)). IfSome o (IsPrefix stream)) (sym taken.rest) (prefix_at stream mid.place.rest);
@@ -84,7 +85,7 @@ rest_more stream portion first before after rest step =
 
 some_read : (way : Way) (source : Source) (marks : List GroupMark) (groups : List CutGroup)
     (first before after : Routes) → OnlyReads before.place after.place → after.link ≡ before.link
-    → HasSentSome way source marks groups first before → HasSentSome way source marks groups first after
+    → HasSentSome (job way source marks) groups first before → HasSentSome (job way source marks) groups first after
 some_read way source marks groups first before after reads link h = record {
   agree = h.agree;
   tables = h.tables;
@@ -95,8 +96,8 @@ some_read way source marks groups first before after reads link h = record {
 -- reading changes nothing that was sent
 pub stands_read : (way : Way) (source : Source) (marks : List GroupMark) (stream : List ℕ) (change : Option Change)
     (pass : SentGroups) (first before after : Routes) → OnlyReads before.place after.place → after.link ≡ before.link
-    → HasReached way source marks stream change pass first before
-    → HasReached way source marks stream change pass first after
+    → HasReached (job way source marks) stream change pass first before
+    → HasReached (job way source marks) stream change pass first after
 stands_read way source marks stream None pass first before after reads link h = (
   record {
     groups = h.0.groups;
@@ -119,7 +120,7 @@ stands_read way source marks stream (Some c) pass first before after reads link 
 pub part_taken : (way : Way) (source : Source) (marks : List GroupMark) (stream : List ℕ) (change : Option Change)
     (pass : SentGroups) (first before after : Routes) → first.place.rest ≡ prepend_known stream before.place.rest
     → OnlyReads before.place after.place → after.link ≡ before.link
-    → HasReached way source marks stream change pass first before → SentPart way source marks first after
+    → HasReached (job way source marks) stream change pass first before → SentPart (job way source marks) first after
 part_taken way source marks stream change pass first before after rest reads link h =
     part_read way source marks stream before.place.rest first after rest
     (part_stands way source marks stream change pass first after
@@ -129,10 +130,10 @@ pub part_fed : (way : Way) (source : Source) (marks : List GroupMark) (stream po
     (change : Option Change) (pass : SentGroups) (first before after now : Routes)
     → first.place.rest ≡ prepend_known stream before.place.rest
     → before.place.rest ≡ prepend_known portion after.place.rest → OnlyReads before.place after.place
-    → after.link ≡ before.link → HasReached way source marks stream change pass first before
-    → (HasReached way source marks stream change pass first after
-    → IsPart way source marks (HaveEnded source.priority (stream ++ portion)) first now)
-    → SentPart way source marks first now
+    → after.link ≡ before.link → HasReached (job way source marks) stream change pass first before
+    → (HasReached (job way source marks) stream change pass first after
+    → IsPart (job way source marks) (HaveEnded source.priority (stream ++ portion)) first now)
+    → SentPart (job way source marks) first now
 part_fed way source marks stream portion change pass first before after now rest taken reads link h part =
     part_read way source marks (stream ++ portion) after.place.rest first now
     (rest_more stream portion first.place.rest before.place.rest after.place.rest rest taken)
@@ -174,7 +175,7 @@ front_none priority None = tt
 front_none priority (Some bytes) = (cut_groups priority bytes, refl)
 
 -- nothing was read yet
-pub part_start : (way : Way) (source : Source) (marks : List GroupMark) (s : Routes) → SentPart way source marks s s
+pub part_start : (way : Way) (source : Source) (marks : List GroupMark) (s : Routes) → SentPart (job way source marks) s s
 part_start way source marks s = record {
   stream = [];
   read = prefix_none s.place.rest;
@@ -189,7 +190,7 @@ part_start way source marks s = record {
 }
 
 pub gone_start : (way : Way) (source : Source) (marks : List GroupMark) (pass : SentGroups) (s : Routes)
-    → HasCut pass.cutter source.priority [] [] → pass.sent ≡ 0 → HasGone way source marks [] pass s s
+    → HasCut pass.cutter source.priority [] [] → pass.sent ≡ 0 → HasGone (job way source marks) [] pass s s
 gone_start way source marks pass s cut none = record {
   groups = [];
   cut = cut;
@@ -203,7 +204,7 @@ gone_start way source marks pass s cut none = record {
 }
 
 pub sent_end : (way : Way) (source : Source) (marks : List GroupMark) (stream : List ℕ) (after : Option Change)
-    (first now : Routes) → IsTaken stream first.place now.place → Ends way source marks stream after first now
-    → MatchOption after (HasSentAll way source marks first now) (λ c. HasSentToChange way source marks c first now)
+    (first now : Routes) → IsTaken stream first.place now.place → Ends (job way source marks) stream after first now
+    → MatchOption after (HasSentAll (job way source marks) first now) (λ c. HasSentToChange (job way source marks) c first now)
 sent_end way source marks stream None first now taken h = record { stream = stream; taken = taken; all = h }
 sent_end way source marks stream (Some c) first now taken h = record { stream = stream; taken = taken; change_is = h }

@@ -28,6 +28,7 @@ use Rattle.stream_session.specs.Marks.{mark_at, group_marks}
 use Rattle.stream_session.specs.declared.mark.GroupMark.{GroupMark}
 use Rattle.stream_session.specs.declared.source.Source.{Source}
 use Rattle.stream_groups.specs.CutGroups.{CutGroup}
+use Rattle.command_send.specs.inside.Job.{job}
 use Rattle.command_send.specs.declared.fault.SendFault.{SendFault}
 use Rattle.command_send.specs.declared.fault.SendFault.TheVariants.{Stopped, Source as Refused, Changed}
 use Rattle.command_send.specs.Sending.{sent_datagrams, AgreeBelow, HaveTables, IsFirstPass}
@@ -228,7 +229,7 @@ first_since datagrams old mid new same sent = (sent.0, sent.1, sent_since sent.0
 module _ (p b stream : List ℕ) (source : Source) (marks : List GroupMark) (first : IsFirstPass p b source marks)
     (old mid new : Routes) (passes : OnlyPasses mid new) (is : IsFile old.place.files stream b) where
   -- all packets, on each way
-  file_sent : (to : List ℕ) → IsReopened stream (OnFile to) old mid → HasSentAll (OnFile to) source marks mid new
+  file_sent : (to : List ℕ) → IsReopened stream (OnFile to) old mid → HasSentAll (job (OnFile to) source marks) mid new
       → Wrote (record { name = to; bytes = datagrams_text (session_of p b) } ∷ []) None old.place new.place
   file_sent to opened sent =
       all_put stream to old mid new opened (datagrams_text (session_of p b))
@@ -239,7 +240,7 @@ module _ (p b stream : List ℕ) (source : Source) (marks : List GroupMark) (fir
       sent.all.sent.sends.0
 
   link_sent : (address : List ℕ) → IsReopened stream (OnLink address) old mid
-      → HasSentAll (OnLink address) source marks mid new → LinkSentAll address p b old.place.files old.link new.link
+      → HasSentAll (job (OnLink address) source marks) mid new → LinkSentAll address p b old.place.files old.link new.link
   link_sent address opened sent =
       let datagrams = sent_datagrams source sent.all.groups in
       record {
@@ -282,22 +283,22 @@ module _ (p b stream : List ℕ) (source : Source) (marks : List GroupMark) (fir
 
 module _ (stream : List ℕ) (way : Way) (old mid new : Routes) (source : Source) (marks : List GroupMark)
     (opened : IsReopened stream way old mid) (passes : OnlyPasses mid new) where
-  pub session_sent : (r : Result Unit SendFault) → OnOk r (HasSentAll way source marks mid new)
-      → OnOk r (SessionSent source marks stream way old new)
+  pub session_sent : (r : Result Unit SendFault) → OnOk r (HasSentAll (job way source marks) mid new)
+      → OnOk r (SessionSent (job way source marks) stream old new)
   session_sent (Err e) sent = tt
   session_sent (Ok x) sent = by way opened sent
     where
-      by : (w : Way) → IsReopened stream w old mid → HasSentAll w source marks mid new
-          → SessionSent source marks stream w old new
+      by : (w : Way) → IsReopened stream w old mid → HasSentAll (job w source marks) mid new
+          → SessionSent (job w source marks) stream old new
       by (OnFile to) o s = λ p b first is. file_sent p b stream source marks first old mid new passes is to o s
       by (OnLink address) o s =
           (λ p b first is. link_sent p b stream source marks first old mid new passes is address o s, s.all.sent.sends.1 ∙ o.way_open.files)
 
-  left_part : SentPart way source marks mid new → SessionLeft source marks stream way old new
+  left_part : SentPart (job way source marks) mid new → SessionLeft (job way source marks) stream old new
   left_part left = by way opened left
     where
-      by : (w : Way) → IsReopened stream w old mid → SentPart w source marks mid new
-          → SessionLeft source marks stream w old new
+      by : (w : Way) → IsReopened stream w old mid → SentPart (job w source marks) mid new
+          → SessionLeft (job w source marks) stream old new
       by (OnFile to) o s = λ p b first is. file_part p b stream source marks first old mid new passes is to o
           s.part.groups (λ rest. told_part (OnFile to) p b source marks mid new first rest s) s.part.sends
       by (OnLink address) o s = (
@@ -306,12 +307,12 @@ module _ (stream : List ℕ) (way : Way) (old mid new : Routes) (source : Source
         s.part.sends.1 ∙ o.way_open.files,
       )
 
-  left_change : (change : _) → HasSentToChange way source marks change mid new
-      → SessionLeft source marks stream way old new
+  left_change : (change : _) → HasSentToChange (job way source marks) change mid new
+      → SessionLeft (job way source marks) stream old new
   left_change change left = by way opened left
     where
-      by : (w : Way) → IsReopened stream w old mid → HasSentToChange w source marks change mid new
-          → SessionLeft source marks stream w old new
+      by : (w : Way) → IsReopened stream w old mid → HasSentToChange (job w source marks) change mid new
+          → SessionLeft (job w source marks) stream old new
       by (OnFile to) o s = λ p b first is.
           file_part p b stream source marks first old mid new passes is to o s.change_is.least.before
           (λ rest. absurd (told_changed (OnFile to) p b source marks change mid new first rest s))
@@ -326,19 +327,19 @@ module _ (stream : List ℕ) (way : Way) (old mid new : Routes) (source : Source
         s.change_is.sent.sends.1 ∙ o.way_open.files,
       )
 
-  pub session_left : (r : Result Unit SendFault) → IfErr r (IsSendStop way source marks mid new)
-      → OnErr r (SessionLeft source marks stream way old new)
+  pub session_left : (r : Result Unit SendFault) → IfErr r (IsSendStop (job way source marks) mid new)
+      → OnErr r (SessionLeft (job way source marks) stream old new)
   session_left (Ok x) stops = tt
   session_left (Err (Stopped stop)) stops = left_part stops.1
   session_left (Err (Refused fault)) stops = absurd stops
   session_left (Err (Changed change)) stops = left_change change stops
 
   -- exactly the packets of the groups before a change
-  sent_before : (change : _) → (s : HasSentToChange way source marks change mid new) → (p b : List ℕ)
+  sent_before : (change : _) → (s : HasSentToChange (job way source marks) change mid new) → (p b : List ℕ)
       → IsFirstPass p b source marks → HasSentBefore p b s.change_is.least.before way old.link new.link
   sent_before change sent p b first = by way opened sent
     where
-      by : (w : Way) → IsReopened stream w old mid → (s : HasSentToChange w source marks change mid new)
+      by : (w : Way) → IsReopened stream w old mid → (s : HasSentToChange (job w source marks) change mid new)
           → HasSentBefore p b s.change_is.least.before w old.link new.link
       by (OnFile to) o s = s.change_is.sent.sends.1 ∙ o.way_open.link
       by (OnLink address) o s =
@@ -350,7 +351,7 @@ module _ (stream : List ℕ) (way : Way) (old mid new : Routes) (source : Source
           )
 
   pub session_stops : (r : Result Unit SendFault) → old.place.faults ≤ mid.place.faults
-      → IfErr r (IsSendStop way source marks mid new) → IfErr r (SessionStops source marks stream way old new)
+      → IfErr r (IsSendStop (job way source marks) mid new) → IfErr r (SessionStops (job way source marks) stream old new)
   session_stops (Ok x) later stops = tt
   session_stops (Err (Stopped stop.NoMemory)) later stops = tt
   session_stops (Err (Stopped stop.Place)) later stops = fault_again stream way old mid new opened later stops.0
@@ -365,7 +366,7 @@ module _ (stream : List ℕ) (way : Way) (old mid new : Routes) (source : Source
 
 -- the route could not be made ready, or the stream not be opened again
 pub not_reopened : (stream : List ℕ) (way : Way) (old new : Routes) (source : Source) (marks : List GroupMark)
-    → IsLeftEmpty way old new → SessionLeft source marks stream way old new
+    → IsLeftEmpty way old new → SessionLeft (job way source marks) stream old new
 not_reopened stream (OnFile to) old new source marks (inl same) = λ p b first is. inl
     (Wrote-nothing old.place new.place same)
 not_reopened stream (OnFile to) old new source marks (inr empty) = λ p b first is. inr
@@ -379,7 +380,7 @@ reopened_open stream (OnLink address) old mid opened = tt
 
 -- what the link is left as
 file_link : (to : List ℕ) (mid new : Routes) (source : Source) (marks : List GroupMark) (r : Result Unit SendFault)
-    → OnOk r (HasSentAll (OnFile to) source marks mid new) → IfErr r (IsSendStop (OnFile to) source marks mid new) → new.link ≡ mid.link
+    → OnOk r (HasSentAll (job (OnFile to) source marks) mid new) → IfErr r (IsSendStop (job (OnFile to) source marks) mid new) → new.link ≡ mid.link
 file_link to mid new source marks (Ok x) sent stops = sent.all.sent.sends.1
 file_link to mid new source marks (Err (Stopped stop)) sent stops = stops.1.part.sends.1
 file_link to mid new source marks (Err (Refused fault)) sent stops = absurd stops
@@ -387,7 +388,7 @@ file_link to mid new source marks (Err (Changed change)) sent stops = stops.chan
 
 pub keeps_reopened : (way : Way) (old mid new : Routes) (source : Source) (marks : List GroupMark)
     (r : Result Unit SendFault) → KeepsLink way old.link mid.link → OnlyPasses mid new
-    → OnOk r (HasSentAll way source marks mid new) → IfErr r (IsSendStop way source marks mid new)
+    → OnOk r (HasSentAll (job way source marks) mid new) → IfErr r (IsSendStop (job way source marks) mid new)
     → KeepsLink way old.link new.link
 keeps_reopened (OnFile to) old mid new source marks r keeps passes sent stops =
     file_link to mid new source marks r sent stops ∙ keeps

@@ -30,6 +30,7 @@ use Rattle.stream_session.specs.Marks.{mark_of, no_mark, mark_at, group_marks, m
 use Rattle.stream_session.specs.Tables.{table_of, tables_of, sizes_of, cuts_of_stream}
 use Rattle.stream_session.specs.Accepted.{session_of, group_of}
 use Rattle.stream_session.proofs.Sourced.{short_stream}
+use Rattle.command_send.specs.inside.Job.{job}
 use Rattle.command_send.specs.declared.fault.SendFault.{SendFault}
 use Rattle.command_send.specs.declared.fault.SendFault.TheVariants.{Stopped}
 use Rattle.command_send.specs.declared.sent_group.Change.{Change}
@@ -209,7 +210,7 @@ mark_seam groups g later =
     ∙ get_or-append_seam (group_marks groups) (mark_of g.bytes) (group_marks later) no_mark
 
 pub told_groups : (way : Way) (p b : List ℕ) (source : Source) (marks : List GroupMark) (old new : Routes)
-    → IsFirstPass p b source marks → old.place.rest ≡ Some b → (h : HasSentAll way source marks old new)
+    → IsFirstPass p b source marks → old.place.rest ≡ Some b → (h : HasSentAll (job way source marks) old new)
     → sent_datagrams source h.all.groups ≡ session_datagrams (session_of p b)
 told_groups way p b source marks old new f told h =
     let same = taken_told p b h.stream source marks old.place new.place f told h.taken in
@@ -219,14 +220,14 @@ told_groups way p b source marks old new f told h =
     ap (sent_datagrams source) groups ∙ text_all p b source marks f
 
 pub told_sent : (way : Way) (p b : List ℕ) (source : Source) (marks : List GroupMark) (old new : Routes)
-    → IsFirstPass p b source marks → old.place.rest ≡ Some b → HasSentAll way source marks old new
+    → IsFirstPass p b source marks → old.place.rest ≡ Some b → HasSentAll (job way source marks) old new
     → Sends way (session_datagrams (session_of p b)) old new
 told_sent way p b source marks old new f told h =
     subst (λ (t : List (List ℕ)). Sends way t old new)
     (told_groups way p b source marks old new f told h) h.all.sent.sends
 
 pub told_part : (way : Way) (p b : List ℕ) (source : Source) (marks : List GroupMark) (old new : Routes)
-    → IsFirstPass p b source marks → old.place.rest ≡ Some b → SentPart way source marks old new
+    → IsFirstPass p b source marks → old.place.rest ≡ Some b → SentPart (job way source marks) old new
     → SendsPart way (session_datagrams (session_of p b)) old new
 told_part way p b source marks old new f told h =
     let front = MatchOption-at_some {o = old.place.rest} (Unit {0})
@@ -281,9 +282,9 @@ same_lost p b source marks before group second f l =
 
 pub told_changed : (way : Way) (p b : List ℕ) (source : Source) (marks : List GroupMark) (change : Change)
     (old new : Routes) → IsFirstPass p b source marks → old.place.rest ≡ Some b
-    → HasSentToChange way source marks change old new → ⊥
+    → HasSentToChange (job way source marks) change old new → ⊥
 told_changed way p b source marks change old new f told h =
-    let at = subst (λ s. IsChange way source marks s change old new)
+    let at = subst (λ s. IsChange (job way source marks) s change old new)
     (taken_told p b h.stream source marks old.place new.place f told h.taken) h.change_is in
     let least = at.least in
     let same : mark_at marks change.group ≡ change.second = elim least.second_is [

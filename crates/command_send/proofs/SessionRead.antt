@@ -20,6 +20,7 @@ use Rattle.stream_session.specs.Sources.{IsSource}
 use Rattle.outside_files.specs.Inputs.{IsFile}
 use Rattle.outside_files.specs.Wrote.{File, Wrote, with_files}
 use Rattle.outside_files.specs.laws.WroteLaws.{Wrote-nothing}
+use Rattle.command_send.specs.inside.Job.{job}
 use Rattle.command_send.specs.declared.fault.SendFault.{SendFault}
 use Rattle.command_send.specs.declared.fault.SendFault.TheVariants as fault
 use Rattle.command_send.specs.declared.sent_group.Change.{Change}
@@ -76,7 +77,7 @@ module _ (old mid new : Routes) (stream priority : List ℕ) (source : Source) (
   packets to = packets_file to s.priority_bytes s.stream_bytes
 
   -- what is left of the session that was read
-  left_of : (way : Way) → SessionLeft source marks stream way mid new → LeavesSentFront stream priority way old new
+  left_of : (way : Way) → SessionLeft (job way source marks) stream mid new → LeavesSentFront stream priority way old new
   left_of (OnFile to) left = by (left s.priority_bytes s.stream_bytes first there)
     where
       by : Wrote [] None mid.place new.place ⊎ Wrote [] (Some (packets to)) mid.place new.place
@@ -107,7 +108,7 @@ module _ (old mid new : Routes) (stream priority : List ℕ) (source : Source) (
       )
 
   -- all of it was sent
-  sent_of : (way : Way) → SessionSent source marks stream way mid new → HasPackets old s way new
+  sent_of : (way : Way) → SessionSent (job way source marks) stream mid new → HasPackets old s way new
   sent_of (OnFile to) sent =
       sent s.priority_bytes s.stream_bytes first there ∙ ap (option_map (with_files (packets to ∷ []))) same
   sent_of (OnLink address) sent = (
@@ -148,7 +149,7 @@ module _ (old mid new : Routes) (stream priority : List ℕ) (source : Source) (
 
   -- why the sending stopped
   stops_of : (way : Way) → old.place.faults ≤ mid.place.faults → (f : SendFault)
-      → SessionStops source marks stream way mid new f → IsSendFault old new stream priority way f
+      → SessionStops (job way source marks) stream mid new f → IsSendFault old new stream priority way f
   unfolding least_of
   stops_of way later (fault.Stopped stop.NoMemory) stops = tt
   stops_of way later (fault.Stopped stop.Place) stops =
@@ -173,17 +174,17 @@ module _ (old mid new : Routes) (stream priority : List ℕ) (source : Source) (
 module _ (old mid new : Routes) {stream priority : List ℕ} {source : Source} {marks : List GroupMark}
     (read : IsReadFrom old.place stream priority source marks) (same : mid.place.files ≡ old.place.files)
     (link : mid.link ≡ old.link) {way asked : Way} (is : way ≡ asked) where
-  pub left_to : SessionLeft source marks stream way mid new → LeavesSentFront stream priority asked old new
+  pub left_to : SessionLeft (job way source marks) stream mid new → LeavesSentFront stream priority asked old new
   left_to left =
       subst (λ (w : Way). LeavesSentFront stream priority w old new) is
       (left_of old mid new stream priority source marks read.session read.first same link way left)
 
-  pub sent_to : SessionSent source marks stream way mid new → HasPackets old read.session asked new
+  pub sent_to : SessionSent (job way source marks) stream mid new → HasPackets old read.session asked new
   sent_to sent =
       subst (λ (w : Way). HasPackets old read.session w new) is
       (sent_of old mid new stream priority source marks read.session read.first same link way sent)
 
-  pub stops_to : old.place.faults ≤ mid.place.faults → (f : SendFault) → SessionStops source marks stream way mid new f
+  pub stops_to : old.place.faults ≤ mid.place.faults → (f : SendFault) → SessionStops (job way source marks) stream mid new f
       → IsSendFault old new stream priority asked f
   stops_to later f stops =
       subst (λ (w : Way). IsSendFault old new stream priority w f) is

@@ -1,3 +1,4 @@
+pub mod Job
 pub mod Second
 pub mod SendParts
 pub mod Sending

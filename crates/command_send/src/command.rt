@@ -59,16 +59,7 @@ pub fn send<P: Place, K: Link, S: Sink, L: Ledger>(
         (seen outside.new).link }
     ensures same { AreSame outside.old outside.new }
 {
-    let sent = send_all(
-        alloc,
-        stream,
-        priority,
-        to,
-        outside.place,
-        outside.link,
-        outside.steps,
-    );
-    match sent {
+    match send_all(alloc, stream, priority, to, outside) {
         Ok(sent) => SendEnd::Done(sent),
         Err(fault) => fault.end(),
     }

@@ -10,7 +10,7 @@
 
 mod command;
 mod fault;
-mod first;
+mod job;
 mod second;
 mod sent_group;
 mod session;

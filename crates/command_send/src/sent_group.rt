@@ -8,19 +8,22 @@ ghost use Rattle.stream_session.specs.Tables.{table_of};
 ghost use Rattle.pet_base.specs.Causes.{stops};
 ghost use Rattle.pet_base.specs.Seen.{PlaceStops};
 ghost use Rattle.pet_base.specs.LinkSeen.{LinkStops};
-ghost use Rattle.outside_routes.specs.RouteFaults.{IsStop, stop_of_a_place, stop_of_a_link};
-ghost use Rattle.outside_routes.specs.Sending.{routes, Sends, SendsPart, IsOpen, OnlyGrows, OutputFailed, SendingFailed};
+ghost use Rattle.outside_routes.specs.RouteFaults.{stop_of_a_place, stop_of_a_link};
+ghost use Rattle.outside_routes.specs.Sending.{Sends, SendsPart, IsOpen, OnlyGrows};
 ghost use Rattle.outside_routes.specs.Way.{way_of};
+ghost use Rattle.pet_base.specs.Lent.{AreSame};
+ghost use Rattle.command_send.specs.inside.Job.{job_of, lent};
+ghost use Rattle.command_send.specs.inside.Sending.{StopsGroup};
 ghost use Rattle.packet_session.specs.Datagrams.{group_datagrams};
 ghost use Rattle.command_send.specs.inside.Second.{SendsGroup, SendsGroupPart, Differs, cost_at};
 ghost use Rattle.command_send.specs.Sending.{encoding_of};
 
-use crate::first::FirstPass;
+use crate::job::Job;
 use layer_split::{GroupCut, message};
 use outside_routes::RouteStop;
 use packet_frame::Header;
 use packet_sending::put_group;
-use pet_base::{Link, NoMemory, Place, Steps};
+use pet_base::{Link, NoMemory, Outside, Place, Sink};
 use pet_encode::Encoder;
 use pet_field::Gf16Tables;
 use std::alloc::Global;
@@ -39,35 +42,33 @@ pub struct Change {
 
 /// Sends the packets of the group under this number, where its mark and its table are those of the first pass; else it
 /// sends nothing, and answers the change. A group with that mark and another table has no mark in the second pass.
-pub(crate) fn send_group<P: Place, K: Link, L: Ledger>(
+pub(crate) fn send_group<P: Place, K: Link, S: Sink, L: Ledger>(
     alloc: Global,
-    place: &mut P,
-    link: &mut K,
-    found: &FirstPass<'_>,
+    job: &Job<'_>,
     number: u32,
     group: &Group,
-    steps: &mut Steps<L>,
+    outside: &mut Outside<P, K, S, L>,
 ) -> Result<Option<Change>, RouteStop>
-    requires open { IsOpen (way_of found.now.to) (routes P.Place K.Link place.old link.old) }
-    requires whole { IsWhole (length found.now.source.priority.layers) group.now }
+    requires open { IsOpen (way_of job.now.to) (lent outside.old) }
+    requires whole { IsWhole (length job.now.found.source.priority.layers) group.now }
     requires filled { IsFilled group.now }
-    ensures sends { IfOk result (λ change. MatchOption change (SendsGroup (way_of found.now.to) found.now.source found.now.marks.items number group.now (routes P.Place K.Link place.old link.old) (routes P.Place K.Link place.new link.new))
-        (Differs found.now.source found.now.marks.items number group.now (routes P.Place K.Link place.old link.old) (routes P.Place K.Link place.new link.new))) }
-    ensures part { OnErr result (SendsGroupPart (way_of found.now.to) found.now.source found.now.marks.items number group.now
-        (routes P.Place K.Link place.old link.old) (routes P.Place K.Link place.new link.new)) }
-    ensures others { OnlyGrows (routes P.Place K.Link place.old link.old)
-        (routes P.Place K.Link place.new link.new) }
-    ensures cause { IfErr result (IsStop (OutputFailed (way_of found.now.to) (P.seen place.old) (P.seen place.new))
-        (SendingFailed (way_of found.now.to) (K.seen link.old) (K.seen link.new)) ⊥) }
-    ensures cost { steps.new ≤ steps.old + cost_at
-        (slice_get found.now.source.tables.items number) }
-    ensures idle { IfOk result (λ change. IfSome change (λ _. steps.new ≡ steps.old)) }
-    ensures once_place { PlaceStops (stops stop_of_a_place result) (P.seen place.old)
-        (P.seen place.new) }
-    ensures once_link { LinkStops (stops stop_of_a_link result) (K.seen link.old)
-        (K.seen link.new) }
+    ensures sends { IfOk result
+        (λ change. MatchOption change
+        (SendsGroup (job_of job.now) number group.now (lent outside.old) (lent outside.new))
+        (Differs (job_of job.now) number group.now (lent outside.old) (lent outside.new))) }
+    ensures part { OnErr result (SendsGroupPart (job_of job.now) number group.now
+        (lent outside.old) (lent outside.new)) }
+    ensures others { OnlyGrows (lent outside.old) (lent outside.new) }
+    ensures cause { IfErr result (StopsGroup (job_of job.now) (lent outside.old) (lent outside.new)) }
+    ensures cost { outside.new.steps.now
+        ≤ outside.old.steps.now + cost_at (slice_get job.now.found.source.tables.items number) }
+    ensures idle { IfOk result (λ change. IfSome change (λ _. outside.new.steps.now ≡ outside.old.steps.now)) }
+    ensures once_place { PlaceStops (stops stop_of_a_place result) (lent outside.old).place (lent outside.new).place }
+    ensures once_link { LinkStops (stops stop_of_a_link result) (lent outside.old).link (lent outside.new).link }
+    ensures same { AreSame outside.old outside.new }
+    ensures out { outside.new.out.now ≡ outside.old.out.now }
 {
-    let first = first_mark(found, number);
+    let first = first_mark(job, number);
     let second = GroupMark::of(&group.bytes);
     if first != second {
         return Ok(Some(Change {
@@ -76,22 +77,22 @@ pub(crate) fn send_group<P: Place, K: Link, L: Ledger>(
             second,
         }));
     }
-    if !has_table(&found.source, number, &group.cut) {
+    if !has_table(&job.found.source, number, &group.cut) {
         return Ok(Some(Change {
             group: number,
             first,
             second: GroupMark::none(),
         }));
     }
-    put_packets(alloc, place, link, found, number, group, steps)?;
+    put_packets(alloc, job, number, group, outside)?;
     Ok(None)
 }
 
 /// The mark of the first pass at this place, and that of no group where it has none.
-pub(crate) fn first_mark(found: &FirstPass<'_>, number: u32) -> GroupMark
-    ensures { result ≡ mark_at found.now.marks.items number }
+pub(crate) fn first_mark(job: &Job<'_>, number: u32) -> GroupMark
+    ensures { result ≡ mark_at job.now.found.marks.items number }
 {
-    match found.marks.get(number as usize) {
+    match job.found.marks.get(number as usize) {
         Some(mark) => *mark,
         None => GroupMark::none(),
     }
@@ -109,60 +110,63 @@ fn has_table(source: &Source, number: u32, cut: &GroupCut) -> bool
 }
 
 /// Sends the packets of the group under this number, whose table is the first pass's.
-fn put_packets<P: Place, K: Link, L: Ledger>(
+fn put_packets<P: Place, K: Link, S: Sink, L: Ledger>(
     alloc: Global,
-    place: &mut P,
-    link: &mut K,
-    found: &FirstPass<'_>,
+    job: &Job<'_>,
     number: u32,
     group: &Group,
-    steps: &mut Steps<L>,
+    outside: &mut Outside<P, K, S, L>,
 ) -> Result<(), RouteStop>
-    requires open { IsOpen (way_of found.now.to) (routes P.Place K.Link place.old link.old) }
-    requires there { slice_get found.now.source.tables.items number
-        ≡ Some (table_of found.now.source.priority group.now.cut) }
-    requires whole { IsWhole (length found.now.source.priority.layers) group.now }
-    ensures sends { OnOk result (Sends (way_of found.now.to)
-        (group_datagrams (encoding_of found.now.source number group.now))
-        (routes P.Place K.Link place.old link.old) (routes P.Place K.Link place.new link.new)) }
-    ensures part { OnErr result (SendsPart (way_of found.now.to)
-        (group_datagrams (encoding_of found.now.source number group.now))
-        (routes P.Place K.Link place.old link.old) (routes P.Place K.Link place.new link.new)) }
-    ensures others { OnlyGrows (routes P.Place K.Link place.old link.old)
-        (routes P.Place K.Link place.new link.new) }
-    ensures cause { IfErr result (IsStop (OutputFailed (way_of found.now.to) (P.seen place.old) (P.seen place.new))
-        (SendingFailed (way_of found.now.to) (K.seen link.old) (K.seen link.new)) ⊥) }
-    ensures cost { steps.new ≤ steps.old + cost_at
-        (slice_get found.now.source.tables.items number) }
-    ensures once_place { PlaceStops (stops stop_of_a_place result) (P.seen place.old)
-        (P.seen place.new) }
-    ensures once_link { LinkStops (stops stop_of_a_link result) (K.seen link.old)
-        (K.seen link.new) }
+    requires open { IsOpen (way_of job.now.to) (lent outside.old) }
+    requires there { slice_get job.now.found.source.tables.items number
+        ≡ Some (table_of job.now.found.source.priority group.now.cut) }
+    requires whole { IsWhole (length job.now.found.source.priority.layers) group.now }
+    ensures sends { OnOk result (Sends (way_of job.now.to)
+        (group_datagrams (encoding_of job.now.found.source number group.now))
+        (lent outside.old) (lent outside.new)) }
+    ensures part { OnErr result (SendsPart (way_of job.now.to)
+        (group_datagrams (encoding_of job.now.found.source number group.now))
+        (lent outside.old) (lent outside.new)) }
+    ensures others { OnlyGrows (lent outside.old) (lent outside.new) }
+    ensures cause { IfErr result (StopsGroup (job_of job.now) (lent outside.old) (lent outside.new)) }
+    ensures cost { outside.new.steps.now
+        ≤ outside.old.steps.now + cost_at (slice_get job.now.found.source.tables.items number) }
+    ensures once_place { PlaceStops (stops stop_of_a_place result) (lent outside.old).place (lent outside.new).place }
+    ensures once_link { LinkStops (stops stop_of_a_link result) (lent outside.old).link (lent outside.new).link }
+    ensures same { AreSame outside.old outside.new }
+    ensures out { outside.new.out.now ≡ outside.old.out.now }
 {
-    let encoder = encoder_of(alloc, found, number, group)?;
-    put_group(alloc, found.to, place, link, &encoder, steps)
+    let encoder = encoder_of(alloc, job, number, group)?;
+    put_group(
+        alloc,
+        job.to,
+        outside.place,
+        outside.link,
+        &encoder,
+        outside.steps,
+    )
 }
 
 /// The encoder of the group under this number, whose table is the first pass's.
 fn encoder_of<'f>(
     alloc: Global,
-    found: &'f FirstPass<'_>,
+    job: &'f Job<'_>,
     number: u32,
     group: &Group,
 ) -> Result<Encoder<'f, Gf16Tables>, NoMemory>
-    requires there { slice_get found.now.source.tables.items number
-        ≡ Some (table_of found.now.source.priority group.now.cut) }
-    requires whole { IsWhole (length found.now.source.priority.layers) group.now }
-    ensures { IfOk result (λ encoder. encoder ≡ encoding_of found.now.source number group.now) }
+    requires there { slice_get job.now.found.source.tables.items number
+        ≡ Some (table_of job.now.found.source.priority group.now.cut) }
+    requires whole { IsWhole (length job.now.found.source.priority.layers) group.now }
+    ensures { IfOk result (λ encoder. encoder ≡ encoding_of job.now.found.source number group.now) }
 {
     let bytes = message_of(alloc, group)?;
     let header = Header {
-        session: found.source.number,
-        groups: found.source.tables.len() as u32,
+        session: job.found.source.number,
+        groups: job.found.source.tables.len() as u32,
         group: number,
-        table: found.source.tables[number as usize].clone()?,
+        table: job.found.source.tables[number as usize].clone()?,
     };
-    Encoder::new(alloc, &found.field, header, &bytes)
+    Encoder::new(alloc, &job.field, header, &bytes)
 }
 
 /// The message of a group.

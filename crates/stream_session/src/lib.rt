@@ -1,11 +1,10 @@
 //! The session that a stream and a priority file are: why there is none, its number, and its tables.
 //!
 //! `specs/` defines the tables of a stream's groups, the first cause that holds against a session, and the session's
-//! number. `Planner` makes exactly those tables out of pieces that come one by one, or refuses by exactly that cause; it
-//! holds no bytes of the stream, and one table a group. `Pass` does so for a stream that comes in portions of any size, and
-//! hashes it. `read_source` reads both files of a place, and answers the session that they are, or why they are none.
-//! `read_marked` reads as `read_source` does, and gives each group's mark too, by which a later reading can be compared.
-//! `read_whole` reads as `read_source` does, for a session of at most 67,108,864 bytes, and holds the stream.
+//! number. `Pass` makes exactly those of a stream that comes in portions of any size, or says why there are none; it holds no bytes
+//! of the stream, and one table a group. `read_source` reads both files of a place, and answers the session that they are, or
+//! why they are none. `read_marked` reads as `read_source` does, and gives each group's mark too, by which a later reading
+//! can be compared. `read_whole` reads as `read_source` does, for a session of at most 67,108,864 bytes, and holds the stream.
 #![tactic(auto)]
 
 mod both;
@@ -27,6 +26,5 @@ pub use mark::GroupMark;
 pub use marked::{MarkedSource, read_marked};
 pub use needs::is_table_of;
 pub use pass::{Pass, SessionPlan, StreamFault};
-pub use planner::Planner;
 pub use source::{Source, SourceFault, read_source};
 pub use whole::{WholeSource, read_whole};

@@ -24,7 +24,7 @@ use stripe_plan::Table;
 /// Makes the tables of a stream's groups, piece by piece, and keeps a refusal back until the end. It holds no bytes of
 /// the stream.
 #[derive(Drop)]
-pub struct Planner {
+pub(crate) struct Planner {
     splitter: Splitter,
     /// Those of the groups that have ended.
     tables: GroupTables,
@@ -34,7 +34,7 @@ pub struct Planner {
 
 impl Planner {
     /// A planner for this priority, to which no piece was added.
-    pub fn new(alloc: Global, priority: &Priority) -> Result<Planner, NoMemory>
+    pub(crate) fn new(alloc: Global, priority: &Priority) -> Result<Planner, NoMemory>
         ensures { IfOk result (λ planner. HasPlanned planner priority.now []) }
     {
         let splitter = Splitter::new(alloc, priority)?;
@@ -46,7 +46,7 @@ impl Planner {
     }
 
     /// Adds the next piece. It fails only for want of memory: a refusal of the pieces is answered at the end.
-    pub fn add(&mut self, piece: &Piece) -> Result<(), NoMemory>
+    pub(crate) fn add(&mut self, piece: &Piece) -> Result<(), NoMemory>
         ensures { OnOk result ((priority : Priorities) (pieces : List Piece)
             → HasPlanned self.old priority pieces
             → HasPlanned self.new priority (pieces ++ piece.now ∷ [])) }
@@ -60,18 +60,9 @@ impl Planner {
         }
     }
 
-    /// The tables of all groups in order, or the first cause that holds against them.
-    pub fn finish(self) -> Result<Vec<Table>, SessionFault>
-        ensures tables { IfOk result (λ tables. (priority : Priorities) (pieces : List Piece) → HasPlanned self priority pieces
-            → (session_fault priority pieces ≡ None) × (tables.items ≡ tables_of priority (cuts_of priority (groups_of pieces)))) }
-        ensures refused { IfErr result (λ fault. fault ≢ SessionFault.NoMemory → (priority : Priorities) (pieces : List Piece) → HasPlanned self priority pieces
-            → session_fault priority pieces ≡ Some fault) }
-    {
-        self.finish_within(MAX_SESSION)
-    }
-
-    /// The same, where a session may have so many bytes, at most `MAX_SESSION`.
-    pub fn finish_within(mut self, limit: u64) -> Result<Vec<Table>, SessionFault>
+    /// The tables of all groups in order, or the first cause that holds against them, where a session may have so many bytes,
+    /// at most `MAX_SESSION`.
+    pub(crate) fn finish_within(mut self, limit: u64) -> Result<Vec<Table>, SessionFault>
         requires { limit ≤ MAX_SESSION }
         ensures tables { IfOk result (λ tables. (priority : Priorities) (pieces : List Piece) → HasPlanned self priority pieces
             → (session_fault_within limit priority pieces ≡ None) × (tables.items ≡ tables_of priority (cuts_of priority (groups_of pieces)))) }

@@ -20,6 +20,8 @@ mod source_tests;
 #[cfg(test)]
 mod split_tests;
 #[cfg(test)]
+mod stream_fixtures;
+#[cfg(test)]
 mod text_tests;
 #[cfg(test)]
 mod whole_tests;

@@ -1,23 +1,11 @@
 //! The example session over files in memory, and what two files are refused for.
 use mpeg_scan::Scan;
 use pet_base::{MemoryPlace, NoMemory};
-use priority_file::{PriorityFault, read_priority};
+use priority_file::PriorityFault;
 use std::alloc::{AllocError, Global};
-use stream_session::{Pass, SessionPlan, Source, SourceFault, StreamFault, read_source};
+use stream_session::{Source, SourceFault, read_source};
 use test_example::{PRIORITIES, SESSION, STREAM};
 use test_stripes::is_example;
-
-/// The plan of a stream that comes in portions of so many bytes, under the example priorities.
-fn plan_of(alloc: Global, stream: &[u8], portion: usize) -> Result<SessionPlan, StreamFault> {
-    let Ok(priority) = read_priority(alloc, PRIORITIES.as_bytes()) else {
-        return Err(StreamFault::NoMemory);
-    };
-    let mut pass = Pass::new(alloc, &priority, PRIORITIES.as_bytes())?;
-    for bytes in stream.chunks(portion.max(1)) {
-        pass.add(bytes)?;
-    }
-    pass.finish()
-}
 
 /// The example stream with a picture of another type.
 const NO_TYPE: [u8; 44] = [
@@ -25,45 +13,6 @@ const NO_TYPE: [u8; 44] = [
     0x28, 0x44, 0x00, 0x00, 0x01, 0x00, 0x00, 0x10, 0x55, 0x00, 0x00, 0x01, 0x00, 0x00, 0x18, 0x66,
     0x00, 0x00, 0x01, 0x00, 0x00, 0x18, 0x77, 0x77, 0x00, 0x00, 0x01, 0xB7,
 ];
-
-/// A stream, the bytes of its portions, and why there is no plan.
-type Portions = (&'static [u8], usize, Option<Scan>);
-
-static PORTIONS: [Portions; 9] = [
-    (&STREAM, 1, None),
-    (&STREAM, 3, None),
-    (&STREAM, 7, None),
-    (&STREAM, 43, None),
-    (&STREAM, 44, None),
-    (&STREAM, 100, None),
-    (&NO_TYPE, 1, Some(Scan::PictureType(11, 5))),
-    (&NO_TYPE, 44, Some(Scan::PictureType(11, 5))),
-    (&[], 1, Some(Scan::Empty)),
-];
-
-/// Whether the plan is that of the example session, or the stream is refused so.
-fn is_planned(alloc: Global, (stream, portion, refused): &Portions) -> bool {
-    match plan_of(alloc, *stream, *portion) {
-        Ok(plan) => refused.is_none() && plan.number == SESSION && is_example(&plan.tables),
-        Err(StreamFault::Stream(scan)) => *refused == Some(scan),
-        Err(_) => false,
-    }
-}
-
-/// The number of the first row that is planned otherwise.
-fn first_other(alloc: Global, cases: &[Portions]) -> Option<usize> {
-    for row in 0..cases.len() {
-        if !is_planned(alloc, &cases[row]) {
-            return Some(row);
-        }
-    }
-    None
-}
-
-#[test]
-fn plans_or_refuses_a_stream_in_portions(rt: HostRuntime) {
-    assert_eq!(rt; first_other(rt.alloc(), &PORTIONS), None);
-}
 
 /// The stream, where it is there; the text of the priority file, and how many bytes a comment behind it comes to; the call that
 /// fails, of enter, take, take of the one file and then of the other; and why there is no session.
@@ -81,8 +30,11 @@ const EMPTY: Option<SourceFault> = Some(SourceFault::Stream(Scan::Empty));
 
 const FAILED: Option<SourceFault> = Some(SourceFault::Failed);
 
-static FILES: [Case; 13] = [
+const OTHER_TYPE: Option<SourceFault> = Some(SourceFault::Stream(Scan::PictureType(11, 5)));
+
+static FILES: [Case; 14] = [
     (Some(&STREAM), PRIORITIES, 0, &[], None),
+    (Some(&NO_TYPE), PRIORITIES, 0, &[], OTHER_TYPE),
     // the priority file is refused first
     (Some(&STREAM), "packets", 0, &[], TEXT),
     (None, "packets", 0, &[], TEXT),

@@ -7,7 +7,6 @@ use Rattle.stripe_plan.specs.Sizes.{Sizes}
 use Rattle.priority_file.specs.Priority.{Priorities}
 use Rattle.stream_groups.specs.declared.groups.GroupCutter.{GroupCutter}
 use Rattle.stream_session.specs.declared.mark.GroupMark.{GroupMark}
-use Rattle.stream_session.specs.declared.source.Source.{Source}
 use Rattle.stream_groups.specs.CutGroups.{CutGroup}
 use Rattle.stream_groups.specs.Cutting.{HasCut, HaveEnded, pieces_left}
 use Rattle.stream_session.specs.Marks.{mark_of, no_mark, mark_at}
@@ -15,9 +14,9 @@ use Rattle.stream_session.specs.Tables.{table_of}
 use Rattle.command_send.specs.declared.sent_group.Change.{Change}
 use Rattle.command_send.specs.declared.second.SentGroups.{SentGroups}
 use Rattle.outside_routes.specs.Sending.{Routes, Sends, SendsPart}
-use Rattle.outside_routes.specs.Way.{Way}
 use Rattle.packet_session.specs.Datagrams.{group_datagrams}
 use Rattle.command_send.specs.Sending.{encoding_of, words_cost, IsNext}
+use Rattle.command_send.specs.inside.Job.{Job}
 use Rattle.command_send.specs.inside.Sending.{HasSentSome, IsChange, IsAllSent}
 
 -- the cutter stands somewhere in a stream
@@ -27,30 +26,29 @@ pub record Knows (cutter : GroupCutter) (priority : Priorities) : Type 0 where
   pub cut : HasCut cutter priority stream given
 
 -- of what was read, the groups that have ended were sent
-pub record HasGone (way : Way) (source : Source) (marks : List GroupMark) (stream : List ℕ) (pass : SentGroups)
-    (old new : Routes) : Type 0 where
+pub record HasGone (job : Job) (stream : List ℕ) (pass : SentGroups) (old new : Routes) : Type 0 where
   pub groups : List CutGroup
-  pub cut : HasCut pass.cutter source.priority stream groups
+  pub cut : HasCut pass.cutter job.source.priority stream groups
   pub number : pass.sent ≡ length groups
-  pub sent : HasSentSome way source marks groups old new
+  pub sent : HasSentSome job groups old new
 
 -- the group at which the marks differ has ended
-abbrev pub HasMetChange : Way → Source → List GroupMark → List ℕ → Routes → Routes → Change → Type 0
-HasMetChange way source marks stream old new change =
-    (h : IsChange way source marks stream change old new)
-    × (next : IsNext source.priority source.tables.items marks stream h.least.before change.group change.second)
-    × HaveEnded source.priority stream (h.least.before ++ next.next ∷ [])
+abbrev pub HasMetChange : Job → List ℕ → Routes → Routes → Change → Type 0
+HasMetChange job stream old new change =
+    (h : IsChange job stream change old new)
+    × (next : IsNext job.source.priority job.source.tables.items job.marks stream h.least.before change.group change.second)
+    × HaveEnded job.source.priority stream (h.least.before ++ next.next ∷ [])
 
 -- so far, where all that was read was looked at, or to a change
-abbrev pub HasReached : Way → Source → List GroupMark → List ℕ → Option Change → SentGroups → Routes → Routes → Type 0
-HasReached way source marks stream change pass old new =
-    MatchOption change (HasGone way source marks stream pass old new × (pieces_left pass.cutter ≡ 0))
-    (HasMetChange way source marks stream old new)
+abbrev pub HasReached : Job → List ℕ → Option Change → SentGroups → Routes → Routes → Type 0
+HasReached job stream change pass old new =
+    MatchOption change (HasGone job stream pass old new × (pieces_left pass.cutter ≡ 0))
+    (HasMetChange job stream old new)
 
 -- all of the stream, or to a change
-abbrev pub Ends : Way → Source → List GroupMark → List ℕ → Option Change → Routes → Routes → Type 0
-Ends way source marks stream change old new =
-    MatchOption change (IsAllSent way source marks stream old new) (λ c. IsChange way source marks stream c old new)
+abbrev pub Ends : Job → List ℕ → Option Change → Routes → Routes → Type 0
+Ends job stream change old new =
+    MatchOption change (IsAllSent job stream old new) (λ c. IsChange job stream c old new)
 
 -- the steps that a group may take, and those of the groups from this one on
 abbrev pub cost_at : Option Sizes → ℕ
@@ -61,27 +59,26 @@ unfoldable pub cost_left : List Sizes → ℕ → ℕ
 cost_left tables sent = sum_by words_cost (drop sent tables)
 
 -- the group under this number has the mark and the table of the first pass
-pub record IsSame (source : Source) (marks : List GroupMark) (number : ℕ) (g : CutGroup) : Type 0 where
-  pub mark : mark_at marks number ≡ mark_of g.bytes
-  pub table : slice_get source.tables.items number ≡ Some (table_of source.priority g.cut)
+pub record IsSame (job : Job) (number : ℕ) (g : CutGroup) : Type 0 where
+  pub mark : mark_at job.marks number ≡ mark_of g.bytes
+  pub table : slice_get job.source.tables.items number ≡ Some (table_of job.source.priority g.cut)
 
 -- and its packets were sent
-abbrev pub SendsGroup : Way → Source → List GroupMark → ℕ → CutGroup → Routes → Routes → Type 0
-SendsGroup way source marks number g old new =
-    IsSame source marks number g × Sends way (group_datagrams (encoding_of source number g)) old new
+abbrev pub SendsGroup : Job → ℕ → CutGroup → Routes → Routes → Type 0
+SendsGroup job number g old new =
+    IsSame job number g × Sends job.way (group_datagrams (encoding_of job.source number g)) old new
 
-abbrev pub SendsGroupPart : Way → Source → List GroupMark → ℕ → CutGroup → Routes → Routes → Type 0
-SendsGroupPart way source marks number g old new =
-    IsSame source marks number g × SendsPart way (group_datagrams (encoding_of source number g)) old new
+abbrev pub SendsGroupPart : Job → ℕ → CutGroup → Routes → Routes → Type 0
+SendsGroupPart job number g old new =
+    IsSame job number g × SendsPart job.way (group_datagrams (encoding_of job.source number g)) old new
 
 -- the group is another, or its layers have other lengths; nothing was sent
-pub record Differs (source : Source) (marks : List GroupMark) (number : ℕ) (g : CutGroup) (old new : Routes)
-    (change : Change) : Type 0 where
+pub record Differs (job : Job) (number : ℕ) (g : CutGroup) (old new : Routes) (change : Change) : Type 0 where
   pub group : change.group ≡ number
-  pub first_is : change.first ≡ mark_at marks number
+  pub first_is : change.first ≡ mark_at job.marks number
   pub marked : (change.second ≡ mark_of g.bytes)
-      ⊎ ((change.second ≡ no_mark) × (mark_at marks number ≡ mark_of g.bytes)
-      × (slice_get source.tables.items number ≢ Some (table_of source.priority g.cut)))
+      ⊎ ((change.second ≡ no_mark) × (mark_at job.marks number ≡ mark_of g.bytes)
+      × (slice_get job.source.tables.items number ≢ Some (table_of job.source.priority g.cut)))
   pub differ : change.first ≢ change.second
   pub still : new ≡ old
 

@@ -20,6 +20,7 @@ use Rattle.command_send.specs.declared.command.SendEnd.TheVariants.{BadStream, B
 use Rattle.command_send.specs.declared.fault.SendFault.{SendFault}
 use Rattle.command_send.specs.declared.fault.SendFault.TheVariants as fault
 use Rattle.command_send.specs.Sending.{IsLeastChange, IsFirstPass}
+use Rattle.command_send.specs.inside.Job.{Job}
 use Rattle.command_send.specs.Sends.{packets_file, IsAimedAt, LinkSentAll, LinkSentFirst, HasSentBefore, MayBlame}
 use Rattle.command_send.specs.Sends.{SendsNothing, StreamChanged}
 use Rattle.stream_session.specs.Sessions.{HasSession}
@@ -65,36 +66,41 @@ IsOfReopened stream (OnFile to) b = (b ≡ reading stream) ⊎ (b ≡ writing to
 IsOfReopened stream (OnLink address) b = b ≡ reading stream
 
 -- all packets of the session are sent, where the stream is that of the first pass
-abbrev pub SessionSent : Source → List GroupMark → List ℕ → Way → Routes → Routes → Type 0
-SessionSent source marks stream (OnFile to) old new =
-    (p b : List ℕ) → IsFirstPass p b source marks → IsFile old.place.files stream b
+abbrev pub SessionSentOn : Way → Job → List ℕ → Routes → Routes → Type 0
+SessionSentOn (OnFile to) job stream old new =
+    (p b : List ℕ) → IsFirstPass p b job.source job.marks → IsFile old.place.files stream b
     → Wrote (packets_file to p b ∷ []) None old.place new.place
-SessionSent source marks stream (OnLink address) old new =
-    ((p b : List ℕ) → IsFirstPass p b source marks → IsFile old.place.files stream b
+SessionSentOn (OnLink address) job stream old new =
+    ((p b : List ℕ) → IsFirstPass p b job.source job.marks → IsFile old.place.files stream b
     → LinkSentAll address p b old.place.files old.link new.link)
     × (new.place.files ≡ old.place.files)
 
+abbrev pub SessionSent : Job → List ℕ → Routes → Routes → Type 0
+SessionSent job stream old new = SessionSentOn job.way job stream old new
+
 -- or a front of them
-abbrev pub SessionLeft : Source → List GroupMark → List ℕ → Way → Routes → Routes → Type 0
-SessionLeft source marks stream (OnFile to) old new =
-    (p b : List ℕ) → IsFirstPass p b source marks → IsFile old.place.files stream b
+abbrev pub SessionLeftOn : Way → Job → List ℕ → Routes → Routes → Type 0
+SessionLeftOn (OnFile to) job stream old new =
+    (p b : List ℕ) → IsFirstPass p b job.source job.marks → IsFile old.place.files stream b
     → Wrote [] None old.place new.place ⊎ Wrote [] (Some (packets_file to p b)) old.place new.place
-SessionLeft source marks stream (OnLink address) old new =
-    ((p b : List ℕ) → IsFirstPass p b source marks → IsFile old.place.files stream b
+SessionLeftOn (OnLink address) job stream old new =
+    ((p b : List ℕ) → IsFirstPass p b job.source job.marks → IsFile old.place.files stream b
     → (new.link.sent ≡ old.link.sent) ⊎ LinkSentFirst address p b old.place.files old.link new.link)
     × (new.place.files ≡ old.place.files)
 
--- When the sending stops: the least group whose mark is another in a stream that was read again, which happens only
--- where
+abbrev pub SessionLeft : Job → List ℕ → Routes → Routes → Type 0
+SessionLeft job stream old new = SessionLeftOn job.way job stream old new
+
+-- When the sending stops: the least group whose mark is another in a stream that was read again, which happens only where
 -- the files are not told.
-abbrev pub SessionStops : Source → List GroupMark → List ℕ → Way → Routes → Routes → SendFault → Type 0
-SessionStops source marks stream way old new (fault.Stopped stop) =
-    IsStop (HadFault old.place new.place (IsOfReopened stream way)) (AimedFailed way old.link new.link) ⊥ stop
-SessionStops source marks stream way old new (fault.Changed change) =
-    (again : List ℕ) × (least : IsLeastChange source.priority source.tables.items marks again change)
-    × ((p b : List ℕ) → IsFirstPass p b source marks → IsFile old.place.files stream b
-    → (old.place.files ≡ None) × HasSentBefore p b least.before way old.link new.link)
-SessionStops source marks stream way old new (fault.Source refused) = ⊥
+abbrev pub SessionStops : Job → List ℕ → Routes → Routes → SendFault → Type 0
+SessionStops job stream old new (fault.Stopped stop) =
+    IsStop (HadFault old.place new.place (IsOfReopened stream job.way)) (AimedFailed job.way old.link new.link) ⊥ stop
+SessionStops job stream old new (fault.Changed change) =
+    (again : List ℕ) × (least : IsLeastChange job.source.priority job.source.tables.items job.marks again change)
+    × ((p b : List ℕ) → IsFirstPass p b job.source job.marks → IsFile old.place.files stream b
+    → (old.place.files ≡ None) × HasSentBefore p b least.before job.way old.link new.link)
+SessionStops job stream old new (fault.Source refused) = ⊥
 
 -- when each stop comes
 abbrev pub IsEarlyStop : Routes → Routes → List ℕ → List ℕ → Way → RouteStop → Type 0

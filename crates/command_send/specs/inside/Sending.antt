@@ -5,8 +5,6 @@ use Rattle.pet_base.specs.declared.limits.TheConstants.{MAX_STREAM}
 use Rattle.pet_base.specs.Causes.{Blames}
 use Rattle.pet_base.specs.declared.place.Side.TheVariants.{Read, Written}
 use Rattle.pet_base.specs.Seen.{Seen, Blame, HadFault}
-use Rattle.stream_session.specs.declared.mark.GroupMark.{GroupMark}
-use Rattle.stream_session.specs.declared.source.Source.{Source}
 use Rattle.stream_groups.specs.CutGroups.{CutGroup}
 use Rattle.stream_session.specs.Marks.{mark_at, group_marks}
 use Rattle.command_send.specs.declared.sent_group.Change.{Change}
@@ -14,41 +12,43 @@ use Rattle.command_send.specs.declared.fault.SendFault.{SendFault}
 use Rattle.command_send.specs.declared.fault.SendFault.TheVariants.{Stopped, Source as Refused, Changed}
 use Rattle.outside_files.specs.Outputs.{IsPrefix}
 use Rattle.outside_routes.specs.RouteFaults.{IsStop}
-use Rattle.outside_routes.specs.Sending.{Routes, Sends, SendsPart, SendingFailed}
+use Rattle.outside_routes.specs.Sending.{Routes, Sends, SendsPart, OutputFailed, SendingFailed}
+use Rattle.outside_routes.specs.declared.fault.RouteStop.{RouteStop}
 use Rattle.outside_routes.specs.Way.{Way, OnFile, OnLink}
 use Rattle.command_send.specs.Sending.{sent_datagrams, AgreeBelow, IsFront, AreFound, AreAllFound, IsLeastChange}
 use Rattle.command_send.specs.Sending.{HaveTables}
+use Rattle.command_send.specs.inside.Job.{Job}
 
 -- the groups so far: each has the mark and the table of the first pass, and their packets were sent
-pub record HasSentSome (way : Way) (source : Source) (marks : List GroupMark) (groups : List CutGroup)
+pub record HasSentSome (job : Job) (groups : List CutGroup)
     (old new : Routes) : Type 0 where
-  pub agree : AgreeBelow marks groups (length groups)
-  pub tables : HaveTables source groups
+  pub agree : AgreeBelow job.marks groups (length groups)
+  pub tables : HaveTables job.source groups
   pub target : new.place.target ≡ old.place.target
-  pub sends : Sends way (sent_datagrams source groups) old new
+  pub sends : Sends job.way (sent_datagrams job.source groups) old new
 
 -- The least group whose marks differ: the packets of the groups before it were sent.
-pub record IsChange (way : Way) (source : Source) (marks : List GroupMark) (stream : List ℕ) (change : Change)
+pub record IsChange (job : Job) (stream : List ℕ) (change : Change)
     (old new : Routes) : Type 0 where
-  pub least : IsLeastChange source.priority source.tables.items marks stream change
-  pub sent : HasSentSome way source marks least.before old new
+  pub least : IsLeastChange job.source.priority job.source.tables.items job.marks stream change
+  pub sent : HasSentSome job least.before old new
 
 -- All marks agree: the packets of all groups that both passes found were sent.
-pub record IsAllSent (way : Way) (source : Source) (marks : List GroupMark) (stream : List ℕ)
+pub record IsAllSent (job : Job) (stream : List ℕ)
     (old new : Routes) : Type 0 where
   pub groups : List CutGroup
-  pub all : AreAllFound source.priority stream groups
-  pub sent : HasSentSome way source marks groups old new
-  pub agree : (k : ℕ) → mark_at marks k ≡ mark_at (group_marks groups) k
+  pub all : AreAllFound job.source.priority stream groups
+  pub sent : HasSentSome job groups old new
+  pub agree : (k : ℕ) → mark_at job.marks k ≡ mark_at (group_marks groups) k
 
 -- a front of the packets of groups whose marks and tables agree was sent
-pub record IsPart (way : Way) (source : Source) (marks : List GroupMark) (HoldsOfGroups : List CutGroup → Type 0)
+pub record IsPart (job : Job) (HoldsOfGroups : List CutGroup → Type 0)
     (old new : Routes) : Type 0 where
   pub groups : List CutGroup
   pub first_groups : HoldsOfGroups groups
-  pub agree : AgreeBelow marks groups (length groups)
-  pub tables : HaveTables source groups
-  pub sends : SendsPart way (sent_datagrams source groups) old new
+  pub agree : AgreeBelow job.marks groups (length groups)
+  pub tables : HaveTables job.source groups
+  pub sends : SendsPart job.way (sent_datagrams job.source groups) old new
 
 -- These bytes were taken from the front of the input, to its end or past the most that a stream may have.
 pub record IsTaken (stream : List ℕ) (old new : Seen) : Type 0 where
@@ -57,23 +57,23 @@ pub record IsTaken (stream : List ℕ) (old new : Seen) : Type 0 where
   pub whole : length stream ≤ MAX_STREAM → IsAtEnd new.rest
 
 -- what the pass has done of what it has read, to the end
-pub record HasSentAll (way : Way) (source : Source) (marks : List GroupMark) (old new : Routes) : Type 0 where
+pub record HasSentAll (job : Job) (old new : Routes) : Type 0 where
   pub stream : List ℕ
   pub taken : IsTaken stream old.place new.place
-  pub all : IsAllSent way source marks stream old new
+  pub all : IsAllSent job stream old new
 
-pub record HasSentToChange (way : Way) (source : Source) (marks : List GroupMark) (change : Change)
+pub record HasSentToChange (job : Job) (change : Change)
     (old new : Routes) : Type 0 where
   pub stream : List ℕ
   pub taken : IsTaken stream old.place new.place
-  pub change_is : IsChange way source marks stream change old new
+  pub change_is : IsChange job stream change old new
 
 -- or to a failure
-pub record SentPart (way : Way) (source : Source) (marks : List GroupMark) (old new : Routes) : Type 0 where
+pub record SentPart (job : Job) (old new : Routes) : Type 0 where
   pub stream : List ℕ
   pub read : IfSome old.place.rest (IsPrefix stream)
-  pub part : IsPart way source marks (AreFound source.priority stream) old new
-  pub told : IfSome old.place.rest (λ bytes. IsFront source.priority bytes part.groups)
+  pub part : IsPart job (AreFound job.source.priority stream) old new
+  pub told : IfSome old.place.rest (λ bytes. IsFront job.source.priority bytes part.groups)
 
 -- where a file is written, the output
 abbrev pub IsOfOutput : Way → Seen → Blame → Type 0
@@ -84,13 +84,21 @@ IsOfOutput (OnLink address) place blame = ⊥
 abbrev pub PassFailed : Way → Seen → Seen → Type 0
 PassFailed way old new = HadFault old new (λ blame. Blames Read old.source blame ⊎ IsOfOutput way old blame)
 
+-- when a group's packets stop, and when the pass does
+abbrev pub StopsGroup : Job → Routes → Routes → RouteStop → Type 0
+StopsGroup job old new stop =
+    IsStop (OutputFailed job.way old.place new.place) (SendingFailed job.way old.link new.link) ⊥ stop
+
+abbrev pub StopsPass : Job → Routes → Routes → RouteStop → Type 0
+StopsPass job old new stop =
+    IsStop (PassFailed job.way old.place new.place) (SendingFailed job.way old.link new.link) ⊥ stop
+
 -- when the pass stops with each cause, and what then holds
-abbrev pub IsSendStop : Way → Source → List GroupMark → Routes → Routes → SendFault → Type 0
-IsSendStop way source marks old new (Stopped stop) =
-    IsStop (PassFailed way old.place new.place) (SendingFailed way old.link new.link) ⊥ stop
-    × SentPart way source marks old new
-IsSendStop way source marks old new (Changed change) = HasSentToChange way source marks change old new
-IsSendStop way source marks old new (Refused refusal) = ⊥
+abbrev pub IsSendStop : Job → Routes → Routes → SendFault → Type 0
+IsSendStop job old new (Stopped stop) =
+    StopsPass job old new stop × SentPart job old new
+IsSendStop job old new (Changed change) = HasSentToChange job change old new
+IsSendStop job old new (Refused refusal) = ⊥
 
 -- what the pass may answer where the place tells the stream of the first pass: never a change
 abbrev pub IsToldStop : Way → List (List ℕ) → Routes → Routes → SendFault → Type 0

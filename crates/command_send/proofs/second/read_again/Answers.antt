@@ -1,6 +1,7 @@
 use Rattle.std.proofs.Common.{refl, ◌∙◌, ◌≡◌, ◌++◌, length, take, arith}
 use Rattle.std.proofs.lemmas.List.{length-append, length-take-le}
 use Rattle.pet_base.specs.laws.Through.{on_any_err}
+use Rattle.command_send.specs.inside.Job.{lent}
 use Rattle.command_send.proofs.GroupsSoFar.{stands_known}
 use Rattle.command_send.proofs.Passes.{passes_open, passes_then, passes_reads, passes_grows}
 use Rattle.command_send.proofs.ReadPortions.{part_fed, part_taken, rest_more, stands_read, taken_end}
@@ -12,10 +13,10 @@ pub returns-in_err-count-clause-part : goal.returns-in_err-count-clause-part
 returns-in_err-count-clause-part g c =
     let i = c.loop-read.invariant in
     on_any_err c.from_residual.result
-    (part_taken (way_of c.args.found.now.to) c.args.found.now.source c.args.found.now.marks.items i.stream
-    c.loop-read.pass.change c.loop-read.pass.groups (routes g.P.Place g.K.Link c.args.place.now c.args.link.now)
-    (routes g.P.Place g.K.Link c.loop-read.place c.loop-read.link)
-    (routes g.P.Place g.K.Link c.take_portion.new.place c.loop-read.link)
+    (part_taken (way_of c.args.job.now.to) c.args.job.now.found.source c.args.job.now.found.marks.items i.stream
+    c.loop-read.pass.change c.loop-read.pass.groups (lent c.args.outside.now)
+    (lent c.loop-read.outside)
+    (routes g.P.Place g.K.Link c.take_portion.new.place c.loop-read.outside.link.now)
     i.rest c.take_portion.ensures.others refl i.stands)
 
 pub returns-then-count-eq0-clause-stands : goal.returns-then-count-eq0-clause-stands
@@ -23,54 +24,54 @@ returns-then-count-eq0-clause-stands g c =
     let seen = g.P.Place.seen in
     let i = c.loop-read.invariant in (
       i.stream,
-      taken_end i.stream c.take_portion.new.buffer c.in_ok-count.count (seen c.args.place.now) (seen c.loop-read.place)
+      taken_end i.stream c.take_portion.new.buffer c.in_ok-count.count (seen c.args.outside.now.place.now) (seen c.loop-read.outside.place.now)
           (seen c.take_portion.new.place) i.rest i.few c.in_ok-count.ensures.taken c.if-count-eq0.true
           c.in_ok-count.ensures.end,
-      stands_read (way_of c.args.found.now.to) c.args.found.now.source c.args.found.now.marks.items i.stream
-          c.loop-read.pass.change c.loop-read.pass.groups (routes g.P.Place g.K.Link c.args.place.now c.args.link.now)
-          (routes g.P.Place g.K.Link c.loop-read.place c.loop-read.link)
-          (routes g.P.Place g.K.Link c.take_portion.new.place c.loop-read.link) c.take_portion.ensures.others refl
+      stands_read (way_of c.args.job.now.to) c.args.job.now.found.source c.args.job.now.found.marks.items i.stream
+          c.loop-read.pass.change c.loop-read.pass.groups (lent c.args.outside.now)
+          (lent c.loop-read.outside)
+          (routes g.P.Place g.K.Link c.take_portion.new.place c.loop-read.outside.link.now) c.take_portion.ensures.others refl
           i.stands,
     )
 
 pub feed-requires-clause-open : goal.feed-requires-clause-open
 feed-requires-clause-open g c =
-    let first = routes g.P.Place g.K.Link c.args.place.now c.args.link.now in
-    let before = routes g.P.Place g.K.Link c.loop-read.place c.loop-read.link in
-    let after = routes g.P.Place g.K.Link c.take_portion.new.place c.loop-read.link in
-    passes_open (way_of c.args.found.now.to) first after
+    let first = lent c.args.outside.now in
+    let before = lent c.loop-read.outside in
+    let after = routes g.P.Place g.K.Link c.take_portion.new.place c.loop-read.outside.link.now in
+    passes_open (way_of c.args.job.now.to) first after
     (passes_then first before after c.loop-read.invariant.others
     (passes_reads before after c.take_portion.ensures.others refl c.take_portion.ensures.cause.later)) c.requires.open
 
 pub feed-requires-clause-known : goal.feed-requires-clause-known
 feed-requires-clause-known g c =
-    stands_known (way_of c.args.found.now.to) c.args.found.now.source c.args.found.now.marks.items
+    stands_known (way_of c.args.job.now.to) c.args.job.now.found.source c.args.job.now.found.marks.items
     c.loop-read.invariant.stream c.loop-read.pass.change c.loop-read.pass.groups
-    (routes g.P.Place g.K.Link c.args.place.now c.args.link.now)
-    (routes g.P.Place g.K.Link c.loop-read.place c.loop-read.link) c.loop-read.invariant.stands
+    (lent c.args.outside.now)
+    (lent c.loop-read.outside) c.loop-read.invariant.stands
 
 pub returns-in_err-feed-clause-part : goal.returns-in_err-feed-clause-part
 returns-in_err-feed-clause-part g c =
     let i = c.loop-read.invariant in
-    let first = routes g.P.Place g.K.Link c.args.place.now c.args.link.now in
+    let first = lent c.args.outside.now in
     on_any_err c.from_residual-in_err-feed.result
-    (part_fed (way_of c.args.found.now.to) c.args.found.now.source c.args.found.now.marks.items i.stream
+    (part_fed (way_of c.args.job.now.to) c.args.job.now.found.source c.args.job.now.found.marks.items i.stream
     (take c.in_ok-count.count c.take_portion.new.buffer) c.loop-read.pass.change c.loop-read.pass.groups first
-    (routes g.P.Place g.K.Link c.loop-read.place c.loop-read.link)
-    (routes g.P.Place g.K.Link c.take_portion.new.place c.loop-read.link)
-    (routes g.P.Place g.K.Link c.feed.new.place c.feed.new.link)
+    (lent c.loop-read.outside)
+    (routes g.P.Place g.K.Link c.take_portion.new.place c.loop-read.outside.link.now)
+    (lent c.feed.new.outside)
     i.rest c.in_ok-count.ensures.taken c.take_portion.ensures.others refl i.stands
     (c.in_err-feed.ensures.part i.stream first))
 
 pub loop-read-preserved : goal.loop-read-preserved
 loop-read-preserved g c =
-    let source = c.args.found.now.source in
-    let marks = c.args.found.now.marks.items in
+    let source = c.args.job.now.found.source in
+    let marks = c.args.job.now.found.marks.items in
     let i = c.loop-read.invariant in
-    let first = routes g.P.Place g.K.Link c.args.place.now c.args.link.now in
-    let before = routes g.P.Place g.K.Link c.loop-read.place c.loop-read.link in
-    let after = routes g.P.Place g.K.Link c.take_portion.new.place c.loop-read.link in
-    let now = routes g.P.Place g.K.Link c.feed.new.place c.feed.new.link in
+    let first = lent c.args.outside.now in
+    let before = lent c.loop-read.outside in
+    let after = routes g.P.Place g.K.Link c.take_portion.new.place c.loop-read.outside.link.now in
+    let now = lent c.feed.new.outside in
     let n = c.in_ok-count.count in
     let portion = take n c.take_portion.new.buffer in
     let len : length portion
@@ -85,7 +86,7 @@ loop-read-preserved g c =
           omega (arith, length-append i.stream portion, len, i.count, c.loop-read-test.true, c.in_ok-count.ensures.few);
       stands =
           c.in_ok-feed.ensures.stands i.stream first
-          (stands_read (way_of c.args.found.now.to) source marks i.stream c.loop-read.pass.change
+          (stands_read (way_of c.args.job.now.to) source marks i.stream c.loop-read.pass.change
           c.loop-read.pass.groups first before after c.take_portion.ensures.others refl i.stands);
       others =
           passes_then first after now (passes_then first before after i.others
@@ -93,5 +94,12 @@ loop-read-preserved g c =
           (passes_grows after now c.feed.ensures.others);
       calm_place = c.in_ok-feed.ensures.once_place ∙ c.in_ok-count.ensures.once ∙ i.calm_place;
       calm_link = c.in_ok-feed.ensures.once_link ∙ i.calm_link;
+      same = record {
+        place = c.feed.ensures.same.place ∙ i.same.place;
+        link = c.feed.ensures.same.link ∙ i.same.link;
+        out = c.feed.ensures.same.out ∙ i.same.out;
+        steps = c.feed.ensures.same.steps ∙ i.same.steps;
+      };
+      out = c.feed.ensures.out ∙ i.out;
       left = omega (arith, i.left, c.in_ok-feed.ensures.left);
     }

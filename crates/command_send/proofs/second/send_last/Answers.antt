@@ -5,37 +5,37 @@ use Rattle.stream_groups.specs.Cutting.{AreAll}
 use Rattle.stream_groups.specs.laws.EndedLaws.{given_ended, fault_refuses}
 use Rattle.stream_groups.specs.laws.FilledLaws.{IsFilled, groups_filled}
 use Rattle.stream_groups.specs.laws.FittingLaws.{IsWhole, groups_whole}
+use Rattle.command_send.specs.inside.Job.{lent}
 use Rattle.command_send.proofs.LeastChange.{ends_lost}
 use Rattle.command_send.proofs.FoundGroups.{all_refused}
 use Rattle.command_send.proofs.GroupsSoFar.{part_gone, part_found, left_all}
-use Rattle.outside_routes.specs.Sending.{routes}
 use Rattle.outside_routes.specs.Way.{way_of}
 use Rattle.command_send.proofs.second.send_last.Goals as goal
 
 pub returns-in-NoMemory-clause-part : goal.returns-in-NoMemory-clause-part
 returns-in-NoMemory-clause-part g c stream first h =
-    let source = c.args.found.now.source in
-    let marks = c.args.found.now.marks.items in
-    let now = routes g.P.Place g.K.Link c.args.place.now c.args.link.now in
-    part_found (way_of c.args.found.now.to) source marks stream first now
-    (part_gone (way_of c.args.found.now.to) source marks stream c.args.groups.now first now h)
+    let source = c.args.job.now.found.source in
+    let marks = c.args.job.now.found.marks.items in
+    let now = lent c.args.outside.now in
+    part_found (way_of c.args.job.now.to) source marks stream first now
+    (part_gone (way_of c.args.job.now.to) source marks stream c.args.groups.now first now h)
 
 pub send_left-requires-clause-whole : goal.send_left-requires-clause-whole
 send_left-requires-clause-whole g c =
-    let priority = c.args.found.now.source.priority in
+    let priority = c.args.job.now.found.source.priority in
     left_all (IsWhole (length priority.layers)) priority c.args.groups.now.cutter c.in-Ok.left.items c.deref.result.now
     (groups_whole priority)
     c.requires.known c.in-Ok.ensures.whole c.deref.ensures.value
 
 pub send_left-requires-clause-filled : goal.send_left-requires-clause-filled
 send_left-requires-clause-filled g c =
-    let priority = c.args.found.now.source.priority in
+    let priority = c.args.job.now.found.source.priority in
     left_all IsFilled priority c.args.groups.now.cutter c.in-Ok.left.items c.deref.result.now (groups_filled priority)
     c.requires.known c.in-Ok.ensures.whole c.deref.ensures.value
 
 pub returns-in-Ok-clause-all : goal.returns-in-Ok-clause-all
 returns-in-Ok-clause-all g c =
-    let source = c.args.found.now.source in
+    let source = c.args.job.now.found.source in
     let whole = c.in-Ok.ensures.whole in
     IfOk-weaker c.send_left.result _ _
     (λ after h stream first gone none.
@@ -47,7 +47,7 @@ returns-in-Ok-clause-all g c =
 
 pub returns-in-Ok-clause-part : goal.returns-in-Ok-clause-part
 returns-in-Ok-clause-part g c =
-    let source = c.args.found.now.source in
+    let source = c.args.job.now.found.source in
     let whole = c.in-Ok.ensures.whole in
     on_err_weaker c.send_left.result
     (λ h stream first gone.
@@ -59,10 +59,10 @@ returns-in-Ok-clause-part g c =
 
 pub returns-in_default-clause-all : goal.returns-in_default-clause-all
 returns-in_default-clause-all g c stream first gone none =
-    let source = c.args.found.now.source in
-    let marks = c.args.found.now.marks.items in
-    let now = routes g.P.Place g.K.Link c.args.place.now c.args.link.now in
-    ends_lost (way_of c.args.found.now.to) source marks stream gone.groups c.args.groups.now.sent first now
+    let source = c.args.job.now.found.source in
+    let marks = c.args.job.now.found.marks.items in
+    let now = lent c.args.outside.now in
+    ends_lost (way_of c.args.job.now.to) source marks stream gone.groups c.args.groups.now.sent first now
     c.first_lost.result gone.number gone.sent
     (all_refused source.priority stream gone.groups
     (given_ended c.args.groups.now.cutter source.priority stream gone.groups gone.cut)

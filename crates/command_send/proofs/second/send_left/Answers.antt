@@ -7,11 +7,11 @@ use Rattle.stream_groups.specs.laws.FilledLaws.{IsFilled}
 use Rattle.stream_groups.specs.laws.FittingLaws.{IsWhole}
 use Rattle.command_send.specs.inside.Sending.{HasSentSome}
 use Rattle.command_send.specs.inside.Second.{SendsGroup, Differs}
+use Rattle.command_send.specs.inside.Job.{job, job_of, lent}
 use Rattle.command_send.proofs.LeastChange.{sends_none, sent_within, left_change, ends_lost}
-use Rattle.command_send.proofs.Passes.{stop_on}
+use Rattle.command_send.proofs.Passes.{stop_on, same_then}
 use Rattle.command_send.proofs.FoundGroups.{all_found}
 use Rattle.command_send.proofs.GroupsSoFar.{cost_next, left_part, left_more}
-use Rattle.outside_routes.specs.Sending.{routes}
 use Rattle.outside_routes.specs.Way.{way_of}
 use Rattle.command_send.proofs.second.send_left.Goals as goal
 
@@ -19,10 +19,10 @@ pub returns-in_err-change-clause-part : goal.returns-in_err-change-clause-part
 returns-in_err-change-clause-part g c =
     on_any_err c.from_residual.result
     (λ stream first before at all h.
-    left_part (way_of c.args.found.now.to) c.args.found.now.source c.args.found.now.marks.items stream before
+    left_part (way_of c.args.job.now.to) c.args.job.now.found.source c.args.job.now.found.marks.items stream before
     c.args.groups.now c.loop-group.group-index c.args.from c.loop-group.number c.group-item.result first
-    (routes g.P.Place g.K.Link c.loop-group.place c.loop-group.link)
-    (routes g.P.Place g.K.Link c.send_group.new.place c.send_group.new.link)
+    (lent c.loop-group.outside)
+    (lent c.send_group.new.outside)
     c.loop-group-test.true (sym c.group-item.is) at c.loop-group.invariant.count all
     (c.loop-group.invariant.sent first before at h) c.in_err-change.ensures.part)
 
@@ -32,30 +32,30 @@ returns-in_err-change-clause-cost g c =
       arith,
       c.send_group.ensures.cost,
       c.loop-group.invariant.left,
-      cost_next c.args.found.now.source.tables.items c.loop-group.number,
+      cost_next c.args.job.now.found.source.tables.items c.loop-group.number,
     )
 
 pub returns-then-is_some-clause-all : goal.returns-then-is_some-clause-all
 returns-then-is_some-clause-all g c stream first before at all h =
-    left_change (way_of c.args.found.now.to) c.args.found.now.source c.args.found.now.marks.items stream before
+    left_change (way_of c.args.job.now.to) c.args.job.now.found.source c.args.job.now.found.marks.items stream before
     c.args.groups.now c.loop-group.group-index c.args.from c.loop-group.number c.group-item.result first
-    (routes g.P.Place g.K.Link c.loop-group.place c.loop-group.link)
-    (routes g.P.Place g.K.Link c.send_group.new.place c.send_group.new.link) c.in_ok-change.change
+    (lent c.loop-group.outside)
+    (lent c.send_group.new.outside) c.in_ok-change.change
     (sym c.is_some.ensures ∙ c.if-is_some.true) c.loop-group-test.true
     (sym c.group-item.is) at c.loop-group.invariant.count all
     (c.loop-group.invariant.sent first before at h) c.in_ok-change.ensures.sends
 
 pub loop-group-preserved : goal.loop-group-preserved
 loop-group-preserved g c =
-    let way = way_of c.args.found.now.to in
-    let source = c.args.found.now.source in
-    let marks = c.args.found.now.marks.items in
+    let way = way_of c.args.job.now.to in
+    let source = c.args.job.now.found.source in
+    let marks = c.args.job.now.found.marks.items in
     let number = c.loop-group.number in
     let group = c.group-item.result in
-    let old = routes g.P.Place g.K.Link c.loop-group.place c.loop-group.link in
-    let new = routes g.P.Place g.K.Link c.send_group.new.place c.send_group.new.link in
-    let sends = sends_none (SendsGroup way source marks number group old new)
-    (Differs source marks number group old new) c.in_ok-change.change
+    let old = lent c.loop-group.outside in
+    let new = lent c.send_group.new.outside in
+    let sends = sends_none (SendsGroup (job way source marks) number group old new)
+    (Differs (job way source marks) number group old new) c.in_ok-change.change
     (sym c.is_some.ensures ∙ c.if-is_some.false) c.in_ok-change.ensures.sends in
     record {
       count = omega (arith, c.loop-group.invariant.count);
@@ -65,23 +65,25 @@ loop-group-preserved g c =
           c.loop-group-test.true (sym c.group-item.is) at c.loop-group.invariant.count
           (c.loop-group.invariant.sent first before at h) sends c.send_group.ensures.others.place.target;
       others =
-          grows_then (routes g.P.Place g.K.Link c.args.place.now c.args.link.now) old new c.loop-group.invariant.others
+          grows_then (lent c.args.outside.now) old new c.loop-group.invariant.others
           c.send_group.ensures.others;
       calm_place = c.in_ok-change.ensures.once_place ∙ c.loop-group.invariant.calm_place;
       calm_link = c.in_ok-change.ensures.once_link ∙ c.loop-group.invariant.calm_link;
+      same = same_then c.loop-group.invariant.same c.send_group.ensures.same;
+      out = c.send_group.ensures.out ∙ c.loop-group.invariant.out;
       left =
           omega (arith, c.send_group.ensures.cost, c.loop-group.invariant.left, cost_next source.tables.items number);
     }
 
 pub returns-clause-all : goal.returns-clause-all
 returns-clause-all g c stream first before at all h =
-    let source = c.args.found.now.source in
-    let marks = c.args.found.now.marks.items in
+    let source = c.args.job.now.found.source in
+    let marks = c.args.job.now.found.marks.items in
     let groups = c.args.groups.now in
     let i : ℕ = c.loop-group.group-index in
-    let now = routes g.P.Place g.K.Link c.loop-group.place c.loop-group.link in
+    let now = lent c.loop-group.outside in
     let whole : take i groups ≡ groups = take_all i groups (omega (arith, c.loop-group-test.false)) in
-    ends_lost (way_of c.args.found.now.to) source marks stream
+    ends_lost (way_of c.args.job.now.to) source marks stream
     (before ++ groups) c.loop-group.number first now c.first_lost.result
     (omega (
       arith,
@@ -91,13 +93,13 @@ returns-clause-all g c stream first before at all h =
       c.loop-group-test.false,
       c.loop-group.auto.group-index-end,
     ))
-    (subst (λ (l : List CutGroup). HasSentSome (way_of c.args.found.now.to) source marks (before ++ l) first now) whole
+    (subst (λ (l : List CutGroup). HasSentSome (job_of c.args.job.now) (before ++ l) first now) whole
     (c.loop-group.invariant.sent first before at h))
     (all_found source.priority stream (before ++ groups) all) c.first_lost.ensures.lost c.first_lost.ensures.none
 
 pub send_group-requires-clause-whole : goal.send_group-requires-clause-whole
 send_group-requires-clause-whole g c =
-    subst (IsWhole (length c.args.found.now.source.priority.layers)) (sym c.group-item.is)
+    subst (IsWhole (length c.args.job.now.found.source.priority.layers)) (sym c.group-item.is)
     (c.requires.whole c.loop-group.group-index c.group-item.result c.loop-group-test.true)
 
 pub send_group-requires-clause-filled : goal.send_group-requires-clause-filled
@@ -109,38 +111,38 @@ pub overflow_add-number : goal.overflow_add-number
 overflow_add-number g c =
     omega (
       arith,
-      c.args.found.now.few,
-      sent_within (way_of c.args.found.now.to) c.args.found.now.source c.args.found.now.marks.items c.loop-group.number
-          c.group-item.result (routes g.P.Place g.K.Link c.loop-group.place c.loop-group.link)
-          (routes g.P.Place g.K.Link c.send_group.new.place c.send_group.new.link)
+      c.args.job.now.few,
+      sent_within (way_of c.args.job.now.to) c.args.job.now.found.source c.args.job.now.found.marks.items c.loop-group.number
+          c.group-item.result (lent c.loop-group.outside)
+          (lent c.send_group.new.outside)
           c.in_ok-change.change (sym c.is_some.ensures ∙ c.if-is_some.false) c.in_ok-change.ensures.sends,
     )
 
 pub send_group-requires-clause-open : goal.send_group-requires-clause-open
 send_group-requires-clause-open g c =
-    grows_open (way_of c.args.found.now.to) (routes g.P.Place g.K.Link c.args.place.now c.args.link.now)
-    (routes g.P.Place g.K.Link c.loop-group.place c.loop-group.link) c.loop-group.invariant.others c.requires.open
+    grows_open (way_of c.args.job.now.to) (lent c.args.outside.now)
+    (lent c.loop-group.outside) c.loop-group.invariant.others c.requires.open
 
 pub returns-in_err-change-clause-others : goal.returns-in_err-change-clause-others
 returns-in_err-change-clause-others g c =
-    grows_then (routes g.P.Place g.K.Link c.args.place.now c.args.link.now)
-    (routes g.P.Place g.K.Link c.loop-group.place c.loop-group.link)
-    (routes g.P.Place g.K.Link c.send_group.new.place c.send_group.new.link) c.loop-group.invariant.others
+    grows_then (lent c.args.outside.now)
+    (lent c.loop-group.outside)
+    (lent c.send_group.new.outside) c.loop-group.invariant.others
     c.send_group.ensures.others
 
 pub returns-in_err-change-clause-cause : goal.returns-in_err-change-clause-cause
 returns-in_err-change-clause-cause g c =
-    stop_on (way_of c.args.found.now.to) (routes g.P.Place g.K.Link c.args.place.now c.args.link.now)
-    (routes g.P.Place g.K.Link c.loop-group.place c.loop-group.link)
-    (routes g.P.Place g.K.Link c.send_group.new.place c.send_group.new.link)
+    stop_on (way_of c.args.job.now.to) (lent c.args.outside.now)
+    (lent c.loop-group.outside)
+    (lent c.send_group.new.outside)
     c.from_residual.result c.in_err-change.field-0.0 c.from_residual.ensures.1 c.loop-group.invariant.others
     c.in_err-change.ensures.cause
 
 pub returns-then-is_some-clause-others : goal.returns-then-is_some-clause-others
 returns-then-is_some-clause-others g c =
-    grows_then (routes g.P.Place g.K.Link c.args.place.now c.args.link.now)
-    (routes g.P.Place g.K.Link c.loop-group.place c.loop-group.link)
-    (routes g.P.Place g.K.Link c.send_group.new.place c.send_group.new.link) c.loop-group.invariant.others
+    grows_then (lent c.args.outside.now)
+    (lent c.loop-group.outside)
+    (lent c.send_group.new.outside) c.loop-group.invariant.others
     c.send_group.ensures.others
 
 pub returns-then-is_some-clause-cost : goal.returns-then-is_some-clause-cost
@@ -149,7 +151,7 @@ returns-then-is_some-clause-cost g c =
       arith,
       c.send_group.ensures.cost,
       c.loop-group.invariant.left,
-      cost_next c.args.found.now.source.tables.items c.loop-group.number,
+      cost_next c.args.job.now.found.source.tables.items c.loop-group.number,
     )
 
 pub returns-clause-others : goal.returns-clause-others

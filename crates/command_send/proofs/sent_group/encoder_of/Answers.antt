@@ -8,23 +8,23 @@ use Rattle.command_send.proofs.EncodedGroup.{ok_same, there_at, encoder_is, head
 use Rattle.command_send.proofs.sent_group.encoder_of.Goals as goal
 
 pub message_of-requires : goal.message_of-requires
-message_of-requires c = record { whole = (length c.args.found.now.source.priority.layers, c.requires.whole) }
+message_of-requires c = record { whole = (length c.args.job.now.found.source.priority.layers, c.requires.whole) }
 
 pub new-requires-clause-message : goal.new-requires-clause-message
 new-requires-clause-message c =
     let g = c.args.group.now in
     let bytes : c.deref.result.now ≡ message g.bytes g.cut.runs (length g.cut.lengths) =
     c.deref.ensures.value ∙ c.in_ok-bytes.ensures in
-    let table : c.in_ok-clone.field-0 ≡ table_of c.args.found.now.source.priority g.cut =
+    let table : c.in_ok-clone.field-0 ≡ table_of c.args.job.now.found.source.priority g.cut =
     ok_same c.in_ok-clone.field-0 c.index.result.now c.clone.result c.in_ok-clone.was c.clone.ensures ∙ c.index.ensures
-    ∙ there_at c.args.found.now.source.tables.items c.args.number _ _ c.requires.there in
-    ap length bytes ∙ message_words c.args.found.now.source.priority g c.requires.whole
+    ∙ there_at c.args.job.now.found.source.tables.items c.args.number _ _ c.requires.there in
+    ap length bytes ∙ message_words c.args.job.now.found.source.priority g c.requires.whole
     ∙ ap (λ (t : Sizes). length (needs_of t.layers) * 2) (sym table)
 
 pub returns : goal.returns
 returns c =
     let g = c.args.group.now in
-    let source = c.args.found.now.source in
+    let source = c.args.job.now.found.source in
     let bytes : c.deref.result.now ≡ message g.bytes g.cut.runs (length g.cut.lengths) =
     c.deref.ensures.value ∙ c.in_ok-bytes.ensures in
     let table : c.in_ok-clone.field-0 ≡ table_of source.priority g.cut =

@@ -4,15 +4,15 @@ use Rattle.command_send.proofs.session.read_first.Goals as goal
 
 pub returns-clause-read : goal.returns-clause-read
 returns-clause-read g c =
-    session_read (g.P.Place.seen c.args.place.now) c.args.stream.now c.args.priority.now c.in_ok-marked.marked.source
-    c.in_ok-marked.marked.marks.items c.in_ok-marked.ensures.source
+    session_read (g.P.Place.seen c.args.place.now) c.args.stream.now c.args.priority.now c.in_ok-found.found.source
+    c.in_ok-found.found.marks.items c.in_ok-found.ensures.source
 
 pub invariant_of-result-clause-as_many : goal.invariant_of-result-clause-as_many
 invariant_of-result-clause-as_many g c =
-    as_many (g.P.Place.seen c.args.place.now).files c.args.stream.now c.args.priority.now c.in_ok-marked.marked.source
-    c.in_ok-marked.marked.marks.items c.in_ok-marked.ensures.source.0 c.in_ok-marked.ensures.source.1
+    as_many (g.P.Place.seen c.args.place.now).files c.args.stream.now c.args.priority.now c.in_ok-found.found.source
+    c.in_ok-found.found.marks.items c.in_ok-found.ensures.source.0 c.in_ok-found.ensures.source.1
 
 pub invariant_of-result-clause-few : goal.invariant_of-result-clause-few
 invariant_of-result-clause-few g c =
     few_tables (g.P.Place.seen c.args.place.now).files c.args.stream.now c.args.priority.now
-    c.in_ok-marked.marked.source c.in_ok-marked.ensures.source.0
+    c.in_ok-found.found.source c.in_ok-found.ensures.source.0
