@@ -14,7 +14,7 @@ use Rattle.outside_files.specs.Printed.{Unprinted}
 use Rattle.outside_routes.specs.Way.{Way, OnFile, OnLink}
 use Rattle.outside_routes.specs.Coming.{KeepsFeed}
 use Rattle.outside_routes.specs.declared.fault.RouteStop.TheVariants as stop
-use Rattle.pet_text.specs.Lines.{bound_text}
+use Rattle.outside_routes.specs.Bound.{bound_text}
 use Rattle.command_receive.specs.Opened.{IsOpeningUse, IsUntouched, PrintedPort}
 use Rattle.command_receive.specs.inside.Opened.{Begins, Begun, Opened, StopsOpening}
 

@@ -19,9 +19,9 @@ use Rattle.pet_receive.specs.Arrivals.{ReceiverState, kept_set}
 use Rattle.packet_verdicts.specs.KeptSet.{KeptSet, kept_in_all}
 use Rattle.pet_receive.specs.ShownBytes.{IsComplete, shown_in_all}
 use Rattle.packet_met.specs.Kept.{nothing_of}
-use Rattle.pet_text.specs.Lines.{bound_text}
-use Rattle.command_receive.specs.inside.Numbers.{AreTotals}
-use Rattle.command_receive.specs.declared.reading.Totals.{Totals}
+use Rattle.outside_routes.specs.Bound.{bound_text}
+use Rattle.command_receive.specs.inside.Numbers.{IsReadingOf}
+use Rattle.command_receive.specs.declared.reading.Reading.{Reading}
 use Rattle.command_receive.specs.Opened.{IsBoundTo, KeepsLink, PrintedPort}
 use Rattle.command_receive.specs.inside.Opened.{Begun, Opened}
 use Rattle.store_text.specs.Files.{HasFile, store_file}
@@ -239,47 +239,34 @@ whole_leaves address session layers before opened new o w = record {
       w.puts;
 }
 
--- the whole store is a front of itself
-pub reads_leaves : (from : Way) (session layers store : List ℕ) (before after : OutsideSeen)
-    → Reads from session layers store before after → LeavesLayersFront from session layers store before after
-reads_leaves from session layers store before after r =
-    inr (record {
-      read = r.read;
-      text = r.text;
-      few = r.few;
-      input = r.input;
-      is_text = r.is_text;
-      files =
-          Wrote-as_front (layers_file layers r.text ∷ [])
-          (kept_file store session r.read) before.place after.place r.files;
-    })
-
 -- the numbers that are told after a reading
-numbers_are : (session : List ℕ) (n so sn : ℕ) (totals : Totals) (old new : Seen) (all left : Option (List (List ℕ)))
+reading_is : (session : List ℕ) (n so sn : ℕ) (reading : Reading) (old new : Seen) (all left : Option (List (List ℕ)))
     (r : ReceiverState ℕ) (h : HasReceived (nothing_of session) n old new all left r so sn)
-    → totals.read ≡ n → totals.kept ≡ kept_in_all (kept_set r) → totals.shown ≡ shown_in_all (kept_set r)
-    → (IsTrue totals.complete ↔ IsComplete (kept_set r)) → AreTotals session h.so_far.read totals
-numbers_are session n so sn totals old new all left r h many k s c = record {
-  many = many ∙ sym h.so_far.many;
-  kept = k ∙ ap kept_in_all h.so_far.kept;
-  shown = s ∙ ap shown_in_all h.so_far.kept;
-  complete = subst (λ (set : KeptSet). IsTrue totals.complete ↔ IsComplete set) h.so_far.kept c;
+    → reading.totals.read ≡ n → reading.totals.kept ≡ kept_in_all (kept_set r) → reading.totals.shown ≡ shown_in_all (kept_set r)
+    → (IsTrue reading.complete ↔ IsComplete (kept_set r)) → IsReadingOf session h.so_far.read reading
+reading_is session n so sn reading old new all left r h many k s c = record {
+  totals = record {
+    many = many ∙ sym h.so_far.many;
+    kept = k ∙ ap kept_in_all h.so_far.kept;
+    shown = s ∙ ap shown_in_all h.so_far.kept;
+  };
+  complete = subst (λ (set : KeptSet). IsTrue reading.complete ↔ IsComplete set) h.so_far.kept c;
 }
 
 -- the whole reading, with its numbers
-pub reads_with_totals : (from : Way) (session layers store : List ℕ) (n : ℕ) (totals : Totals)
+pub reads_with_numbers : (from : Way) (session layers store : List ℕ) (n : ℕ) (reading : Reading)
     (before opened new stored : OutsideSeen) (r : ReceiverState ℕ) → Opened from layers before opened
     → opened.steps ≡ before.steps
     → HasReceived (nothing_of session) n opened.place new.place (coming from opened.place opened.link)
     (coming from new.place new.link) r opened.steps new.steps → stored.link ≡ new.link → stored.steps ≡ new.steps
-    → Wrote (store_file store (kept_set r) ∷ []) None new.place stored.place → totals.read ≡ n
-    → totals.kept ≡ kept_in_all (kept_set r) → totals.shown ≡ shown_in_all (kept_set r)
-    → (IsTrue totals.complete ↔ IsComplete (kept_set r))
-    → (reads : Reads from session layers store before stored) × AreTotals session reads.read totals
+    → Wrote (store_file store (kept_set r) ∷ []) None new.place stored.place → reading.totals.read ≡ n
+    → reading.totals.kept ≡ kept_in_all (kept_set r) → reading.totals.shown ≡ shown_in_all (kept_set r)
+    → (IsTrue reading.complete ↔ IsComplete (kept_set r))
+    → (reads : Reads from session layers store before stored) × IsReadingOf session reads.read reading
 unfolding reads_all
-reads_with_totals from session layers store n totals before opened new stored r o steps h link counted written many k s
+reads_with_numbers from session layers store n reading before opened new stored r o steps h link counted written many k s
     c = (
       reads_all from session layers store n before opened new stored r o steps h link counted written,
-      numbers_are session n opened.steps new.steps totals opened.place new.place (coming from opened.place opened.link)
+      reading_is session n opened.steps new.steps reading opened.place new.place (coming from opened.place opened.link)
           (coming from new.place new.link) r h many k s c,
     )

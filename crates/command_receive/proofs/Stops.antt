@@ -96,7 +96,7 @@ stops_opening stop.Place from session layers store before after stops = (
   stops.1,
 )
 stops_opening stop.Link from session layers store before after stops = (stops.2, inl (stops.0, stops.1))
-stops_opening stop.Out from session layers store before after stops = inl stops
+stops_opening stop.Out from session layers store before after stops = stops
 
 -- while datagrams were received
 pub stops_reading : (stop : RouteStop) (from : Way) (session layers store : List ℕ) (before opened new : OutsideSeen)

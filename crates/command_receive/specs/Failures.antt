@@ -5,19 +5,19 @@ use Rattle.command_receive.specs.declared.command.ReceiveEnd.TheVariants.{Done, 
 use Rattle.command_receive.specs.declared.command.ReceiveEnd.TheVariants.{OutFault, Incomplete, TurnsSpent}
 
 abbrev pub end_of_place : ReceiveEnd → Bool
-end_of_place Done = false
+end_of_place (Done totals) = false
 end_of_place NoMemory = false
 end_of_place PlaceFault = true
 end_of_place LinkFault = false
 end_of_place OutFault = false
-end_of_place Incomplete = false
-end_of_place TurnsSpent = false
+end_of_place (Incomplete totals) = false
+end_of_place (TurnsSpent totals) = false
 
 abbrev pub end_of_link : ReceiveEnd → Bool
-end_of_link Done = false
+end_of_link (Done totals) = false
 end_of_link NoMemory = false
 end_of_link PlaceFault = false
 end_of_link LinkFault = true
 end_of_link OutFault = false
-end_of_link Incomplete = false
-end_of_link TurnsSpent = false
+end_of_link (Incomplete totals) = false
+end_of_link (TurnsSpent totals) = false

@@ -51,9 +51,9 @@ pub record NamesStored (session layers store : List ℕ) (before after : Outside
 
 -- so it is at each end that writes both, of a file and of any link, whether or not it tells what came
 abbrev pub NamesWhatItStores : List ℕ → List ℕ → List ℕ → OutsideSeen → OutsideSeen → ReceiveEnd → Type 0
-NamesWhatItStores session layers store before after Done = NamesStored session layers store before after
-NamesWhatItStores session layers store before after Incomplete = NamesStored session layers store before after
-NamesWhatItStores session layers store before after TurnsSpent = NamesStored session layers store before after
+NamesWhatItStores session layers store before after (Done totals) = NamesStored session layers store before after
+NamesWhatItStores session layers store before after (Incomplete totals) = NamesStored session layers store before after
+NamesWhatItStores session layers store before after (TurnsSpent totals) = NamesStored session layers store before after
 NamesWhatItStores session layers store before after NoMemory = Unit {0}
 NamesWhatItStores session layers store before after PlaceFault = Unit {0}
 NamesWhatItStores session layers store before after LinkFault = Unit {0}

@@ -7,7 +7,7 @@ use Rattle.outside_files.specs.Printed.{Printed, Unprinted, PrintedFront}
 use Rattle.outside_files.specs.Uses.{reading, writing}
 use Rattle.outside_routes.specs.Way.{Way, OnFile, OnLink}
 use Rattle.outside_routes.specs.Coming.{KeepsFeed}
-use Rattle.pet_text.specs.Lines.{bound_text}
+use Rattle.outside_routes.specs.Bound.{bound_text}
 
 -- the link is as before, or it may have begun to receive, and datagrams have left it: it has sent nothing, and its
 -- faults do not fall

@@ -1,12 +1,11 @@
 -- What `receive` leaves at each of its ends. This project's own.
-use Rattle.std.specs.Prelude.{◌≡◌, ◌⊎◌, ℕ, ◌+◌, ◌<◌, ◌≤◌, List, [], ◌∷◌, ◌++◌, length, take, Option, None, Some, IfSome}
+use Rattle.std.specs.Prelude.{◌≡◌, ◌⊎◌, ℕ, ◌+◌, ◌<◌, ◌≤◌, List, [], ◌∷◌, ◌++◌, length, Option, None, Some, IfSome}
 use Rattle.pet_base.specs.declared.limits.TheConstants.{MAX_DATAGRAMS}
-use Rattle.pet_base.specs.Causes.{Rose}
 use Rattle.pet_base.specs.Entries.{datagrams}
 use Rattle.pet_base.specs.LinkSeen.{LinkSeen}
 use Rattle.pet_base.specs.OutsideSeen.{OutsideSeen}
 use Rattle.pet_base.specs.Seen.{Blame, HadFault}
-use Rattle.outside_files.specs.Printed.{Printed, Unprinted}
+use Rattle.outside_files.specs.Printed.{Unprinted}
 use Rattle.outside_files.specs.Uses.{reading, writing}
 use Rattle.outside_files.specs.Wrote.{File, Wrote}
 use Rattle.outside_routes.specs.Way.{Way, OnFile, OnLink}
@@ -19,8 +18,9 @@ use Rattle.store_text.specs.Files.{HasFile, store_file}
 use Rattle.packet_met.specs.Kept.{nothing_of, kept_of}
 use Rattle.packet_met.specs.Gf16.{IsLayersText}
 use Rattle.packet_met.specs.Steps.{steps_of_all}
-use Rattle.pet_text.specs.Lines.{bound_text, receive_text}
+use Rattle.outside_routes.specs.Bound.{bound_text}
 use Rattle.command_receive.specs.Opened.{IsBoundTo, IsOpeningUse, IsUntouched, KeepsLink, PortFailed, PrintedPort}
+use Rattle.command_receive.specs.declared.reading.Totals.{Totals}
 use Rattle.command_receive.specs.declared.command.ReceiveEnd.{ReceiveEnd}
 use Rattle.command_receive.specs.declared.command.ReceiveEnd.TheVariants.{Done, NoMemory, PlaceFault, LinkFault}
 use Rattle.command_receive.specs.declared.command.ReceiveEnd.TheVariants.{OutFault, Incomplete, TurnsSpent}
@@ -104,21 +104,16 @@ abbrev pub LeavesLayersFront : Way → List ℕ → List ℕ → List ℕ → Ou
 LeavesLayersFront from session layers store before after =
     ReadsFront from session layers before after ⊎ StoresFront from session layers store before after
 
--- the line of the numbers
-abbrev pub numbers_text : List ℕ → List (List ℕ) → List ℕ
-numbers_text session read =
-    receive_text (length read) (kept_in_all (kept_of session read)) (shown_in_all (kept_of session read))
+-- the numbers of these datagrams: how many they are, how many packets of them are kept, and how many layers are shown
+pub record AreTotals (session : List ℕ) (read : List (List ℕ)) (totals : Totals) : Type 0 where
+  pub many : totals.read ≡ length read
+  pub kept : totals.kept ≡ kept_in_all (kept_of session read)
+  pub shown : totals.shown ≡ shown_in_all (kept_of session read)
 
--- the line before it: of a link the port at which it receives
+-- the line that is printed first: of a link the port at which it receives
 abbrev pub port_line : Way → LinkSeen → List ℕ
 port_line (OnFile name) link = []
 port_line (OnLink address) link = bound_text link.port
-
--- some lines were printed, and then a front of this one, at which the output failed
-pub record PrintedFrontBehind (lines text : List ℕ) (before after : OutsideSeen) : Type 0 where
-  pub count : ℕ
-  pub printed : Printed (lines ++ take count text) before after
-  pub rose : Rose before.out_faults after.out_faults
 
 -- the files that are read and written
 abbrev pub uses_of : Way → List ℕ → List ℕ → List Blame
@@ -131,29 +126,24 @@ IsUseInTurn from layers store before after blame =
     IsOpeningUse from layers blame
     ⊎ ((blame ≡ writing store) × ((read : List (List ℕ)) × IsRead from read before after))
 
--- At an end that tells of what was read, the datagrams were read, LAYERS and STORE are whole and the line of the
--- numbers was printed, or
--- a front of it where the output failed. Where memory or the place failed LAYERS, or then STORE, has at most a front;
--- where the link failed
--- LAYERS has the whole text of what came; and the line of the numbers was not printed. Of a link the line of the port
--- was printed before
--- LAYERS was made.
+-- At an end with numbers the datagrams were read, LAYERS and STORE are whole, and these are the numbers of what was read.
+-- Where memory or the place failed LAYERS, or then STORE, has at most a front; where the link failed LAYERS has the
+-- whole text of what came. Nothing is printed but the line of the port of a link, before LAYERS is made; where the
+-- output failed there, no file was made.
 abbrev pub EndsReceive : Way → List ℕ → List ℕ → List ℕ → OutsideSeen → OutsideSeen → ReceiveEnd → Type 0
-EndsReceive from session layers store before after Done =
+EndsReceive from session layers store before after (Done totals) =
     (r : Reads from session layers store before after)
     × (length r.read < MAX_DATAGRAMS) × IsComplete (kept_of session r.read)
-    × Printed (port_line from after.link ++ numbers_text session r.read) before after
-EndsReceive from session layers store before after Incomplete =
+    × AreTotals session r.read totals × PrintedPort from before after
+EndsReceive from session layers store before after (Incomplete totals) =
     (r : Reads from session layers store before after)
     × (length r.read < MAX_DATAGRAMS) × (IsComplete (kept_of session r.read) → ⊥)
-    × Printed (port_line from after.link ++ numbers_text session r.read) before after
-EndsReceive from session layers store before after TurnsSpent =
+    × AreTotals session r.read totals × PrintedPort from before after
+EndsReceive from session layers store before after (TurnsSpent totals) =
     (r : Reads from session layers store before after)
-    × (length r.read ≡ MAX_DATAGRAMS) × Printed (port_line from after.link ++ numbers_text session r.read) before after
+    × (length r.read ≡ MAX_DATAGRAMS) × AreTotals session r.read totals × PrintedPort from before after
 EndsReceive from session layers store before after OutFault =
-    (IsUntouched from before after × PortFailed from before after)
-    ⊎ ((r : Reads from session layers store before after)
-    × PrintedFrontBehind (port_line from after.link) (numbers_text session r.read) before after)
+    IsUntouched from before after × PortFailed from before after
 EndsReceive from session layers store before after NoMemory =
     (IsUntouched from before after × Unprinted before after)
     ⊎ (LeavesLayersFront from session layers store before after × PrintedPort from before after)
@@ -170,9 +160,9 @@ EndsReceive from session layers store before after LinkFault =
 -- and a failure of
 -- the link, may come before, and then nothing has left it.
 abbrev pub IsBoundAtEnd : Way → LinkSeen → LinkSeen → ReceiveEnd → Type 0
-IsBoundAtEnd from old new Done = IsBoundTo from old new
-IsBoundAtEnd from old new Incomplete = IsBoundTo from old new
-IsBoundAtEnd from old new TurnsSpent = IsBoundTo from old new
+IsBoundAtEnd from old new (Done totals) = IsBoundTo from old new
+IsBoundAtEnd from old new (Incomplete totals) = IsBoundTo from old new
+IsBoundAtEnd from old new (TurnsSpent totals) = IsBoundTo from old new
 IsBoundAtEnd from old new OutFault = IsBoundTo from old new
 IsBoundAtEnd from old new PlaceFault = IsBoundTo from old new
 IsBoundAtEnd from old new NoMemory = KeepsFeed from old new ⊎ IsBoundTo from old new

@@ -1,10 +1,9 @@
 -- The headline of `receive`. This project's own.
-use Rattle.std.specs.Prelude.{◌≡◌, ◌≢◌, ℕ, ◌<◌, List, ◌++◌, length, All, None, Some, if◌then◌else◌}
+use Rattle.std.specs.Prelude.{◌≡◌, ◌≢◌, ℕ, ◌<◌, List, length, All, None, Some, if◌then◌else◌}
 use Rattle.pet_base.specs.declared.limits.TheConstants.{MAX_SESSION, MAX_DATAGRAMS}
 use Rattle.pet_base.specs.Entries.{datagrams}
 use Rattle.pet_base.specs.OutsideSeen.{OutsideSeen}
 use Rattle.pet_base.specs.Seen.{Files, with_file}
-use Rattle.outside_files.specs.Printed.{Printed}
 use Rattle.outside_files.specs.Uses.{IsWell}
 use Rattle.outside_routes.specs.Way.{Way, OnFile, OnLink}
 use Rattle.outside_routes.specs.RouteFaults.{BoundFailed}
@@ -14,9 +13,9 @@ use Rattle.packet_met.specs.FewestStripes.{CarriesFewestStripes}
 use Rattle.packet_met.specs.Gf16.{IsItsPacket}
 use Rattle.packet_met.specs.Met.{layers_text, met_in, all_shown, count_met, count_shown}
 use Rattle.packet_met.specs.MetStore.{session_store}
-use Rattle.pet_text.specs.Lines.{receive_text}
-use Rattle.command_receive.specs.Opened.{IsBoundTo}
-use Rattle.command_receive.specs.Receives.{port_line, uses_of}
+use Rattle.command_receive.specs.Opened.{IsBoundTo, PrintedPort}
+use Rattle.command_receive.specs.Receives.{uses_of}
+use Rattle.command_receive.specs.declared.reading.Totals.{Totals}
 use Rattle.command_receive.specs.declared.command.ReceiveEnd.{ReceiveEnd}
 use Rattle.command_receive.specs.declared.command.ReceiveEnd.TheVariants.{Done, NoMemory, Incomplete}
 
@@ -46,29 +45,34 @@ pub record CanReceive (s : Session) (from : Way) (layers store : List ℕ) (file
   pub link : BoundFailed from before.link after.link → ⊥
   pub given : HasPacketsOf s from files ds before
 
--- the line of the numbers, by the packets that were met
-abbrev pub session_numbers : Session → List (List ℕ) → List ℕ
-session_numbers s ds = receive_text (length ds) (count_met s (met_in s.number ds)) (count_shown s (met_in s.number ds))
+-- the numbers of a session's datagrams, by the packets that were met
+abbrev pub session_totals : Session → List (List ℕ) → Totals
+session_totals s ds = record {
+  read = length ds;
+  kept = count_met s (met_in s.number ds);
+  shown = count_shown s (met_in s.number ds);
+}
+
+-- the end: Done exactly where every layer of every group is shown, and else Incomplete
+abbrev pub session_end : Session → List (List ℕ) → ReceiveEnd
+session_end s ds =
+    if all_shown s (met_in s.number ds) then Done (session_totals s ds) else Incomplete (session_totals s ds)
 
 -- The headline: LAYERS has each shown layer's exact bytes once, numbered by the arrival at which the group's distinct
--- packets reached
--- the layer's count; STORE is the store of the session's packets that were met; the end is Done exactly where every
--- layer of every
--- group is shown, and else Incomplete; the link, where FROM is one, receives at its address; the lines printed are the
--- defined ones;
--- and the packets of each group carry the fewest stripes.
+-- packets reached the layer's count, STORE is the store of the session's packets that were met, and no other file has
+-- changed; the link, where FROM is one, receives at its address; and the packets of each group carry the fewest stripes,
+-- of which no layer's count is above its declared need.
 pub record ReceivesSession (s : Session) (from : Way) (layers store : List ℕ) (files : Files) (ds : List (List ℕ))
-    (before after : OutsideSeen) (end : ReceiveEnd) : Type 0 where
+    (before after : OutsideSeen) : Type 0 where
   pub written : after.place.files
       ≡ Some (with_file store (session_store s ds) (with_file layers (layers_text s ds) files))
-  pub ended : end ≡ (if all_shown s (met_in s.number ds) then Done else Incomplete)
   pub listens : IsBoundTo from before.link after.link
-  pub printed : Printed (port_line from after.link ++ session_numbers s ds) before after
   pub fewest : All CarriesFewestStripes s.groups
 
--- so it is for every session and every such FROM
+-- so it is for every session and every such FROM, with this end, and nothing but the line of the port was printed
 abbrev pub CompletesReceive : Way → List ℕ → List ℕ → List ℕ → OutsideSeen → OutsideSeen → ReceiveEnd → Type 0
 CompletesReceive from session layers store before after end =
     (s : Session) (files : Files) (ds : List (List ℕ)) → session ≡ s.number
     → CanReceive s from layers store files ds before after end
-    → ReceivesSession s from layers store files ds before after end
+    → ReceivesSession s from layers store files ds before after
+    × (end ≡ session_end s ds) × PrintedPort from before after

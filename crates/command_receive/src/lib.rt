@@ -4,8 +4,9 @@
 //!
 //! What it leaves at each of its ends stands in `specs/Receives.antt`: which datagrams were read or
 //! have left the link, that LAYERS has their layers text or a front of it, that STORE then has the
-//! store of what was kept or a front of it, what was printed, what may be blamed, and how many
-//! field steps were counted at most. The first failure of a file or of the link ends it
+//! store of what was kept or a front of it, the numbers of what was read, what may be blamed, and
+//! how many field steps were counted at most. It prints the port at which a link receives, and
+//! nothing else. The first failure of a file or of the link ends it
 //! (`specs/Failures.antt` says which ends tell of one). That LAYERS names exactly the layers that
 //! STORE shows, each once, stands in `specs/NamedLayers.antt`. The headline stands in
 //! `specs/ReceivesSession.antt`: for every session, and every list of datagrams whose frames with
@@ -20,3 +21,4 @@ mod opening;
 mod reading;
 
 pub use command::{ReceiveEnd, receive};
+pub use reading::Totals;

@@ -6,13 +6,12 @@ ghost use Rattle.pet_base.specs.LinkSeen.{LinkStops};
 ghost use Rattle.pet_base.specs.Seen.{PlaceStops};
 ghost use Rattle.outside_routes.specs.RouteFaults.{stop_of_a_place, stop_of_a_link};
 ghost use Rattle.outside_routes.specs.Way.{OnFile, OnLink, way_of};
-ghost use Rattle.pet_text.specs.Lines.{bound_text};
+ghost use Rattle.outside_routes.specs.Bound.{bound_text};
 ghost use Rattle.command_receive.specs.Opened.{IsUntouched};
 ghost use Rattle.command_receive.specs.inside.Opened.{Begins, IsBoundWhereStopped, OnlyOpens, Opened, StopsOpening};
 
-use outside_routes::{Route, RouteStop};
+use outside_routes::{Route, RouteStop, bound_line};
 use pet_base::{Link, NoMemory, Outside, Place, Sink};
-use pet_text::bound_line;
 use std::alloc::Global;
 use std::sync::ledger::Ledger;
 

@@ -20,7 +20,7 @@ ghost use Rattle.outside_routes.specs.RouteFaults.{IsStop, ReceivingFailed, stop
 ghost use Rattle.packet_met.specs.Gf16.{HasKeptIn, IsTextAt};
 ghost use Rattle.packet_met.specs.LayersText.{order_after};
 ghost use Rattle.packet_met.specs.Steps.{steps_of};
-ghost use Rattle.command_receive.specs.inside.Numbers.{AreTotals, end_of};
+ghost use Rattle.command_receive.specs.inside.Numbers.{IsReadingOf, end_of};
 ghost use Rattle.command_receive.specs.Opened.{IsBoundTo, KeepsLink, PrintedPort};
 ghost use Rattle.command_receive.specs.inside.Opened.{IsBoundWhereStopped, OnlyOpens, Opened};
 ghost use Rattle.command_receive.specs.Receives.{Reads, EndsReceive};
@@ -39,15 +39,22 @@ use std::alloc::{AllocError, Global};
 use std::sync::ledger::Ledger;
 use store_merge::write_store_file;
 
+/// The numbers of a reading, as its line tells them.
+#[derive(Clone, Copy, Debug, PartialEq, Eq)]
+pub struct Totals {
+    /// How many datagrams were read, at most 16,777,216.
+    pub read: u32,
+    /// How many packets are kept.
+    pub kept: u32,
+    /// How many layers are shown.
+    pub shown: u32,
+}
+
 /// What a reading comes to.
 #[derive(Clone, Copy)]
-pub(crate) struct Totals {
-    /// How many datagrams were read.
-    pub(crate) read: u32,
-    /// How many packets are kept.
-    pub(crate) kept: u32,
-    /// How many layers are shown.
-    pub(crate) shown: u32,
+pub(crate) struct Reading {
+    /// Its numbers.
+    pub(crate) totals: Totals,
     /// Whether every layer of every group is shown.
     pub(crate) complete: bool,
 }
@@ -60,9 +67,9 @@ pub(crate) fn read_all<P: Place, K: Link, S: Sink, L: Ledger>(
     layers: &str,
     store: &str,
     outside: &mut Outside<P, K, S, L>,
-) -> Result<Totals, RouteStop>
-    ensures done { IfOk result (λ totals. (r : Reads (way_of from.entry) session layers.now
-        store.now (seen outside.old) (seen outside.new)) × AreTotals session r.read totals
+) -> Result<Reading, RouteStop>
+    ensures done { IfOk result (λ reading. (r : Reads (way_of from.entry) session layers.now
+        store.now (seen outside.old) (seen outside.new)) × IsReadingOf session r.read reading
         × PrintedPort (way_of from.entry) (seen outside.old) (seen outside.new)) }
     ensures stop { IfErr result (λ stop. EndsReceive (way_of from.entry) session layers.now
         store.now (seen outside.old) (seen outside.new) (end_of stop)) }
@@ -93,15 +100,15 @@ fn read_opened<P: Place, K: Link, S: Sink, L: Ledger>(
     field: &Gf16Tables,
     buffer: &mut [u8],
     outside: &mut Outside<P, K, S, L>,
-) -> Result<Totals, RouteStop>
+) -> Result<Reading, RouteStop>
     requires input { HasInput (way_of from) (seen outside.old).place }
     requires output { (seen outside.old).place.has_output ≡ true }
     requires room { MAX_ENTRY ≤ length buffer.old }
-    ensures done { IfOk result (λ totals. (layers : List ℕ) (before : OutsideSeen)
+    ensures done { IfOk result (λ reading. (layers : List ℕ) (before : OutsideSeen)
         → Opened (way_of from.entry) layers before (seen outside.old)
         → OnlyOpens (way_of from.entry) before (seen outside.old)
         → (r : Reads (way_of from.entry) session layers store.now before (seen outside.new))
-        × AreTotals session r.read totals
+        × IsReadingOf session r.read reading
         × PrintedPort (way_of from.entry) before (seen outside.new)) }
     ensures stop { IfErr result (λ stop. (layers : List ℕ) (before : OutsideSeen)
         → Opened (way_of from.entry) layers before (seen outside.old)
@@ -127,20 +134,22 @@ fn read_opened<P: Place, K: Link, S: Sink, L: Ledger>(
         outside.steps,
     )?;
     write_store_file(alloc, &receiver, store, outside.place)?;
-    Ok(totals_of(&receiver, read))
+    Ok(reading_of(&receiver, read))
 }
 
 /// What so many datagrams come to, by what is kept of them.
-fn totals_of(receiver: &Receiver<'_, Gf16Tables>, read: u32) -> Totals
-    ensures read { result.read ≡ read }
-    ensures kept { result.kept ≡ kept_in_all (kept_set receiver.now) }
-    ensures shown { result.shown ≡ shown_in_all (kept_set receiver.now) }
+fn reading_of(receiver: &Receiver<'_, Gf16Tables>, read: u32) -> Reading
+    ensures read { result.totals.read ≡ read }
+    ensures kept { result.totals.kept ≡ kept_in_all (kept_set receiver.now) }
+    ensures shown { result.totals.shown ≡ shown_in_all (kept_set receiver.now) }
     ensures complete { IsTrue result.complete ↔ IsComplete (kept_set receiver.now) }
 {
-    Totals {
-        read,
-        kept: receiver.kept(),
-        shown: receiver.shown(),
+    Reading {
+        totals: Totals {
+            read,
+            kept: receiver.kept(),
+            shown: receiver.shown(),
+        },
         complete: receiver.complete(),
     }
 }

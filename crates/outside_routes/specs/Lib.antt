@@ -1,5 +1,6 @@
 pub mod Way
 pub mod Address
+pub mod Bound
 pub mod Coming
 pub mod RouteFaults
 pub mod Sending

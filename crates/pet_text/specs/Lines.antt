@@ -1,10 +1,6 @@
 -- The lines of commands. This project's own.
 use Rattle.std.specs.Prelude.{ℕ, List, ◌++◌, codes, decimal}
 
--- the port at which a link receives
-abbrev pub bound_text : ℕ → List ℕ
-bound_text port = codes "bound " ++ decimal port ++ codes "\n"
-
 -- how many datagrams were read, how many packets are kept, and how many layers were shown
 abbrev pub receive_text : ℕ → ℕ → ℕ → List ℕ
 receive_text read kept shown =

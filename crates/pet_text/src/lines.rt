@@ -1,39 +1,10 @@
 //! The printed lines.
-ghost use Rattle.std.specs.Prelude.{◌≡◌, ◌++◌, [], OnOk, OnErr};
+ghost use Rattle.std.specs.Prelude.{◌≡◌, []};
 ghost use Rattle.text_plan.specs.PlanLines.{least_text, send_text};
-ghost use Rattle.pet_text.specs.Lines.{bound_text, receive_text, merged_text, video_text, unwrapped_text, wrapped_text, migrated_text};
+ghost use Rattle.pet_text.specs.Lines.{receive_text, merged_text, video_text, unwrapped_text, wrapped_text, migrated_text};
 
 use arrayvec::ArrayVec;
-use pet_base::NoMemory;
-use std::alloc::Global;
 use text_pieces::{append_count, append_session, append_text, number_line};
-
-/// Appends the line of the port at which a link receives. After a refusal `into` is as before.
-pub fn bound_line(alloc: Global, port: u16, into: &mut Vec<u8>) -> Result<(), NoMemory>
-    ensures ok { OnOk result (into.new.items ≡ into.old.items ++ bound_text port) }
-    ensures err { OnErr result (into.new.items ≡ into.old.items) }
-{
-    let line = format!(in alloc; "bound {port}\n")?;
-    into.extend_from_slice(line.as_bytes())?;
-    Ok(())
-}
-
-/// Appends the line of `receive`: how many datagrams were read, how many packets are kept and how many layers were
-/// shown. After a refusal `into` is as before.
-pub fn receive_line(
-    alloc: Global,
-    read: u32,
-    kept: u32,
-    shown: u32,
-    into: &mut Vec<u8>,
-) -> Result<(), NoMemory>
-    ensures ok { OnOk result (into.new.items ≡ into.old.items ++ receive_text read kept shown) }
-    ensures err { OnErr result (into.new.items ≡ into.old.items) }
-{
-    let line = format!(in alloc; "read {read} kept {kept} shown {shown}\n")?;
-    into.extend_from_slice(line.as_bytes())?;
-    Ok(())
-}
 
 /// Leaves the line of `check` in `into`, which must be empty: for how many groups the lists are certificates. It takes no memory.
 pub fn least_line(groups: u32, into: &mut ArrayVec<u8, 64>)
@@ -55,6 +26,21 @@ pub fn send_line(session: &[u8; 8], groups: u32, datagrams: u32, into: &mut Arra
     append_count(groups, into);
     append_text(" datagrams ", into);
     append_count(datagrams, into);
+    append_text("\n", into);
+}
+
+/// Leaves the line of `receive` in `into`, which must be empty: how many datagrams were read, how many packets are kept and how
+/// many layers are shown. It takes no memory.
+pub fn receive_line(read: u32, kept: u32, shown: u32, into: &mut ArrayVec<u8, 64>)
+    requires { into.old.items ≡ [] }
+    ensures { into.new.items ≡ receive_text read kept shown }
+{
+    append_text("read ", into);
+    append_count(read, into);
+    append_text(" kept ", into);
+    append_count(kept, into);
+    append_text(" shown ", into);
+    append_count(shown, into);
     append_text("\n", into);
 }
 

@@ -1,6 +1,6 @@
 -- What each command completes follows from what it does.
 use Rattle.std.proofs.Common.{◌≡◌, ℕ, Bool, true, false, List, [], ◌∷◌, ◌++◌, ◌⊎◌, length, Option, None, Some, refl}
-use Rattle.std.proofs.Common.{sym, ap, subst, ◌∙◌, inl, inr}
+use Rattle.std.proofs.Common.{sym, ap, append_assoc, subst, ◌∙◌, inl, inr, ◌≢◌}
 use Rattle.std.proofs.lemmas.List.Elements.{All-contains}
 use Rattle.std.specs.Prelude.{if◌then◌else◌}
 use Rattle.std.specs.Io.KnownBytes.{append_known}
@@ -11,7 +11,8 @@ use Rattle.pet_base.specs.LinkSeen.{LinkSeen}
 use Rattle.pet_base.specs.Seen.{Files, Seen, with_file}
 use Rattle.outside_files.specs.Uses.{reading, writing, Failed}
 use Rattle.outside_files.specs.Wrote.{Wrote}
-use Rattle.packet_session.specs.Session.{IsSession}
+use Rattle.outside_files.specs.laws.PrintedLaws.{Rose-before, Rose-since}
+use Rattle.packet_session.specs.Session.{IsSession, Session}
 use Rattle.packet_session.specs.Datagrams.{datagrams_text, IsItsDatagram}
 use Rattle.packet_session.specs.laws.SentLaws.{sent_are_packets}
 use Rattle.text_plan.specs.PlanLines.{send_text}
@@ -27,10 +28,11 @@ use Rattle.command_receive.specs.declared.command.ReceiveEnd.{ReceiveEnd}
 use Rattle.command_receive.specs.declared.command.ReceiveEnd.TheVariants as receive
 use Rattle.command_receive.specs.NamedLayers.{NamesStored, NamesWhatItStores as EndNames}
 use Rattle.command_receive.specs.laws.NamedLaws.{names_what_it_stores}
-use Rattle.command_receive.specs.Opened.{IsBoundTo}
-use Rattle.command_receive.specs.Receives.{Receives}
-use Rattle.command_receive.specs.ReceivesSession.{HasPacketsOf}
-use Rattle.command_receive.specs.laws.LineLaws.{can_receive_before, received_with_line}
+use Rattle.command_receive.specs.Opened.{IsBoundTo, PrintedPort}
+use Rattle.command_receive.specs.Receives.{Receives, port_line, uses_of}
+use Rattle.command_receive.specs.ReceivesSession.{HasPacketsOf, ReceivesSession, session_totals}
+use Rattle.command_receive.specs.declared.reading.Totals.{Totals}
+use Rattle.command_receive.specs.laws.LineLaws.{port_then}
 use Rattle.command_receive.specs.laws.SessionReceived.{completes_receive}
 use Rattle.command_merge.specs.Merges.{Merges}
 use Rattle.command_merge.specs.laws.SessionMerged.{completes_merge}
@@ -40,17 +42,17 @@ use Rattle.command_video.specs.Videos.{Videos}
 use Rattle.command_video.specs.VideosSession.{HasStoreOf, VideosSession}
 use Rattle.command_video.specs.laws.SessionVideo.{completes_video}
 use Rattle.command_video.specs.StreamVideo.{stream_video}
-use Rattle.packet_met.specs.Met.{Pair, all_shown}
+use Rattle.packet_met.specs.Met.{Pair, all_shown, met_in}
 use Rattle.command_send.specs.Sends.{IsAimedAt, IsSentOf, Sends, packets_file, packets_in, sent_line_text}
 use Rattle.command_send.specs.SendsSession.{SendsAll, uses}
 use Rattle.command_send.specs.declared.session.Sent.{Sent as SentNumbers}
 use Rattle.command_send.specs.laws.EndLaws.{sends_session}
 use Rattle.text_status.specs.declared.status.Status.{Status}
-use Rattle.text_status.specs.declared.status.Status.TheVariants.{Done, Incomplete, TurnsSpent}
+use Rattle.text_status.specs.declared.status.Status.TheVariants.{Done, Incomplete, OutFault, TurnsSpent}
 use Rattle.pet_text.specs.declared.words.Command.{Command}
 use Rattle.pet_text.specs.declared.words.Command.TheVariants.{Plan, Check, Send, Receive, Merge, Video, Unwrap, Wrap}
 use Rattle.pet_text.specs.declared.words.Command.TheVariants.{Migrate}
-use Rattle.outside_routes.specs.RouteFaults.{AimedFailed}
+use Rattle.outside_routes.specs.RouteFaults.{AimedFailed, BoundFailed}
 use Rattle.outside_routes.specs.Sending.{Sent}
 use Rattle.outside_routes.specs.Way.{Way, OnFile, OnLink}
 use Rattle.pet_text.specs.Ends.{way_in}
@@ -62,10 +64,11 @@ use Rattle.pet_tool.specs.declared.end.End.{End}
 use Rattle.pet_tool.specs.declared.end.End.TheVariants as end
 use Rattle.pet_tool.specs.Does.{Does, Runs, OnFiles, OnRead}
 use Rattle.pet_tool.specs.Lines.{line_of, line_of_plan, line_of_check, line_of_send, line_of_merge, line_of_video}
-use Rattle.pet_tool.specs.Lines.{line_of_migrate}
+use Rattle.pet_tool.specs.Lines.{line_of_receive, line_of_migrate, totals_text}
 use Rattle.pet_tool.proofs.SystemCompleted.{unwrap_completes, wrap_completes}
-use Rattle.pet_tool.proofs.Telling.{silent, told, Told}
+use Rattle.pet_tool.proofs.Telling.{ended_as, told, Told}
 use Rattle.pet_tool.specs.Headline.{Headline, HasWhatWasSent, NamesWhatItStores, ReceivesWhatWasSent}
+use Rattle.pet_tool.specs.Headline.{session_numbers}
 use Rattle.pet_tool.specs.Statuses.{status_of, status_of_plan, status_of_check, status_of_send, status_of_receive}
 use Rattle.pet_tool.specs.Statuses.{status_of_merge, status_of_video, status_of_migrate}
 use Rattle.pet_tool.specs.Undisturbed.{IsUndisturbed, EndsWith}
@@ -160,34 +163,68 @@ send_completes stream priority to before after status runs = λ p b calm given.
           (ap status_of_send sent.ended) (ap line_of_send sent.ended ∙ sent_text p b sent.sent sent.is),
     )
 
--- the status of the end by whether all layers are shown
-shown_status : (all : Bool)
-    → status_of_receive (if all then receive.Done else receive.Incomplete) ≡ (if all then Done else Incomplete)
-shown_status true = refl
-shown_status false = refl
+-- the status and the line of the end, by whether all layers are shown
+shown_status : (all : Bool) (totals : Totals)
+    → status_of_receive (if all then receive.Done totals else receive.Incomplete totals)
+    ≡ (if all then Done else Incomplete)
+shown_status true totals = refl
+shown_status false totals = refl
+
+shown_line : (all : Bool) (totals : Totals)
+    → line_of_receive (if all then receive.Done totals else receive.Incomplete totals) ≡ totals_text totals
+shown_line true totals = refl
+shown_line false totals = refl
+
+-- what was left stays so behind the lines
+still_left : (s : Session) (from : Way) (layers store : List ℕ) (files : Files) (ds : List (List ℕ))
+    (before between after : OutsideSeen) → after.place ≡ between.place → after.link ≡ between.link
+    → ReceivesSession s from layers store files ds before between
+    → ReceivesSession s from layers store files ds before after
+still_left s from layers store files ds before between after place link left = record {
+  written = ap (λ (now : Seen). now.files) place ∙ left.written;
+  listens = subst (IsBoundTo from before.link) (sym link) left.listens;
+  fewest = left.fewest;
+}
+
+-- the line of the port, that of the end, and that of the status
+lines_told : (from : Way) (line numbers of_status : List ℕ) (before between after : OutsideSeen)
+    → PrintedPort from before between → after.written ≡ append_known between.written (line ++ of_status)
+    → after.link ≡ between.link → line ≡ numbers
+    → after.written ≡ append_known before.written ((port_line from after.link ++ numbers) ++ of_status)
+lines_told from line numbers of_status before between after port printed link is =
+    port_then from (line ++ of_status) before between after.written port printed
+    ∙ ap (append_known before.written) (sym (append_assoc (port_line from between.link) line of_status))
+    ∙ ap (λ (l : LinkSeen). append_known before.written ((port_line from l ++ line) ++ of_status)) (sym link)
+    ∙ ap (λ (t : List ℕ). append_known before.written ((port_line from after.link ++ t) ++ of_status)) is
 
 headline : (from : Way) (session layers store : List ℕ) (before after : OutsideSeen) (status : Status)
     → Runs end.Receive (Receives from session layers store) before after status
     → Headline from session layers store before after status
 headline from session layers store before after status runs = λ s files ds is calm given.
-    let said = silent (status_of_receive runs.end) runs.between after status runs.tells in
-    let can = can_receive_before s from layers store files ds
-    (fault_text status) before runs.between after runs.end said.1
+    let said = told (line_of_receive runs.end) (status_of_receive runs.end) runs.between after status runs.tells
+    (λ rose. calm.calm.well.out (Rose-since before.out_faults runs.between.out_faults after.out_faults
+    runs.did.later rose)) in
+    let all = all_shown s (met_in s.number ds) in
+    let done = completes_receive from session layers store before runs.between runs.end runs.did s files ds is
     (record {
-      memory = λ none. calm.calm.memory (said.0 ∙ ap status_of_receive none);
-      well = calm.calm.well;
-      link = calm.link;
+      memory = λ none. calm.calm.memory (said.ended ∙ ap status_of_receive none);
+      well = record {
+        place = λ had. calm.calm.well.place
+            (subst (λ (now : Seen). Failed (uses_of from layers store) before.place now) (sym said.place) had);
+        out = λ rose. calm.calm.well.out
+            (Rose-before before.out_faults runs.between.out_faults after.out_faults said.later rose);
+      };
+      link = λ failed. calm.link (subst (λ (l : LinkSeen). BoundFailed from before.link l) (sym said.link) failed);
       given = given;
     }) in
-    let received = completes_receive from session layers store before runs.between runs.end runs.did s files ds is
-    can in
-    let lined = received_with_line s from layers store files ds
-    (fault_text status) before runs.between after runs.end said.1 calm.calm.well runs.did.later received in
     record {
-      written = lined.0;
-      ends = ends_with _ status _ before after (said.0 ∙ ap status_of_receive received.ended ∙ shown_status _) lined.1;
-      listens = subst (IsBoundTo from before.link) (sym said.1.link) received.listens;
-      fewest = received.fewest;
+      left = still_left s from layers store files ds before runs.between after said.place said.link done.0;
+      ends =
+          ends_with _ status _ before after
+          (said.ended ∙ ap status_of_receive done.1 ∙ shown_status all (session_totals s ds))
+          (lines_told from (line_of_receive runs.end) (session_numbers s ds) (fault_text status) before runs.between
+          after done.2 said.printed said.link
+          (ap line_of_receive done.1 ∙ shown_line all (session_totals s ds)));
     }
 
 -- what `send` sends are packets of the session
@@ -228,9 +265,9 @@ stored_at : (session layers store : List ℕ) (before between : OutsideSeen) (en
     → EndNames session layers store before between end
     → (status_of_receive end ≡ Done) ⊎ (status_of_receive end ≡ Incomplete) ⊎ (status_of_receive end ≡ TurnsSpent)
     → NamesStored session layers store before between
-stored_at session layers store before between receive.Done named is = named
-stored_at session layers store before between receive.Incomplete named is = named
-stored_at session layers store before between receive.TurnsSpent named is = named
+stored_at session layers store before between (receive.Done totals) named is = named
+stored_at session layers store before between (receive.Incomplete totals) named is = named
+stored_at session layers store before between (receive.TurnsSpent totals) named is = named
 stored_at session layers store before between receive.NoMemory named (inl is) = absurd (cc)
 stored_at session layers store before between receive.NoMemory named (inr (inl is)) = absurd (cc)
 stored_at session layers store before between receive.NoMemory named (inr (inr is)) = absurd (cc)
@@ -244,12 +281,19 @@ stored_at session layers store before between receive.OutFault named (inl is) = 
 stored_at session layers store before between receive.OutFault named (inr (inl is)) = absurd (cc)
 stored_at session layers store before between receive.OutFault named (inr (inr is)) = absurd (cc)
 
+-- a status that comes once both files are written is no fault of the output
+no_fault : (status : Status) → (status ≡ Done) ⊎ (status ≡ Incomplete) ⊎ (status ≡ TurnsSpent) → status ≢ OutFault
+no_fault status (inl is) = λ out. cc
+no_fault status (inr (inl is)) = λ out. cc
+no_fault status (inr (inr is)) = λ out. cc
+
 names_stored : (from : Way) (session layers store : List ℕ) (before after : OutsideSeen) (status : Status)
     → Runs end.Receive (Receives from session layers store) before after status
     → NamesWhatItStores session layers store before after status
 names_stored from session layers store before after status runs is =
-    let said = silent (status_of_receive runs.end) runs.between after status runs.tells in
-    still_stored session layers store before runs.between after said.1.place
+    let said = ended_as (line_of_receive runs.end) (status_of_receive runs.end) runs.between after status runs.tells
+    (no_fault status is) in
+    still_stored session layers store before runs.between after said.1
     (stored_at session layers store before runs.between runs.end
     (names_what_it_stores from session layers store before runs.between runs.end runs.did.ends)
     (subst (λ (s : Status). (s ≡ Done) ⊎ (s ≡ Incomplete) ⊎ (s ≡ TurnsSpent)) said.0 is))

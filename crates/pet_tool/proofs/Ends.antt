@@ -37,6 +37,7 @@ use Rattle.pet_tool.specs.declared.end.End.{End}
 use Rattle.pet_tool.specs.Does.{Runs}
 use Rattle.pet_tool.specs.Lines.{line_of, line_of_plan, line_of_check, line_of_send, line_of_merge, line_of_video}
 use Rattle.pet_tool.specs.Lines.{line_of_unwrap, line_of_wrap, line_of_migrate}
+use Rattle.pet_tool.specs.Lines.{line_of_receive, totals_text}
 use Rattle.pet_tool.specs.Statuses.{of_place, of_link, status_of, status_of_session, status_of_plan, status_of_check}
 use Rattle.pet_tool.specs.Statuses.{status_of_send, status_of_receive, status_of_merge, status_of_video}
 use Rattle.pet_tool.specs.Statuses.{status_of_unwrap, status_of_wrap, status_of_migrate}
@@ -50,8 +51,12 @@ pub record Agrees (failed_place failed_link : Bool) (line : List ℕ) (status : 
   pub link : of_link status ≡ failed_link
   pub lined : line ≢ [] → (failed_place ≡ false) × (failed_link ≡ false)
 
+lined_as : {status : Status} (line : List ℕ) → of_place status ≡ false → of_link status ≡ false
+    → Agrees false false line status
+lined_as line place link = record { place = place; link = link; lined = λ some. (refl, refl) }
+
 lined : (line : List ℕ) → Agrees false false line Done
-lined line = record { place = refl; link = refl; lined = λ some. (refl, refl) }
+lined line = lined_as line refl refl
 
 unlined : {failed_place failed_link : Bool} {status : Status} → of_place status ≡ failed_place
     → of_link status ≡ failed_link → Agrees failed_place failed_link [] status
@@ -133,14 +138,15 @@ send_agrees (send.BadStream scan) = unlined refl refl
 send_agrees (send.BadPlan fault) = of_session fault
 send_agrees (send.Changed change) = unlined refl refl
 
-pub receive_agrees : (end : ReceiveEnd) → Agrees (receive_place end) (receive_link end) [] (status_of_receive end)
-receive_agrees receive.Done = unlined refl refl
+pub receive_agrees : (end : ReceiveEnd)
+    → Agrees (receive_place end) (receive_link end) (line_of_receive end) (status_of_receive end)
+receive_agrees (receive.Done totals) = lined_as (totals_text totals) refl refl
 receive_agrees receive.NoMemory = unlined refl refl
 receive_agrees receive.PlaceFault = unlined refl refl
 receive_agrees receive.LinkFault = unlined refl refl
 receive_agrees receive.OutFault = unlined refl refl
-receive_agrees receive.Incomplete = unlined refl refl
-receive_agrees receive.TurnsSpent = unlined refl refl
+receive_agrees (receive.Incomplete totals) = lined_as (totals_text totals) refl refl
+receive_agrees (receive.TurnsSpent totals) = lined_as (totals_text totals) refl refl
 
 -- a command did this, the first failure ended it, and then the run told of its end
 pub runs_with : {E : Type 0} (of : E → End) (Did : OutsideSeen → OutsideSeen → E → Type 0) (p k : Bool)

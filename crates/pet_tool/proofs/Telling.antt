@@ -10,7 +10,7 @@ use Rattle.outside_files.specs.Failures.{EndsAtOnce}
 use Rattle.outside_files.specs.Printed.{PrintsLine}
 use Rattle.outside_files.specs.laws.PrintedLaws.{append_known-twice, append_known-nil}
 use Rattle.text_status.specs.declared.status.Status.{Status}
-use Rattle.text_status.specs.declared.status.Status.TheVariants.{Usage}
+use Rattle.text_status.specs.declared.status.Status.TheVariants.{OutFault, Usage}
 use Rattle.text_status.specs.Statuses.{fault_text}
 use Rattle.pet_tool.specs.Does.{Refuses, Strikes}
 use Rattle.pet_tool.specs.declared.end.End.{End}
@@ -49,6 +49,7 @@ pub record Told (line : List ℕ) (of_end : Status) (between after : OutsideSeen
   pub printed : after.written ≡ append_known between.written (line ++ fault_text status)
   pub place : after.place ≡ between.place
   pub link : after.link ≡ between.link
+  pub later : between.out_faults ≤ after.out_faults
 
 pub told : (line : List ℕ) (of_end : Status) (between after : OutsideSeen) (status : Status)
     → Tells line of_end between after status → (Rose between.out_faults after.out_faults → ⊥)
@@ -65,9 +66,22 @@ told line of_end between after status tells well = by tells.line
           ∙ append_known-twice between.written line (fault_text status);
       place = tells.fault.place ∙ tells.only.place;
       link = tells.fault.link ∙ tells.only.link;
+      later = let same = whole.faults in let later = tells.fault.later in omega (arith, same, later);
     }
     by (inr short) =
         let rose = short.front.rose in let later = tells.fault.later in absurd (well (omega (arith, rose, later)))
+
+-- a status that is no fault of the output is that of the end; the place is as before the lines
+pub ended_as : (line : List ℕ) (of_end : Status) (between after : OutsideSeen) (status : Status)
+    → Tells line of_end between after status → status ≢ OutFault
+    → (status ≡ of_end) × (after.place ≡ between.place)
+ended_as line of_end between after status tells well =
+    (by tells.line, tells.fault.place ∙ tells.only.place)
+  where
+    by : PrintedWhole line of_end between tells.lined status ⊎ PrintedShort line between tells.lined status
+        → status ≡ of_end
+    by (inl whole) = whole.ended
+    by (inr short) = absurd (well short.ended)
 
 -- the first failure ended the run, by what the end tells: an end that has a line tells of none
 pub strikes : (line : List ℕ) (of_end : Status) (before between after : OutsideSeen) (status : Status)

@@ -3,41 +3,33 @@ use Rattle.std.specs.Prelude.{◌≡◌, ◌⊎◌, ℕ, ◌<◌, List, ◌++◌
 use Rattle.pet_base.specs.declared.limits.TheConstants.{MAX_DATAGRAMS}
 use Rattle.pet_base.specs.Entries.{datagrams}
 use Rattle.pet_base.specs.OutsideSeen.{OutsideSeen}
-use Rattle.pet_base.specs.Seen.{Files, with_file}
+use Rattle.pet_base.specs.Seen.{Files}
 use Rattle.outside_routes.specs.RouteFaults.{BoundFailed}
 use Rattle.outside_routes.specs.Way.{Way}
 use Rattle.packet_session.specs.Session.{Session}
 use Rattle.stream_session.specs.Accepted.{IsAcceptedSession, session_of}
 use Rattle.stream_session.specs.Number.{session_number}
 use Rattle.packet_session.specs.Datagrams.{datagrams_text}
-use Rattle.packet_met.specs.FewestStripes.{CarriesFewestStripes}
-use Rattle.packet_met.specs.Met.{layers_text, met_in, all_shown}
-use Rattle.packet_met.specs.MetStore.{session_store}
+use Rattle.packet_met.specs.Met.{met_in, all_shown}
 use Rattle.command_receive.specs.NamedLayers.{NamesStored}
-use Rattle.command_receive.specs.Opened.{IsBoundTo}
 use Rattle.command_receive.specs.Receives.{port_line, uses_of}
-use Rattle.command_receive.specs.ReceivesSession.{HasDatagrams, HasPacketsOf, session_numbers}
+use Rattle.command_receive.specs.ReceivesSession.{HasDatagrams, HasPacketsOf, ReceivesSession, session_totals}
 use Rattle.text_status.specs.declared.status.Status.{Status}
 use Rattle.text_status.specs.declared.status.Status.TheVariants.{Done, Incomplete, TurnsSpent}
+use Rattle.pet_tool.specs.Lines.{totals_text}
 use Rattle.pet_tool.specs.Undisturbed.{IsUndisturbedOn, EndsWith}
 
--- LAYERS has each shown layer's exact bytes once, numbered by the arrival at which the group's distinct packets reached
--- the
--- layer's count, STORE is the store of the session's packets that were met, and no other file has changed; the status
--- is Done
--- exactly where every layer of every group is shown, and else Incomplete; the link, where FROM is one, receives at its
--- address; the
--- lines printed are the defined ones; and the packets of each group carry the fewest stripes, of which no layer's count
--- is above
--- its declared need.
-pub record ReceivesSession (s : Session) (from : Way) (layers store : List ℕ) (files : Files) (ds : List (List ℕ))
+-- the line of the numbers, by the packets that were met
+abbrev pub session_numbers : Session → List (List ℕ) → List ℕ
+session_numbers s ds = totals_text (session_totals s ds)
+
+-- LAYERS and STORE are what the session defines, and no other file has changed; the status is Done exactly where every
+-- layer of every group is shown, and else Incomplete; and the lines printed are the defined ones.
+pub record ReceivesAndTells (s : Session) (from : Way) (layers store : List ℕ) (files : Files) (ds : List (List ℕ))
     (before after : OutsideSeen) (status : Status) : Type 0 where
-  pub written : after.place.files
-      ≡ Some (with_file store (session_store s ds) (with_file layers (layers_text s ds) files))
+  pub left : ReceivesSession s from layers store files ds before after
   pub ends : EndsWith (if all_shown s (met_in s.number ds) then Done else Incomplete)
       (port_line from after.link ++ session_numbers s ds) before after status
-  pub listens : IsBoundTo from before.link after.link
-  pub fewest : All CarriesFewestStripes s.groups
 
 -- For every session, and every FROM, a file or a link that tells what is to come, of which each datagram that is a
 -- frame of the
@@ -46,7 +38,7 @@ abbrev pub Headline : Way → List ℕ → List ℕ → List ℕ → OutsideSeen
 Headline from session layers store before after status =
     (s : Session) (files : Files) (ds : List (List ℕ)) → session ≡ s.number
     → IsUndisturbedOn (BoundFailed from) (uses_of from layers store) before after status
-    → HasPacketsOf s from files ds before → ReceivesSession s from layers store files ds before after status
+    → HasPacketsOf s from files ds before → ReceivesAndTells s from layers store files ds before after status
 
 -- A priority file and a stream of these bytes are an accepted session, and FROM has fewer than 16,777,216 datagrams,
 -- each
@@ -66,7 +58,7 @@ ReceivesWhatWasSent from session layers store before after status =
     (p b : List ℕ) (files : Files) (ds : List (List ℕ)) → session ≡ session_number p b
     → IsUndisturbedOn (BoundFailed from) (uses_of from layers store) before after status
     → HasWhatWasSent p b from files ds before
-    → ReceivesSession (session_of p b) from layers store files ds before after status
+    → ReceivesAndTells (session_of p b) from layers store files ds before after status
 
 -- At each status that comes once both files are written, STORE has a kept set of the session, and LAYERS names exactly
 -- the layers whose

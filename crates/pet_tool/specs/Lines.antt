@@ -7,6 +7,9 @@ use Rattle.command_plan.specs.declared.planning.PlanEnd.TheVariants as plan
 use Rattle.text_plan.specs.PlanLines.{least_text, send_text}
 use Rattle.command_send.specs.declared.command.SendEnd.{SendEnd}
 use Rattle.command_send.specs.declared.command.SendEnd.TheVariants as send
+use Rattle.command_receive.specs.declared.command.ReceiveEnd.{ReceiveEnd}
+use Rattle.command_receive.specs.declared.command.ReceiveEnd.TheVariants as receive
+use Rattle.command_receive.specs.declared.reading.Totals.{Totals}
 use Rattle.command_merge.specs.declared.command.MergeEnd.{MergeEnd}
 use Rattle.command_merge.specs.declared.command.MergeEnd.TheVariants as merge
 use Rattle.command_video.specs.declared.command.VideoEnd.{VideoEnd}
@@ -17,7 +20,7 @@ use Rattle.mpeg_system.specs.declared.wrap_files.WrapEnd.{WrapEnd}
 use Rattle.mpeg_system.specs.declared.wrap_files.WrapEnd.TheVariants as wrap
 use Rattle.command_migrate.specs.declared.command.MigrateEnd.{MigrateEnd}
 use Rattle.command_migrate.specs.declared.command.MigrateEnd.TheVariants as migrate
-use Rattle.pet_text.specs.Lines.{merged_text, video_text, unwrapped_text, wrapped_text, migrated_text}
+use Rattle.pet_text.specs.Lines.{receive_text, merged_text, video_text, unwrapped_text, wrapped_text, migrated_text}
 use Rattle.pet_tool.specs.declared.end.End.{End}
 use Rattle.pet_tool.specs.declared.end.End.TheVariants.{Usage, NoMemory, Plan, Check, Send, Receive, Merge, Video}
 use Rattle.pet_tool.specs.declared.end.End.TheVariants.{Unwrap, Wrap, Migrate}
@@ -51,6 +54,19 @@ line_of_send (send.BadPriority fault) = []
 line_of_send (send.BadStream scan) = []
 line_of_send (send.BadPlan fault) = []
 line_of_send (send.Changed change) = []
+
+-- the numbers of what `receive` read
+abbrev pub totals_text : Totals → List ℕ
+totals_text totals = receive_text totals.read totals.kept totals.shown
+
+abbrev pub line_of_receive : ReceiveEnd → List ℕ
+line_of_receive (receive.Done totals) = totals_text totals
+line_of_receive receive.NoMemory = []
+line_of_receive receive.PlaceFault = []
+line_of_receive receive.LinkFault = []
+line_of_receive receive.OutFault = []
+line_of_receive (receive.Incomplete totals) = totals_text totals
+line_of_receive (receive.TurnsSpent totals) = totals_text totals
 
 abbrev pub line_of_merge : MergeEnd → List ℕ
 line_of_merge (merge.Done packets) = merged_text packets
@@ -90,14 +106,14 @@ line_of_migrate (migrate.BadStore at kind) = []
 line_of_migrate (migrate.TooWide group) = []
 line_of_migrate (migrate.Full group) = []
 
--- `receive` prints its lines itself
+-- the line of the port, which `receive` prints itself, is no line of its end
 abbrev pub line_of : End → List ℕ
 line_of Usage = []
 line_of NoMemory = []
 line_of (Plan end) = line_of_plan end
 line_of (Check end) = line_of_check end
 line_of (Send end) = line_of_send end
-line_of (Receive end) = []
+line_of (Receive end) = line_of_receive end
 line_of (Merge end) = line_of_merge end
 line_of (Video end) = line_of_video end
 line_of (Unwrap end) = line_of_unwrap end

@@ -69,13 +69,13 @@ status_of_send (send.BadPlan fault) = status_of_session fault
 status_of_send (send.Changed change) = Changed change.group change.first change.second
 
 abbrev pub status_of_receive : ReceiveEnd → Status
-status_of_receive receive.Done = Done
+status_of_receive (receive.Done totals) = Done
 status_of_receive receive.NoMemory = NoMemory
 status_of_receive receive.PlaceFault = PlaceFault
 status_of_receive receive.LinkFault = LinkFault
 status_of_receive receive.OutFault = OutFault
-status_of_receive receive.Incomplete = Incomplete
-status_of_receive receive.TurnsSpent = TurnsSpent
+status_of_receive (receive.Incomplete totals) = Incomplete
+status_of_receive (receive.TurnsSpent totals) = TurnsSpent
 
 -- a store is told by its place among the words
 abbrev pub status_of_merge : MergeEnd → Status

@@ -16,8 +16,8 @@ use command_send::SendEnd;
 use command_video::VideoEnd;
 use mpeg_system::{UnwrapEnd, WrapEnd};
 use pet_text::{
-    Status, least_line, merged_line, migrated_line, send_line, unwrapped_line, video_line,
-    wrapped_line,
+    Status, least_line, merged_line, migrated_line, receive_line, send_line, unwrapped_line,
+    video_line, wrapped_line,
 };
 
 /// How a run ended, before its line and that of its status are printed.
@@ -78,6 +78,11 @@ pub(crate) fn end_line<'a>(end: &'a End, room: &'a mut ArrayVec<u8, 64>) -> &'a 
         End::Send(SendEnd::Done(sent)) => {
             send_line(&sent.session, sent.groups, sent.datagrams, room)
         }
+        End::Receive(
+            ReceiveEnd::Done(totals)
+            | ReceiveEnd::Incomplete(totals)
+            | ReceiveEnd::TurnsSpent(totals),
+        ) => receive_line(totals.read, totals.kept, totals.shown, room),
         End::Merge(MergeEnd::Done(packets)) => merged_line(*packets, room),
         End::Video(VideoEnd::Done(bytes)) => video_line(*bytes, room),
         End::Unwrap(UnwrapEnd::Done(bytes)) => unwrapped_line(*bytes, room),

@@ -70,13 +70,13 @@ pub(crate) fn receive_status(end: &ReceiveEnd) -> Status
     ensures known { result ≢ Status.Usage }
 {
     match end {
-        ReceiveEnd::Done => Status::Done,
+        ReceiveEnd::Done(_) => Status::Done,
         ReceiveEnd::NoMemory => Status::NoMemory,
         ReceiveEnd::PlaceFault => Status::PlaceFault,
         ReceiveEnd::LinkFault => Status::LinkFault,
         ReceiveEnd::OutFault => Status::OutFault,
-        ReceiveEnd::Incomplete => Status::Incomplete,
-        ReceiveEnd::TurnsSpent => Status::TurnsSpent,
+        ReceiveEnd::Incomplete(_) => Status::Incomplete,
+        ReceiveEnd::TurnsSpent(_) => Status::TurnsSpent,
     }
 }
 

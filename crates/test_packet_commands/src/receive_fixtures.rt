@@ -1,5 +1,20 @@
 //! What the tests of `receive` share: packets, records of layers and stores whose tags were made outside.
 use crate::files::{File, OTHER_SESSION, Piece};
+use command_receive::Totals;
+
+/// What a reading of `FIRST` comes to, and of `WORDS`.
+pub(crate) const SHORT_TOTALS: Totals = Totals {
+    read: 3,
+    kept: 2,
+    shown: 1,
+};
+
+/// What a reading of `ALL` comes to.
+pub(crate) const ALL_TOTALS: Totals = Totals {
+    read: 7,
+    kept: 6,
+    shown: 3,
+};
 
 /// A packet of another session.
 pub(crate) const ANOTHERS_PACKET: [u8; 53] = [

@@ -3,7 +3,8 @@ use crate::cases::{ALL_GO, Case, Run, first_wrong, runs};
 use crate::files::{File, OTHER_SESSION, WHOLE};
 use crate::links::feed_of;
 use crate::receive_fixtures::{
-    ALL, ALL_RECORDS, EMPTY, FIRST, FIRST_STORE, RECORD_HEAD, WHOLE_RECORD,
+    ALL, ALL_RECORDS, ALL_TOTALS, EMPTY, FIRST, FIRST_STORE, RECORD_HEAD, SHORT_TOTALS,
+    WHOLE_RECORD,
 };
 use crate::untold::{UntoldLink, UntoldPlace};
 use command_receive::ReceiveEnd;
@@ -18,7 +19,7 @@ const ENTRIES: (Option<File>, Option<File>) = (Some(FIRST), None);
 
 const BOTH: (Option<File>, Option<File>) = (Some(WHOLE_RECORD), Some(FIRST_STORE));
 
-const DONE: Run = Run::Hear(OTHER_SESSION, ReceiveEnd::Done);
+const DONE: Run = Run::Hear(OTHER_SESSION, ReceiveEnd::Done(SHORT_TOTALS));
 
 const FAULT: Run = Run::Hear(OTHER_SESSION, ReceiveEnd::LinkFault);
 
@@ -28,16 +29,14 @@ const OUT_FAULT: Run = Run::Hear(OTHER_SESSION, ReceiveEnd::OutFault);
 
 const BOUND: &str = "bound 40000\n";
 
-const NUMBERS: &str = "bound 40000\nread 3 kept 2 shown 1\n";
-
 /// The example session, and calls of the link that fail, with the records and the store that are then there.
 static HEARD: [Case; 7] = [
     (
         (Some(ALL), None),
         ALL_GO,
-        Run::Hear(SESSION, ReceiveEnd::Done),
+        Run::Hear(SESSION, ReceiveEnd::Done(ALL_TOTALS)),
         (Some(ALL_RECORDS), Some(WHOLE)),
-        "bound 40000\nread 7 kept 6 shown 3\n",
+        BOUND,
     ),
     // the address
     (ENTRIES, [&[0], &[], &[]], FAULT, (None, None), ""),
@@ -59,7 +58,7 @@ static HEARD: [Case; 7] = [
         BOUND,
     ),
     // there are no more calls
-    (ENTRIES, [&[5], &[], &[]], DONE, BOTH, NUMBERS),
+    (ENTRIES, [&[5], &[], &[]], DONE, BOTH, BOUND),
 ];
 
 #[test]
@@ -68,7 +67,7 @@ fn leaves_the_whole_text_where_a_call_of_the_link_fails(rt: HostRuntime) {
 }
 
 /// Calls of the place and of the output that fail.
-static FAILING: [Case; 9] = [
+static FAILING: [Case; 8] = [
     // LAYERS is made, behind the line of the port
     (ENTRIES, [&[], &[0], &[]], PLACE_FAULT, (None, None), BOUND),
     // the head of the record, and its bytes
@@ -101,11 +100,10 @@ static FAILING: [Case; 9] = [
         (Some(WHOLE_RECORD), Some(EMPTY)),
         BOUND,
     ),
-    (ENTRIES, [&[], &[5], &[]], DONE, BOTH, NUMBERS),
-    // the line of the port, before LAYERS is made, and that of the numbers
+    (ENTRIES, [&[], &[5], &[]], DONE, BOTH, BOUND),
+    // the line of the port, before LAYERS is made; nothing is printed behind it
     (ENTRIES, [&[], &[], &[0]], OUT_FAULT, (None, None), ""),
-    (ENTRIES, [&[], &[], &[1]], OUT_FAULT, BOTH, BOUND),
-    (ENTRIES, [&[], &[], &[2]], DONE, BOTH, NUMBERS),
+    (ENTRIES, [&[], &[], &[1]], DONE, BOTH, BOUND),
 ];
 
 #[test]
@@ -126,12 +124,12 @@ fn puts_each_layer_before_the_next_datagram(rt: HostRuntime) -> Result<(), Fail>
     };
     let mut place = UntoldPlace::new(alloc, &asked);
     let mut out = MemorySink::new(alloc, Vec::new(alloc));
-    let done = Run::Hear(SESSION, ReceiveEnd::Done);
+    let done = Run::Hear(SESSION, ReceiveEnd::Done(ALL_TOTALS));
     let ended = runs::<Brand>(alloc, done, &mut place, &mut link, &mut out, Blank::new(1));
     assert!(rt; ended);
     // each record is put in two
     assert!(rt; place.moments.as_slice() == [3, 3, 4, 4, 6, 6].as_slice());
-    assert!(rt; out.bytes() == b"bound 7\nread 7 kept 6 shown 3\n".as_slice());
+    assert!(rt; out.bytes() == b"bound 7\n".as_slice());
     Ok(())
 }
 
@@ -153,6 +151,6 @@ fn asks_a_link_for_nothing_once_it_was_quiet(rt: HostRuntime) -> Result<(), Fail
     assert!(rt; ended);
     // three datagrams, and the quiet behind them
     assert!(rt; asked.get() == 4);
-    assert!(rt; out.bytes() == b"bound 7\nread 3 kept 2 shown 1\n".as_slice());
+    assert!(rt; out.bytes() == b"bound 7\n".as_slice());
     Ok(())
 }

@@ -2,15 +2,13 @@
 use crate::cases::{ALL_GO, Case, Run, first_wrong};
 use crate::files::{File, OTHER_NOTHING, OTHER_SESSION, Piece, TWO_AND_FIVE, WHOLE};
 use crate::receive_fixtures::{
-    ALL, ALL_RECORDS, ANOTHERS_PACKET, DAMAGED, EMPTY, EXAMPLE_0, FIRST, FIRST_STORE, RECORD_HEAD,
-    WHOLE_RECORD, WORDS_1, WORDS_3, WORDS_RECORD, WORDS_STORE,
+    ALL, ALL_RECORDS, ALL_TOTALS, ANOTHERS_PACKET, DAMAGED, EMPTY, EXAMPLE_0, FIRST, FIRST_STORE,
+    RECORD_HEAD, SHORT_TOTALS, WHOLE_RECORD, WORDS_1, WORDS_3, WORDS_RECORD, WORDS_STORE,
 };
-use command_receive::ReceiveEnd;
+use command_receive::{ReceiveEnd, Totals};
 use test_example::SESSION;
 
-const DONE: Run = Run::Receive(OTHER_SESSION, ReceiveEnd::Done);
-
-const INCOMPLETE: Run = Run::Receive(OTHER_SESSION, ReceiveEnd::Incomplete);
+const DONE: Run = Run::Receive(OTHER_SESSION, ReceiveEnd::Done(SHORT_TOTALS));
 
 const FAULT: Run = Run::Receive(OTHER_SESSION, ReceiveEnd::PlaceFault);
 
@@ -20,6 +18,18 @@ const WORDS: File = &[
     Piece::Bytes(&WORDS_1),
 ];
 
+const NO_TOTALS: Totals = Totals {
+    read: 0,
+    kept: 0,
+    shown: 0,
+};
+
+const ONE_READ: Totals = Totals {
+    read: 1,
+    kept: 0,
+    shown: 0,
+};
+
 /// Short files of datagrams, and none.
 static SHORT: [Case; 5] = [
     (
@@ -27,28 +37,28 @@ static SHORT: [Case; 5] = [
         ALL_GO,
         DONE,
         (Some(WHOLE_RECORD), Some(FIRST_STORE)),
-        "read 3 kept 2 shown 1\n",
+        "",
     ),
     (
         (Some(WORDS), None),
         ALL_GO,
         DONE,
         (Some(&[Piece::Bytes(&WORDS_RECORD)]), Some(WORDS_STORE)),
-        "read 3 kept 2 shown 1\n",
+        "",
     ),
     (
         (Some(EMPTY), None),
         ALL_GO,
-        INCOMPLETE,
+        Run::Receive(OTHER_SESSION, ReceiveEnd::Incomplete(NO_TOTALS)),
         (Some(EMPTY), Some(OTHER_NOTHING)),
-        "read 0 kept 0 shown 0\n",
+        "",
     ),
     (
         (Some(&[Piece::Bytes(&[0])]), None),
         ALL_GO,
-        INCOMPLETE,
+        Run::Receive(OTHER_SESSION, ReceiveEnd::Incomplete(ONE_READ)),
         (Some(EMPTY), Some(OTHER_NOTHING)),
-        "read 1 kept 0 shown 0\n",
+        "",
     ),
     ((None, None), ALL_GO, FAULT, (None, None), ""),
 ];
@@ -63,7 +73,7 @@ const FILE: (Option<File>, Option<File>) = (Some(FIRST), None);
 const BOTH: (Option<File>, Option<File>) = (Some(WHOLE_RECORD), Some(FIRST_STORE));
 
 /// Calls that fail, and the records and the store that are then there.
-static FAILING: [Case; 16] = [
+static FAILING: [Case; 15] = [
     // the file is entered, and LAYERS made
     (FILE, [&[], &[0], &[]], FAULT, (None, None), ""),
     (FILE, [&[], &[1], &[]], FAULT, (None, None), ""),
@@ -112,28 +122,9 @@ static FAILING: [Case; 16] = [
         (Some(WHOLE_RECORD), Some(EMPTY)),
         "",
     ),
-    // there are no more calls of the place, and the line is put in one
-    (
-        FILE,
-        [&[], &[13], &[]],
-        DONE,
-        BOTH,
-        "read 3 kept 2 shown 1\n",
-    ),
-    (
-        FILE,
-        [&[], &[], &[0]],
-        Run::Receive(OTHER_SESSION, ReceiveEnd::OutFault),
-        BOTH,
-        "",
-    ),
-    (
-        FILE,
-        [&[], &[], &[1]],
-        DONE,
-        BOTH,
-        "read 3 kept 2 shown 1\n",
-    ),
+    // there are no more calls of the place, and none of the output
+    (FILE, [&[], &[13], &[]], DONE, BOTH, ""),
+    (FILE, [&[], &[], &[0]], DONE, BOTH, ""),
 ];
 
 #[test]
@@ -156,36 +147,46 @@ const MIXED: File = &[
     Piece::Packet(2),
 ];
 
-const LACKING: Run = Run::Receive(SESSION, ReceiveEnd::Incomplete);
+const REPEATED_TOTALS: Totals = Totals {
+    read: 4,
+    kept: 2,
+    shown: 1,
+};
+
+const MIXED_TOTALS: Totals = Totals {
+    read: 5,
+    kept: 2,
+    shown: 1,
+};
 
 /// The packets of the example session, and two lists of the same two packets of it, which have one store.
 static EXAMPLE: [Case; 3] = [
     (
         (Some(ALL), None),
         ALL_GO,
-        Run::Receive(SESSION, ReceiveEnd::Done),
+        Run::Receive(SESSION, ReceiveEnd::Done(ALL_TOTALS)),
         (Some(ALL_RECORDS), Some(WHOLE)),
-        "read 7 kept 6 shown 3\n",
+        "",
     ),
     (
         (Some(REPEATED), None),
         ALL_GO,
-        LACKING,
+        Run::Receive(SESSION, ReceiveEnd::Incomplete(REPEATED_TOTALS)),
         (
             Some(&[Piece::Bytes(&[0, 0, 0, 4]), Piece::Bytes(&EXAMPLE_0)]),
             Some(TWO_AND_FIVE),
         ),
-        "read 4 kept 2 shown 1\n",
+        "",
     ),
     (
         (Some(MIXED), None),
         ALL_GO,
-        LACKING,
+        Run::Receive(SESSION, ReceiveEnd::Incomplete(MIXED_TOTALS)),
         (
             Some(&[Piece::Bytes(&[0, 0, 0, 5]), Piece::Bytes(&EXAMPLE_0)]),
             Some(TWO_AND_FIVE),
         ),
-        "read 5 kept 2 shown 1\n",
+        "",
     ),
 ];
 

@@ -40,6 +40,11 @@ const SEND: &[&str] = &["send", "s", "f", "file:d"];
 
 const RECEIVE: &[&str] = &["receive", "file:p", "0001020304050607", "l", "t"];
 
+/// The same, with the store in `d`.
+const RECEIVE_TO_D: &[&str] = &["receive", "file:p", "0001020304050607", "l", "d"];
+
+const HEAR_TO_D: &[&str] = &["receive", "udp:x:1", "0001020304050607", "l", "d"];
+
 const HEAR: &[&str] = &["receive", "udp:x:1", "0001020304050607", "l", "t"];
 
 const SEND_BY_LINK: &[&str] = &["send", "s", "f", "udp:x:1"];
@@ -353,7 +358,7 @@ fn receives_and_sends_by_a_link(rt: HostRuntime) {
 const STORE: Files = (&NOTHING, PRIORITIES, "");
 
 /// The first call of the output fails, or the second.
-static SILENT: [Case; 8] = [
+static SILENT: [Case; 10] = [
     (
         EXAMPLE,
         [&[], &[0]],
@@ -375,12 +380,27 @@ static SILENT: [Case; 8] = [
         0,
         true,
     ),
+    // both files have been written before the line of the numbers, and none before that of the port
     (
         EXAMPLE,
         [&[], &[0]],
-        (RECEIVE, Status::OutFault, 5, ""),
+        (RECEIVE_TO_D, Status::OutFault, 5, ""),
+        0,
+        true,
+    ),
+    (
+        EXAMPLE,
+        [&[], &[0]],
+        (HEAR_TO_D, Status::OutFault, 5, ""),
         0,
         false,
+    ),
+    (
+        EXAMPLE,
+        [&[], &[1]],
+        (HEAR_TO_D, Status::OutFault, 5, "bound 40000\n"),
+        0,
+        true,
     ),
     // OUT has been written
     (

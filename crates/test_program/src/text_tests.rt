@@ -325,20 +325,20 @@ fn refuses_other_addresses(rt: HostRuntime) {
     assert_eq!(rt; first_address(rt.alloc(), &OTHERS), None);
 }
 
-/// The lines of `receive`.
-fn lines(alloc: Global) -> Result<Vec<u8>, NoMemory> {
+/// The line of a port.
+fn bound(alloc: Global) -> Result<Vec<u8>, NoMemory> {
     let mut text = Vec::new(alloc);
     bound_line(alloc, 40_000, &mut text)?;
-    receive_line(alloc, 3, 2, 1, &mut text)?;
     Ok(text)
 }
 
-const LINES: &[u8] = b"bound 40000\nread 3 kept 2 shown 1\n";
-
 #[test]
 fn prints_the_lines_of_receive(rt: HostRuntime) {
-    let text = lines(rt.alloc()).expect(&rt, "memory");
-    assert!(rt; text.as_slice() == LINES);
+    let text = bound(rt.alloc()).expect(&rt, "memory");
+    assert!(rt; text.as_slice() == b"bound 40000\n".as_slice());
+    let mut room: ArrayVec<u8, 64> = ArrayVec::new();
+    receive_line(u32::MAX, 2, 1, &mut room);
+    assert!(rt; room.as_slice() == b"read 4294967295 kept 2 shown 1\n".as_slice());
 }
 
 #[test]

@@ -122,7 +122,7 @@ fn plan_files_scripts_and_a_sample(rt: HostRuntime) -> Result<(), Fail> {
     Ok(())
 }
 
-/// The lines of `plan` but the last, and those of `receive`.
+/// The lines of `plan` but the last, and that of a port.
 fn lines(alloc: Global) -> Result<Vec<u8>, NoMemory> {
     let mut text = Vec::new(alloc);
     plan_session_line(alloc, &SESSION, 1, 6, &mut text)?;
@@ -132,15 +132,14 @@ fn lines(alloc: Global) -> Result<Vec<u8>, NoMemory> {
         lengths_line(alloc, &table, &mut text)?;
     }
     bound_line(alloc, 40_000, &mut text)?;
-    receive_line(alloc, 3, 2, 1, &mut text)?;
     Ok(text)
 }
 
 const LINES: &[u8] =
-    b"session a5ac9461b03bcf36 groups 1 packets 6\ngroup 0 words 35 stripes 15 bound 16 datagram 89\nlayer 0 base bytes 46 need 2 count 2\nlengths 2x12 3x1 5x1 3x1\nbound 40000\nread 3 kept 2 shown 1\n";
+    b"session a5ac9461b03bcf36 groups 1 packets 6\ngroup 0 words 35 stripes 15 bound 16 datagram 89\nlayer 0 base bytes 46 need 2 count 2\nlengths 2x12 3x1 5x1 3x1\nbound 40000\n";
 
 #[test]
-fn lines_of_plan_and_receive(rt: HostRuntime) {
+fn lines_of_plan_and_of_a_port(rt: HostRuntime) {
     assert!(rt; lines(rt.alloc()).is_ok_and(|text| text.as_slice() == LINES));
 }
 
@@ -158,10 +157,11 @@ fn counts_are_printed() -> bool {
         && migrated.as_slice() == b"migrated 6\n".as_slice()
 }
 
-/// Whether those of `video`, `unwrap`, `wrap` and `send` are.
+/// Whether those of `video`, `unwrap`, `wrap`, `send` and `receive` are.
 fn lengths_are_printed() -> bool {
     let (mut video, mut unwrapped, mut wrapped) = (Room::new(), Room::new(), Room::new());
-    let mut sent = Room::new();
+    let (mut sent, mut received) = (Room::new(), Room::new());
+    receive_line(3, 2, 1, &mut received);
     video_line(44, &mut video);
     unwrapped_line(44, &mut unwrapped);
     wrapped_line(67, &mut wrapped);
@@ -170,6 +170,7 @@ fn lengths_are_printed() -> bool {
         && unwrapped.as_slice() == b"unwrapped 44\n".as_slice()
         && wrapped.as_slice() == b"wrapped 67\n".as_slice()
         && sent.as_slice() == b"session a5ac9461b03bcf36 groups 1 datagrams 6\n".as_slice()
+        && received.as_slice() == b"read 3 kept 2 shown 1\n".as_slice()
 }
 
 #[test]

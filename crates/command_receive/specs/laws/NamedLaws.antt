@@ -23,11 +23,11 @@ named from session layers store before after r = record {
 
 pub names_what_it_stores : (from : Way) (session layers store : List ℕ) (before after : OutsideSeen) (end : ReceiveEnd)
     → EndsReceive from session layers store before after end → NamesWhatItStores session layers store before after end
-names_what_it_stores from session layers store before after Done ends =
+names_what_it_stores from session layers store before after (Done totals) ends =
     named from session layers store before after ends.0
-names_what_it_stores from session layers store before after Incomplete ends =
+names_what_it_stores from session layers store before after (Incomplete totals) ends =
     named from session layers store before after ends.0
-names_what_it_stores from session layers store before after TurnsSpent ends =
+names_what_it_stores from session layers store before after (TurnsSpent totals) ends =
     named from session layers store before after ends.0
 names_what_it_stores from session layers store before after NoMemory ends = tt
 names_what_it_stores from session layers store before after PlaceFault ends = tt

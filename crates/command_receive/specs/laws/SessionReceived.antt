@@ -1,28 +1,25 @@
 -- The headline, from what each end tells.
-use Rattle.std.proofs.Common.{◌≡◌, ℕ, ◌<◌, Bool, true, cond, List, [], ◌∷◌, ◌++◌, length, Option, None, Some, refl, sym}
+use Rattle.std.proofs.Common.{◌≡◌, ℕ, ◌<◌, Bool, true, false, cond, List, [], ◌∷◌, ◌++◌, length, Option, None, Some, refl, sym}
 use Rattle.std.proofs.Common.{ap, subst, ◌∙◌, arith, inl, inr}
 use Rattle.std.specs.Prelude.{All, option_map, IfSome}
-use Rattle.std.specs.Io.KnownBytes.{append_known}
 use Rattle.std.proofs.lemmas.Bool.{false_from_ne_true}
 use Rattle.std.proofs.lemmas.List.{append-nil, length-append}
 use Rattle.pet_base.specs.declared.limits.TheConstants.{MAX_SESSION, MAX_DATAGRAMS}
 use Rattle.pet_base.specs.Causes.{Rose}
 use Rattle.outside_routes.specs.Way.{Way, OnFile, OnLink}
 use Rattle.outside_routes.specs.Coming.{HaveCome}
-use Rattle.command_receive.specs.Opened.{IsBoundTo, PortFailed}
+use Rattle.command_receive.specs.Opened.{IsBoundTo, PortFailed, PrintedPort}
 use Rattle.pet_base.specs.OutsideSeen.{OutsideSeen}
 use Rattle.pet_base.specs.Seen.{Blame, Files, HadFault, with_file}
 use Rattle.pet_base.specs.laws.SeenLaws.{HadFault-since}
-use Rattle.outside_files.specs.Printed.{Printed}
 use Rattle.outside_files.specs.Uses.{IsOneOf, Failed}
 use Rattle.outside_files.specs.Wrote.{with_files}
 use Rattle.packet_session.specs.Session.{Session}
-use Rattle.pet_receive.specs.ShownBytes.{IsComplete, shown_in_all}
+use Rattle.pet_receive.specs.ShownBytes.{IsComplete}
 use Rattle.packet_verdicts.specs.Union.{frames_in}
-use Rattle.pet_text.specs.Lines.{receive_text}
 use Rattle.field_elements.specs.Gf16.{gf16_coding}
 use Rattle.packet_met.specs.Kept.{kept_of}
-use Rattle.packet_met.specs.Met.{met_in, all_shown, count_met, layers_text}
+use Rattle.packet_met.specs.Met.{met_in, all_shown, count_met, count_shown, layers_text}
 use Rattle.packet_met.specs.MetStore.{session_store}
 use Rattle.packet_met.specs.laws.FramesAreMet.{kept_frames}
 use Rattle.packet_met.specs.laws.AllDatagrams.{follows_all, text_is}
@@ -36,9 +33,10 @@ use Rattle.command_receive.specs.declared.command.ReceiveEnd.TheVariants.{OutFau
 use Rattle.store_text.specs.Files.{HasFile}
 use Rattle.store_text.specs.Store.{store_of, store_text}
 use Rattle.command_receive.specs.Receives.{AreRead, IsBoundAtEnd, IsRead, IsUseInTurn, layers_file, kept_file}
-use Rattle.command_receive.specs.Receives.{port_line, uses_of, Reads, EndsReceive, Receives, numbers_text}
+use Rattle.command_receive.specs.Receives.{AreTotals, uses_of, Reads, EndsReceive, Receives}
+use Rattle.command_receive.specs.declared.reading.Totals.{Totals}
 use Rattle.command_receive.specs.ReceivesSession.{HasDatagrams, HasPacketsOf, CanReceive, ReceivesSession}
-use Rattle.command_receive.specs.ReceivesSession.{CompletesReceive}
+use Rattle.command_receive.specs.ReceivesSession.{CompletesReceive, session_end, session_totals}
 
 same_some : {A : Type 0} (x y : A) → Some x ≡ Some y → x ≡ y
 same_some x y e = cc
@@ -106,38 +104,44 @@ module _ (s : Session) (from : Way) (layers store : List ℕ) (files : Files) (d
         (kept_of s.number r.read) given.session follows in
         (complete.0, complete.1)
 
-    -- what was read and printed is what the session defines
-    pub session_received : (end : ReceiveEnd) → IsBoundTo from before.link after.link
-        → end ≡ cond (all_shown s (met_in s.number r.read)) Done Incomplete
-        → Printed (port_line from after.link ++ numbers_text s.number r.read) before after
-        → ReceivesSession s from layers store files ds before after end
-    session_received end listens ended printed =
-        let pairs = met_in s.number r.read in
+    -- what was read and written is what the session defines
+    pub session_left : IsBoundTo from before.link after.link → ReceivesSession s from layers store files ds before after
+    session_left listens =
         let kept = kept_of s.number r.read in
         let stored : store_text kept ≡ session_store s r.read =
         ap (λ (n : List ℕ). store_of n (frames_in kept)) follows.session
         ∙ ap (store_of s.number) (kept_frames gf16_coding s (λ a. a < 65536) r.read given.session given.fits plain) in
         let text : r.text ≡ layers_text s r.read =
         text_is (λ a. a < 65536) gf16_coding s MAX_SESSION given.session given.fits r.read r.text plain r.is_text in
-        subst (λ (l : List (List ℕ)). ReceivesSession s from layers store files l before after end) (sym read_is.0)
+        subst (λ (l : List (List ℕ)). ReceivesSession s from layers store files l before after) (sym read_is.0)
         (record {
           written =
               r.files ∙ ap (λ (o : Option Files). option_map
               (with_files (layers_file layers r.text ∷ kept_file store s.number r.read ∷ [])) o) given.told
               ∙ ap (λ (t : List ℕ). Some (with_file store (store_text kept) (with_file layers t files))) text
               ∙ ap (λ (t : List ℕ). Some (with_file store t (with_file layers (layers_text s r.read) files))) stored;
-          ended = ended;
           listens = listens;
-          printed =
-              printed
-              ∙ ap (λ (n : ℕ). append_known before.written
-              (port_line from after.link ++ receive_text (length r.read) n (shown_in_all kept)))
-              (kept_is (made gf16_coding) s MAX_SESSION pairs kept given.session follows)
-              ∙ ap (λ (n : ℕ). append_known before.written
-              (port_line from after.link ++ receive_text (length r.read) (count_met s pairs) n))
-              (shown_is (made gf16_coding) s MAX_SESSION pairs kept given.session follows);
           fewest = all_carry_fewest s.groups given.session.groups;
         })
+
+    -- and so are the numbers
+    session_numbers : (totals : Totals) → AreTotals s.number r.read totals → totals ≡ session_totals s r.read
+    session_numbers totals are =
+        let pairs = met_in s.number r.read in
+        let kept = kept_of s.number r.read in
+        let of_kept : totals.kept ≡ count_met s pairs =
+        are.kept ∙ kept_is (made gf16_coding) s MAX_SESSION pairs kept given.session follows in
+        let of_shown : totals.shown ≡ count_shown s pairs =
+        are.shown ∙ shown_is (made gf16_coding) s MAX_SESSION pairs kept given.session follows in
+        λ i. record { read = are.many i; kept = of_kept i; shown = of_shown i }
+
+    -- and the end, by whether every layer is shown
+    pub session_ended : (all : Bool) (totals : Totals) → AreTotals s.number r.read totals
+        → all_shown s (met_in s.number r.read) ≡ all → cond all (Done totals) (Incomplete totals) ≡ session_end s ds
+    session_ended all totals are is =
+        ap (λ (t : Totals). cond all (Done t) (Incomplete t)) (session_numbers totals are)
+        ∙ ap (λ (b : Bool). cond b (Done (session_totals s r.read)) (Incomplete (session_totals s r.read))) (sym is)
+        ∙ ap (session_end s) (sym read_is.0)
 
   port_well : (w : Way) → PortFailed w before after → Rose before.out_faults after.out_faults
   port_well (OnFile name) failed = absurd failed
@@ -146,20 +150,21 @@ module _ (s : Session) (from : Way) (layers store : List ℕ) (files : Files) (d
   -- by the end
   received : (end whole : ReceiveEnd) → whole ≡ end → CanReceive s from layers store files ds before after whole
       → IsBoundAtEnd from before.link after.link end → EndsReceive from s.number layers store before after end
-      → ReceivesSession s from layers store files ds before after end
-  received Done whole is can bound ends =
-      session_received ends.0 Done bound
-      (ap (λ (b : Bool). cond b Done Incomplete) (sym ((shown_where ends.0).0 ends.2))) ends.3
-  received Incomplete whole is can bound ends =
-      session_received ends.0 Incomplete bound
-      (ap (λ (b : Bool). cond b Done Incomplete)
-      (sym (false_from_ne_true (all_shown s (met_in s.number ends.0.read))
-      (λ all. ends.2 ((shown_where ends.0).1 all))))) ends.3
-  received TurnsSpent whole is can bound ends =
+      → ReceivesSession s from layers store files ds before after
+      × (end ≡ session_end s ds) × PrintedPort from before after
+  received (Done totals) whole is can bound ends =
+      (session_left ends.0 bound, session_ended ends.0 true totals ends.3 ((shown_where ends.0).0 ends.2), ends.4)
+  received (Incomplete totals) whole is can bound ends = (
+    session_left ends.0 bound,
+    session_ended ends.0 false totals ends.3
+        (false_from_ne_true (all_shown s (met_in s.number ends.0.read))
+        (λ all. ends.2 ((shown_where ends.0).1 all))),
+    ends.4,
+  )
+  received (TurnsSpent totals) whole is can bound ends =
       absurd (let few = (all_read from ends.0.read ds files before after given.told given.found given.few
       ends.0.input).1 in let many = ends.1 in omega (arith, few, many))
-  received OutFault whole is can bound (inl ends) = absurd (can.well.out (port_well from ends.1))
-  received OutFault whole is can bound (inr ends) = absurd (can.well.out ends.1.rose)
+  received OutFault whole is can bound ends = absurd (can.well.out (port_well from ends.1))
   received NoMemory whole is can bound ends = absurd (can.memory is)
   received PlaceFault whole is can bound ends = absurd (can.well.place (in_turn from layers store before after ends.0))
   received LinkFault whole is can bound ends = absurd (can.link ends.0)

@@ -1,12 +1,11 @@
-use Rattle.std.proofs.Common.{Bool, refl, sym, ap, subst, ◌∙◌}
+use Rattle.std.proofs.Common.{Bool, sym, ap, subst, ◌∙◌}
 use Rattle.pet_base.specs.Seen.{PlaceStops}
 use Rattle.pet_base.specs.LinkSeen.{LinkStops}
 use Rattle.command_receive.specs.Failures.{end_of_place, end_of_link}
 use Rattle.command_receive.specs.Receives.{Receives}
 use Rattle.pet_base.specs.Lent.{seen}
-use Rattle.pet_base.specs.OutsideSeen.{outside_seen}
 use Rattle.outside_routes.specs.Way.{way_of}
-use Rattle.command_receive.proofs.Ends.{receives_all, place_alike, link_alike, line_calm}
+use Rattle.command_receive.proofs.Ends.{bound_at_any, calm_at, ends_read, link_alike, place_alike}
 use Rattle.command_receive.proofs.Stops.{bound_at_stop}
 use Rattle.command_receive.specs.laws.NamedLaws.{names_what_it_stores}
 use Rattle.command_receive.specs.laws.SessionReceived.{completes_receive}
@@ -14,24 +13,28 @@ use Rattle.command_receive.proofs.command.receive.Goals as goal
 
 pub returns-in-Ok-clause-receives : goal.returns-in-Ok-clause-receives
 returns-in-Ok-clause-receives g c =
+    let from = way_of c.args.from in
+    let before = seen c.args.outside.now in
+    let after = seen c.read_all.new.outside in
     let done = c.in-Ok.ensures.done in
-    let between = c.read_all.new.outside in
-    let after = outside_seen g.P.Place g.K.Link g.S.Sink between.place.now between.link.now c.print_numbers.new.out
-    between.steps.now in
-    receives_all (way_of c.args.from) c.args.session c.args.layers.now c.args.store.now (seen c.args.outside.now)
-    (seen between) after done.0 c.in-Ok.totals done.1 refl refl refl done.2 c.read_all.ensures.link
-    c.in-Ok.ensures.listens c.read_all.ensures.later
-    c.print_numbers.ensures.later c.print_numbers.result c.print_numbers.ensures.ends
+    record {
+      link = c.read_all.ensures.link;
+      bound = bound_at_any from before.link after.link c.end_after.result c.in-Ok.ensures.listens;
+      later = c.read_all.ensures.later;
+      ends =
+          ends_read from c.args.session c.args.layers.now c.args.store.now before after done.0 c.in-Ok.reading done.1
+          done.2 c.end_after.result c.end_after.ensures;
+    }
 
 pub returns-in-Ok-clause-completes : goal.returns-in-Ok-clause-completes
 returns-in-Ok-clause-completes g c =
-    completes_receive (way_of c.args.from) c.args.session c.args.layers.now c.args.store.now _ _ c.print_numbers.result
+    completes_receive (way_of c.args.from) c.args.session c.args.layers.now c.args.store.now _ _ c.end_after.result
     (returns-in-Ok-clause-receives g c)
 
 pub returns-in-Ok-clause-named : goal.returns-in-Ok-clause-named
 returns-in-Ok-clause-named g c =
     names_what_it_stores (way_of c.args.from) c.args.session c.args.layers.now c.args.store.now _ _
-    c.print_numbers.result (returns-in-Ok-clause-receives g c).ends
+    c.end_after.result (returns-in-Ok-clause-receives g c).ends
 
 pub returns-in-Err-clause-receives : goal.returns-in-Err-clause-receives
 returns-in-Err-clause-receives g c =
@@ -59,14 +62,12 @@ returns-in-Err-clause-named g c =
 pub returns-in-Ok-clause-once_place : goal.returns-in-Ok-clause-once_place
 returns-in-Ok-clause-once_place g c =
     subst (λ (failed : Bool). PlaceStops failed (seen c.args.outside.now).place (seen c.read_all.new.outside).place)
-    (sym (line_calm c.in-Ok.totals _ _ _ _ c.print_numbers.result c.print_numbers.ensures.ends).0)
-    c.in-Ok.ensures.once_place
+    (sym (calm_at c.in-Ok.reading c.end_after.result c.end_after.ensures).0) c.in-Ok.ensures.once_place
 
 pub returns-in-Ok-clause-once_link : goal.returns-in-Ok-clause-once_link
 returns-in-Ok-clause-once_link g c =
     subst (λ (failed : Bool). LinkStops failed (seen c.args.outside.now).link (seen c.read_all.new.outside).link)
-    (sym (line_calm c.in-Ok.totals _ _ _ _ c.print_numbers.result c.print_numbers.ensures.ends).1)
-    c.in-Ok.ensures.once_link
+    (sym (calm_at c.in-Ok.reading c.end_after.result c.end_after.ensures).1) c.in-Ok.ensures.once_link
 
 pub returns-in-Err-clause-once_place : goal.returns-in-Err-clause-once_place
 returns-in-Err-clause-once_place g c =

@@ -9,7 +9,7 @@ use Rattle.command_receive.specs.inside.Numbers.{end_of}
 use Rattle.command_receive.specs.inside.Opened.{OnlyOpens, Opened}
 use Rattle.command_receive.specs.Receives.{EndsReceive}
 use Rattle.command_receive.specs.inside.SoFar.{HasReceived, StoppedSoFar}
-use Rattle.command_receive.proofs.FilesRead.{reads_with_totals, port_printed}
+use Rattle.command_receive.proofs.FilesRead.{reads_with_numbers, port_printed}
 use Rattle.command_receive.proofs.Stops.{stop_is, stops_reading, stops_storing}
 use Rattle.command_receive.proofs.reading.read_opened.Goals as goal
 
@@ -65,9 +65,9 @@ returns-clause-done g c layers before o only =
     let h = subst (λ (set : KeptSet). HasReceived set c.in_ok-read.read opened.place new.place
     (coming from opened.place opened.link) (coming from new.place new.link) r opened.steps new.steps)
     c.new-receiver.ensures.empty c.in_ok-read.ensures.done in
-    let totals = c.totals_of.ensures in
+    let totals = c.reading_of.ensures in
     let done =
-    reads_with_totals from c.args.session layers c.args.store.now c.in_ok-read.read c.totals_of.result before opened
+    reads_with_numbers from c.args.session layers c.args.store.now c.in_ok-read.read c.reading_of.result before opened
     new after r o only.steps h refl refl c.in_ok-write_store_file.ensures.written totals.read totals.kept totals.shown
     totals.complete in
     (done.0, done.1, port_printed from before opened after c.receive_all.ensures.link refl o.printed)
