@@ -1,6 +1,6 @@
 -- What was printed of an end, and that it changes nothing else.
 use Rattle.std.proofs.Common.{◌≡◌, ◌≢◌, ◌⊎◌, ◌↔◌, ℕ, Bool, false, List, [], ◌++◌, Option, refl, sym, ap, subst, ◌∙◌}
-use Rattle.std.proofs.Common.{arith, inl, inr}
+use Rattle.std.proofs.Common.{arith, inl, inr, ◌≤◌}
 use Rattle.std.specs.Io.KnownBytes.{append_known}
 use Rattle.pet_base.specs.Causes.{Rose}
 use Rattle.pet_base.specs.OutsideSeen.{OutsideSeen}
