@@ -1,0 +1,5 @@
+pub mod HeldSession
+pub mod HeldGroups
+pub mod ReplayCauses
+pub mod PlayedEvents
+pub mod LinesOfWorld

@@ -1,0 +1,3 @@
+pub mod ScriptLaws
+pub mod EventLaws
+pub mod ReplayLaws
