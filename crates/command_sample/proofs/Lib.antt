@@ -1,2 +1,10 @@
 pub mod Places
 pub mod Lines
+pub mod Numbers
+pub mod Making
+pub mod Arrived
+pub mod ArrivalSteps
+pub mod Encoders
+pub mod Handing
+pub mod WholeVideo
+pub mod Telling

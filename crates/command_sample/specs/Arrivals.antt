@@ -18,6 +18,10 @@ arriving place places = filter (λ n. not (is_lost n)) (map number_at (range_wit
 abbrev pub arrivals_of_group : List ℕ
 arrivals_of_group = arriving 0 100
 
--- those of so many groups, in order, each with the number of its group
+-- those of a group, each with the number of the group
+abbrev pub arrivals_in : ℕ → List (ℕ × ℕ)
+arrivals_in group = map (λ n. (group, n)) arrivals_of_group
+
+-- those of so many groups, in order
 abbrev pub arrivals_of : ℕ → List (ℕ × ℕ)
-arrivals_of groups = flat_map (λ g. map (λ n. (g, n)) arrivals_of_group) (range_with_len 0 groups)
+arrivals_of groups = flat_map arrivals_in (range_with_len 0 groups)

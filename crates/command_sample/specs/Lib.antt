@@ -1,3 +1,9 @@
 pub mod Arrivals
+pub mod SamplePriority
+pub mod SampleSession
+pub mod SampleSteps
+pub mod Samples
+pub mod Showings
 pub mod Summary
+pub mod inside
 pub mod laws

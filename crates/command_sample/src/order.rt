@@ -7,6 +7,9 @@ use arrayvec::ArrayVec;
 /// The packets of each group.
 pub const PACKETS: u16 = 100;
 
+/// How many of them arrive.
+pub(crate) const ARRIVING: u32 = 96;
+
 /// How far one number is from the next, modulo the packets.
 const STRIDE: u16 = 37;
 

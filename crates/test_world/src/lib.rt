@@ -11,6 +11,8 @@ pub use world_fixtures::{MESSAGE, group_encoder, world_of_one, world_of_two};
 #[cfg(test)]
 mod replay_tests;
 #[cfg(test)]
+mod sample_command_tests;
+#[cfg(test)]
 mod sample_tests;
 #[cfg(test)]
 mod script_rows;

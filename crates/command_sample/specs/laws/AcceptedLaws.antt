@@ -1,17 +1,16 @@
 -- What callers know of the stream of `sample`: it is accepted as a video stream.
-use Rattle.std.proofs.Common.{◌≡◌, ℕ, zero, suc, ◌+◌, ◌*◌, ◌<◌, ◌≤◌, Bool, true, false, List, [], ◌∷◌, ◌++◌, length}
-use Rattle.std.proofs.Common.{drop, refl, sym, ap, ◌∙◌, arith}
-use Rattle.std.specs.Prelude.{◌&&◌, ◌||◌, not, ◌==◌, nat_le, nat_lt, slice_index}
+use Rattle.std.proofs.Common.{◌≡◌, ℕ, suc, ◌+◌, ◌<◌, Bool, true, false, List, ◌∷◌, ◌++◌, length}
+use Rattle.std.proofs.Common.{drop, refl, ap, ◌∙◌, arith}
+use Rattle.std.specs.Prelude.{◌&&◌, not, ◌==◌, nat_le, nat_lt}
 use Rattle.std.proofs.lemmas.Bool.{ne_eqb, eqb-true, lt-ltb, le-ltb}
 use Rattle.pet_base.specs.declared.limits.TheConstants.{MAX_STREAM, MAX_SAMPLE_GROUPS}
 use Rattle.stream_sample.specs.declared.groups.TheConstants.{HEADERS, PICTURES}
 use Rattle.stream_sample.specs.SampleStream.{pictures_text, group_text, state_behind_group, sample_text}
 use Rattle.stream_sample.specs.laws.SampleLaws.{sample_length}
-use Rattle.mpeg_scan.specs.declared.refusal.Scan.{Scan}
 use Rattle.mpeg_scan.specs.declared.refusal.Scan.TheVariants.{Empty, NoHead, System, PictureType, ShortPicture, TooLong}
 use Rattle.mpeg_scan.specs.declared.refusal.Scan.TheVariants.{NoMemory}
 use Rattle.mpeg_scan.specs.StartCodes.{is_start_code, code_at, is_system_code, is_picture, type_at, is_type}
-use Rattle.mpeg_scan.specs.Refusals.{zeros, has_head, holds, IsAccepted}
+use Rattle.mpeg_scan.specs.Refusals.{zeros, has_head, IsAccepted}
 use Rattle.command_sample.specs.laws.StartCodeLaws.{is_well, sample_well, code_is_video, picture_is_long}
 use Rattle.command_sample.specs.laws.StartCodeLaws.{picture_has_type}
 

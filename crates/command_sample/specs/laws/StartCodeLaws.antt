@@ -1,9 +1,9 @@
 -- What callers know of the stream of `sample`: it is accepted as a video stream. A start code stands where a header, a
 -- picture or a slice begins, and nowhere else.
-use Rattle.std.proofs.Common.{◌≡◌, ℕ, zero, suc, ◌+◌, ◌-◌, ◌*◌, ◌/◌, ◌%◌, ◌<◌, ◌≤◌, Bool, true, false, cond, List, [], ◌∷◌, ◌++◌, length}
+use Rattle.std.proofs.Common.{◌≡◌, ℕ, zero, suc, ◌+◌, ◌/◌, ◌%◌, ◌<◌, Bool, true, false, List, [], ◌∷◌, ◌++◌, length}
 use Rattle.std.proofs.Common.{drop, get_or, refl, sym, ap, ◌∙◌, arith, append_assoc, drop-cons, length-drop}
-use Rattle.std.specs.Prelude.{All, ◌&&◌, not, ◌==◌, nat_le, nat_lt, slice_index}
-use Rattle.std.proofs.lemmas.Bool.{and_parts, cases_Bool, eqb-true, ne_eqb, ltb-true, lt-ltb, le-ltb}
+use Rattle.std.specs.Prelude.{All, ◌&&◌, not, ◌==◌, nat_lt, slice_index}
+use Rattle.std.proofs.lemmas.Bool.{and_parts, eqb-true, ltb-true}
 use Rattle.std.proofs.lemmas.List.{get_or-drop}
 use Rattle.std.proofs.lemmas.List.Elements.{All-head, All-tail}
 use Rattle.stream_sample.specs.declared.groups.Picture.{Picture}
@@ -11,8 +11,7 @@ use Rattle.stream_sample.specs.declared.groups.TheConstants.{HEADERS, PICTURES}
 use Rattle.stream_sample.specs.Filler.{bytes_from}
 use Rattle.stream_sample.specs.SampleStream.{picture_head, filled_in, picture_text, state_behind_picture, pictures_text}
 use Rattle.stream_sample.specs.SampleStream.{group_text, state_behind_group, sample_text}
-use Rattle.stream_sample.specs.laws.SampleLaws.{IsFiller, fillers, sample_length}
-use Rattle.pet_base.specs.declared.limits.TheConstants.{MAX_STREAM}
+use Rattle.stream_sample.specs.laws.SampleLaws.{IsFiller, fillers}
 use Rattle.mpeg_scan.specs.StartCodes.{is_start_code, code_at, is_system_code, type_at, is_type}
 
 -- the second byte behind a picture's start code tells a type
@@ -110,7 +109,7 @@ replaced : (all rest : List ℕ) (a b c d : ℕ) → all ≡ a ∷ b ∷ c ∷ d
 replaced all rest a b c d is first second third = cc
 
 -- the bytes of a start code, and those behind it
-at_start_code : (s : List ℕ) (p : ℕ) → is_start_code s p ≡ true
+pub at_start_code : (s : List ℕ) (p : ℕ) → is_start_code s p ≡ true
     → drop p s ≡ 0 ∷ 0 ∷ 1 ∷ code_at s p ∷ drop (suc (p + 3)) s
 at_start_code s p starts =
     let parts = and_parts (nat_lt (p + 3) (length s))
