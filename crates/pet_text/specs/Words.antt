@@ -5,11 +5,14 @@ use Rattle.std.specs.List.{starts_with}
 use Rattle.std.specs.Str.{bytes_eq}
 use Rattle.std.specs.declared.alloc.Global.{Global}
 use Rattle.outside_routes.specs.Address.{is_address}
+use Rattle.pet_base.specs.declared.limits.TheConstants.{MAX_SAMPLE_GROUPS}
+use Rattle.text_lines.specs.Digits.{number_up_to}
+use Rattle.text_script.specs.Script.{is_plain}
 use Rattle.pet_text.specs.declared.end.End.{End}
 use Rattle.pet_text.specs.declared.end.End.TheVariants.{File, Udp}
 use Rattle.pet_text.specs.declared.words.Command.{Command}
 use Rattle.pet_text.specs.declared.words.Command.TheVariants.{Plan, Check, Send, Receive, Merge, Video, Unwrap, Wrap}
-use Rattle.pet_text.specs.declared.words.Command.TheVariants.{Migrate}
+use Rattle.pet_text.specs.declared.words.Command.TheVariants.{Migrate, Replay, Sample}
 
 -- the texts of the words
 abbrev pub texts_of : List (String Global) → List (List ℕ)
@@ -128,6 +131,29 @@ abbrev pub migrate_of : List ℕ → List ℕ → Option Command
 migrate_of store out =
     if is_name store && (is_name out && not (bytes_eq out store)) then Some (Migrate store out) else None
 
+-- `replay STREAM PRIORITY SCRIPT`: three files that are read
+abbrev pub replay_of : List ℕ → List ℕ → List ℕ → Option Command
+replay_of stream priority script =
+    if is_name stream && (is_name priority && is_name script) then Some (Replay stream priority script) else None
+
+-- a decimal number below 2^64, without leading zeros
+abbrev pub plain_number : List ℕ → Option ℕ
+plain_number word = if is_plain word then number_up_to 18446744073709551615 word else None
+
+-- such a number from 1 to 100
+abbrev pub some_groups : Option ℕ → Option ℕ
+some_groups None = None
+some_groups (Some groups) = if nat_le 1 groups && nat_le groups MAX_SAMPLE_GROUPS then Some groups else None
+
+abbrev pub groups_of : List ℕ → Option ℕ
+groups_of word = some_groups (plain_number word)
+
+-- `sample SEED GROUPS`: a seed, and how many groups
+abbrev pub sample_of : Option ℕ → Option ℕ → Option Command
+sample_of None groups = None
+sample_of (Some seed) None = None
+sample_of (Some seed) (Some groups) = Some (Sample seed groups)
+
 -- The command of the words, where they have the form of one. Datagrams are received at any port, also at one that is to
 -- be
 -- found, which is port 0; they are sent to a port of another number.
@@ -137,12 +163,14 @@ command_of (word ∷ first ∷ second ∷ []) =
     else if bytes_eq word (codes "video") then video_of first second
     else if bytes_eq word (codes "wrap") then wrap_of first second
     else if bytes_eq word (codes "migrate") then migrate_of first second
+    else if bytes_eq word (codes "sample") then sample_of (plain_number first) (groups_of second)
     else None
 command_of (word ∷ first ∷ second ∷ third ∷ []) =
     if bytes_eq word (codes "check") then check_of first second third
     else if bytes_eq word (codes "send") then send_of first second (end_of 1 third)
     else if bytes_eq word (codes "merge") then merge_of first second third
     else if bytes_eq word (codes "unwrap") then unwrap_of first (id_of second) third
+    else if bytes_eq word (codes "replay") then replay_of first second third
     else None
 command_of (word ∷ first ∷ second ∷ third ∷ fourth ∷ []) =
     if bytes_eq word (codes "receive") then receive_of (end_of 0 first) (session_of second) third fourth else None

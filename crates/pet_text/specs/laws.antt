@@ -1,3 +1,3 @@
 pub mod WordLaws
 pub mod WrittenFileLaws
-pub mod VideoIdLaws
+pub mod NumberLaws

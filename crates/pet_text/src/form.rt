@@ -1,11 +1,12 @@
 //! What the words of a command give, before their texts are copied.
 ghost use Rattle.std.specs.Prelude.{◌≡◌, ◌&&◌, not, [], ◌∷◌, option_map};
 ghost use Rattle.std.specs.Str.{bytes_eq};
-ghost use Rattle.pet_text.specs.Words.{is_name, texts_of, end_of, session_of, plan_of, check_of, send_files, send_of, receive_files, receive_of, merge_of, video_of, id_of, unwrap_of, wrap_of, migrate_of, command_of};
+ghost use Rattle.pet_text.specs.Words.{is_name, texts_of, end_of, session_of, plan_of, check_of, send_files, send_of, receive_files, receive_of, merge_of, video_of, id_of, unwrap_of, wrap_of, migrate_of, replay_of, plain_number, groups_of, sample_of, command_of};
 ghost use Rattle.pet_text.specs.inside.Forms.{command_in};
 ghost use Rattle.pet_text.specs.Ends.{end_in};
 
 use crate::end::read_end;
+use crate::numbers::{read_groups, read_plain};
 use crate::session::{read_id, read_session};
 use outside_routes::Route;
 
@@ -54,6 +55,15 @@ pub(crate) enum Form<'a> {
         store: &'a str,
         out: &'a str,
     },
+    Replay {
+        stream: &'a str,
+        priority: &'a str,
+        script: &'a str,
+    },
+    Sample {
+        seed: u64,
+        groups: u32,
+    },
 }
 
 /// The form that the words have, where they have one.
@@ -91,6 +101,8 @@ fn two_words<'a>(word: &str, first: &'a str, second: &'a str) -> Option<Form<'a>
         wrap_words(first, second)
     } else if same(word, "migrate") {
         migrate_words(first, second)
+    } else if same(word, "sample") {
+        sample_words(first, second)
     } else {
         None
     }
@@ -109,6 +121,8 @@ fn three_words<'a>(word: &str, first: &'a str, second: &'a str, third: &'a str) 
         merge_words(first, second, third)
     } else if same(word, "unwrap") {
         unwrap_words(first, second, third)
+    } else if same(word, "replay") {
+        replay_words(first, second, third)
     } else {
         None
     }
@@ -280,6 +294,30 @@ fn migrate_words<'a>(store: &'a str, out: &'a str) -> Option<Form<'a>>
         return None;
     }
     Some(Form::Migrate { store, out })
+}
+
+/// The words behind `replay`.
+fn replay_words<'a>(stream: &'a str, priority: &'a str, script: &'a str) -> Option<Form<'a>>
+    ensures { option_map command_in result ≡ replay_of stream.now priority.now script.now }
+{
+    if stream.is_empty() || priority.is_empty() || script.is_empty() {
+        return None;
+    }
+    Some(Form::Replay {
+        stream,
+        priority,
+        script,
+    })
+}
+
+/// The words behind `sample`.
+fn sample_words<'a>(seed: &str, groups: &str) -> Option<Form<'a>>
+    ensures { option_map command_in result ≡ sample_of (plain_number seed.now) (groups_of groups.now) }
+{
+    Some(Form::Sample {
+        seed: read_plain(seed)?,
+        groups: read_groups(groups)?,
+    })
 }
 
 /// Whether two texts are one.

@@ -11,6 +11,7 @@ mod end;
 mod form;
 mod lines;
 mod name;
+mod numbers;
 mod session;
 mod words;
 

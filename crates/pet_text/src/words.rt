@@ -1,6 +1,6 @@
 //! The command words.
 ghost use Rattle.std.specs.Prelude.{◌≡◌, ◌↔◌, Err, None, Some, IfOk};
-ghost use Rattle.pet_text.specs.declared.words.Command.TheVariants.{Plan, Check, Send, Receive, Merge, Video, Unwrap, Wrap, Migrate};
+ghost use Rattle.pet_text.specs.declared.words.Command.TheVariants.{Plan, Check, Send, Receive, Merge, Video, Unwrap, Wrap, Migrate, Replay, Sample};
 ghost use Rattle.pet_text.specs.Words.{texts_of, command_of};
 ghost use Rattle.pet_text.specs.inside.Forms.{command_in};
 ghost use Rattle.pet_text.specs.Ends.{end_in};
@@ -89,6 +89,22 @@ pub enum Command {
         /// The file that the new store is written to, which differs from that of the old one.
         out: Name,
     },
+    /// Prints what a script's events show to several receivers of a session, and what these then keep.
+    Replay {
+        /// The file of the stream.
+        stream: Name,
+        /// The file of the priority.
+        priority: Name,
+        /// The file of the script.
+        script: Name,
+    },
+    /// Prints the summary of a session that is made of a number, and of its packets received.
+    Sample {
+        /// The number that the stream is made of.
+        seed: u64,
+        /// How many groups the stream has, from 1 to 100.
+        groups: u32,
+    },
 }
 
 /// Why there is no command.
@@ -149,6 +165,12 @@ fn own_command(alloc: Global, form: Form<'_>) -> Result<Command, AllocError>
         Form::Unwrap { file, id, out } => own_unwrap(alloc, file, id, out),
         Form::Wrap { file, out } => own_wrap(alloc, file, out),
         Form::Migrate { store, out } => own_migrate(alloc, store, out),
+        Form::Replay {
+            stream,
+            priority,
+            script,
+        } => own_replay(alloc, stream, priority, script),
+        Form::Sample { seed, groups } => Ok(Command::Sample { seed, groups }),
     }
 }
 
@@ -251,4 +273,22 @@ fn own_migrate(alloc: Global, store: &str, out: &str) -> Result<Command, AllocEr
     let store = Name::new(alloc, store)?;
     let out = Name::new(alloc, out)?;
     Ok(Command::Migrate { store, out })
+}
+
+fn own_replay(
+    alloc: Global,
+    stream: &str,
+    priority: &str,
+    script: &str,
+) -> Result<Command, AllocError>
+    ensures { IfOk result (λ command. command ≡ Replay stream.now priority.now script.now) }
+{
+    let stream = Name::new(alloc, stream)?;
+    let priority = Name::new(alloc, priority)?;
+    let script = Name::new(alloc, script)?;
+    Ok(Command::Replay {
+        stream,
+        priority,
+        script,
+    })
 }

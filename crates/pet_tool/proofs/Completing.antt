@@ -38,6 +38,12 @@ use Rattle.command_merge.specs.Merges.{Merges}
 use Rattle.command_merge.specs.laws.SessionMerged.{completes_merge}
 use Rattle.command_migrate.specs.Migrates.{Migrates}
 use Rattle.command_migrate.specs.laws.SessionMigrated.{completes_migrate}
+use Rattle.command_replay.specs.Replays.{Replays}
+use Rattle.command_replay.specs.laws.ReplayLaws.{replays_session}
+use Rattle.command_sample.specs.declared.command.SampleEnd.{SampleEnd}
+use Rattle.command_sample.specs.declared.command.SampleEnd.TheVariants as sample
+use Rattle.command_sample.specs.Samples.{SampleEnds, Samples}
+use Rattle.command_sample.specs.SampleSteps.{sample_steps}
 use Rattle.command_video.specs.Videos.{Videos}
 use Rattle.command_video.specs.VideosSession.{HasStoreOf, VideosSession}
 use Rattle.command_video.specs.laws.SessionVideo.{completes_video}
@@ -51,7 +57,7 @@ use Rattle.text_status.specs.declared.status.Status.{Status}
 use Rattle.text_status.specs.declared.status.Status.TheVariants.{Done, Incomplete, OutFault, TurnsSpent}
 use Rattle.pet_text.specs.declared.words.Command.{Command}
 use Rattle.pet_text.specs.declared.words.Command.TheVariants.{Plan, Check, Send, Receive, Merge, Video, Unwrap, Wrap}
-use Rattle.pet_text.specs.declared.words.Command.TheVariants.{Migrate}
+use Rattle.pet_text.specs.declared.words.Command.TheVariants.{Migrate, Replay, Sample}
 use Rattle.outside_routes.specs.RouteFaults.{AimedFailed, BoundFailed}
 use Rattle.outside_routes.specs.Sending.{Sent}
 use Rattle.outside_routes.specs.Way.{Way, OnFile, OnLink}
@@ -59,18 +65,18 @@ use Rattle.pet_text.specs.Ends.{way_in}
 use Rattle.text_status.specs.Statuses.{fault_text}
 use Rattle.pet_text.specs.Lines.{video_text}
 use Rattle.pet_tool.specs.Completes.{Completes, CompletesPlan, CompletesCheck, CompletesSend, CompletesMerge}
-use Rattle.pet_tool.specs.Completes.{CompletesMigrate}
+use Rattle.pet_tool.specs.Completes.{CompletesMigrate, CompletesReplay, CompletesSample}
 use Rattle.pet_tool.specs.declared.end.End.{End}
 use Rattle.pet_tool.specs.declared.end.End.TheVariants as end
-use Rattle.pet_tool.specs.Does.{Does, Runs, OnFiles, OnRead}
+use Rattle.pet_tool.specs.Does.{Does, Runs, OnFiles, OnRead, OnCountedRead, OnMemory}
 use Rattle.pet_tool.specs.Lines.{line_of, line_of_plan, line_of_check, line_of_send, line_of_merge, line_of_video}
-use Rattle.pet_tool.specs.Lines.{line_of_receive, line_of_migrate, totals_text}
+use Rattle.pet_tool.specs.Lines.{line_of_receive, line_of_migrate, line_of_replay, line_of_sample, totals_text}
 use Rattle.pet_tool.proofs.SystemCompleted.{unwrap_completes, wrap_completes}
 use Rattle.pet_tool.proofs.Telling.{ended_as, told, Told}
 use Rattle.pet_tool.specs.Headline.{Headline, HasWhatWasSent, NamesWhatItStores, ReceivesWhatWasSent}
 use Rattle.pet_tool.specs.Headline.{session_numbers}
 use Rattle.pet_tool.specs.Statuses.{status_of, status_of_plan, status_of_check, status_of_send, status_of_receive}
-use Rattle.pet_tool.specs.Statuses.{status_of_merge, status_of_video, status_of_migrate}
+use Rattle.pet_tool.specs.Statuses.{status_of_merge, status_of_video, status_of_migrate, status_of_replay, status_of_sample}
 use Rattle.pet_tool.specs.Undisturbed.{IsUndisturbed, EndsWith}
 
 -- the lines and then that of the status which the end has
@@ -335,6 +341,43 @@ migrate_completes store out before after status runs = λ s files pairs calm giv
           (ap status_of_migrate migrated.ended) (ap line_of_migrate migrated.ended),
     )
 
+replay_completes : (stream priority script : List ℕ) (before after : OutsideSeen) (status : Status)
+    → Runs end.Replay (OnCountedRead (λ old new. Replays old new stream priority script)) before after status
+    → CompletesReplay stream priority script before after status
+replay_completes stream priority script before after status runs = λ p b t events calm given there read.
+    let only = runs.did.only in
+    let said = told (line_of_replay runs.end) (status_of_replay runs.end) runs.between after status runs.tells
+    (λ rose. calm.well.out (subst (λ (n : ℕ). Rose n after.out_faults) only.out_faults rose)) in
+    let replayed = replays_session stream priority script before.place runs.between.place runs.end only.did p b t events
+    (record {
+      memory = λ none. calm.memory (said.ended ∙ ap status_of_replay none);
+      well = λ had. calm.well.place (subst (λ (now : Seen). Failed
+          (reading stream ∷ reading priority ∷ reading script ∷ []) before.place now) (sym said.place) had);
+      given = given;
+      script_there = there;
+      read = read;
+    }) in
+    done_with end.Replay before runs.between after runs.end status _ only.written said (ap status_of_replay replayed.ended)
+    (ap line_of_replay replayed.ended ∙ replayed.is)
+
+-- the text of an end of `sample` that is not want of memory
+sampled : (seed groups : ℕ) (end : SampleEnd) → (end ≡ sample.NoMemory → ⊥) → SampleEnds seed groups end
+    → Samples seed groups (line_of_sample end) × (status_of_sample end ≡ Done)
+sampled seed groups (sample.Done text) memory is = (is, refl)
+sampled seed groups sample.NoMemory memory is = absurd (memory refl)
+
+sample_completes : (seed groups : ℕ) (before after : OutsideSeen) (status : Status)
+    → Runs end.Sample (OnMemory (SampleEnds seed groups) (sample_steps seed groups)) before after status
+    → CompletesSample seed groups before after status
+sample_completes seed groups before after status runs = λ calm.
+    let said = told (line_of_sample runs.end) (status_of_sample runs.end) runs.between after status runs.tells
+    (λ rose. calm.well.out (subst (λ (n : ℕ). Rose n after.out_faults) runs.did.out_faults rose)) in
+    let made = sampled seed groups runs.end (λ none. calm.memory (said.ended ∙ ap status_of_sample none)) runs.did.did in (
+      line_of_sample runs.end,
+      made.0,
+      done_with end.Sample before runs.between after runs.end status _ runs.did.written said made.1 refl,
+    )
+
 -- what `video` completed, and what was told of it
 module _ (store out : List ℕ) (before after : OutsideSeen) (status : Status)
     (runs : Runs end.Video (OnFiles (Videos store out)) before after status) (p b : List ℕ) (files : Files)
@@ -395,3 +438,7 @@ completes (Some (Video store out)) before after status runs = record {
 completes (Some (Unwrap file id out)) before after status runs = unwrap_completes file id out before after status runs
 completes (Some (Wrap file out)) before after status runs = wrap_completes file out before after status runs
 completes (Some (Migrate store out)) before after status runs = migrate_completes store out before after status runs
+completes (Some (Replay stream priority script)) before after status runs =
+    replay_completes stream priority script before after status runs
+completes (Some (Sample seed groups)) before after status runs =
+    sample_completes seed groups before after status runs

@@ -25,6 +25,11 @@ use Rattle.mpeg_system.specs.declared.wrap_files.WrapEnd.TheVariants as wrap
 use Rattle.command_migrate.specs.Ends.{has_failed as migrate_failed}
 use Rattle.command_migrate.specs.declared.command.MigrateEnd.{MigrateEnd}
 use Rattle.command_migrate.specs.declared.command.MigrateEnd.TheVariants as migrate
+use Rattle.command_replay.specs.Ends.{replay_failed}
+use Rattle.command_replay.specs.declared.command.ReplayEnd.{ReplayEnd}
+use Rattle.command_replay.specs.declared.command.ReplayEnd.TheVariants as replay
+use Rattle.command_sample.specs.declared.command.SampleEnd.{SampleEnd}
+use Rattle.command_sample.specs.declared.command.SampleEnd.TheVariants as sample
 use Rattle.command_send.specs.Failures.{end_of_place as send_place, end_of_link as send_link}
 use Rattle.command_send.specs.declared.command.SendEnd.{SendEnd}
 use Rattle.command_send.specs.declared.command.SendEnd.TheVariants as send
@@ -36,11 +41,11 @@ use Rattle.text_status.specs.declared.status.Status.TheVariants.{Done}
 use Rattle.pet_tool.specs.declared.end.End.{End}
 use Rattle.pet_tool.specs.Does.{Runs}
 use Rattle.pet_tool.specs.Lines.{line_of, line_of_plan, line_of_check, line_of_send, line_of_merge, line_of_video}
-use Rattle.pet_tool.specs.Lines.{line_of_unwrap, line_of_wrap, line_of_migrate}
+use Rattle.pet_tool.specs.Lines.{line_of_unwrap, line_of_wrap, line_of_migrate, line_of_replay, line_of_sample}
 use Rattle.pet_tool.specs.Lines.{line_of_receive, totals_text}
 use Rattle.pet_tool.specs.Statuses.{of_place, of_link, status_of, status_of_session, status_of_plan, status_of_check}
 use Rattle.pet_tool.specs.Statuses.{status_of_send, status_of_receive, status_of_merge, status_of_video}
-use Rattle.pet_tool.specs.Statuses.{status_of_unwrap, status_of_wrap, status_of_migrate}
+use Rattle.pet_tool.specs.Statuses.{status_of_unwrap, status_of_wrap, status_of_migrate, status_of_replay, status_of_sample}
 use Rattle.pet_tool.specs.Told.{Tells}
 use Rattle.pet_tool.proofs.Telling.{strikes}
 
@@ -127,6 +132,19 @@ migrate_agrees migrate.AlreadyNew = unlined refl refl
 migrate_agrees (migrate.BadStore at kind) = unlined refl refl
 migrate_agrees (migrate.TooWide group) = unlined refl refl
 migrate_agrees (migrate.Full group) = unlined refl refl
+
+pub replay_agrees : (end : ReplayEnd) → Agrees (replay_failed end) false (line_of_replay end) (status_of_replay end)
+replay_agrees (replay.Done text) = lined text.items
+replay_agrees replay.NoMemory = unlined refl refl
+replay_agrees replay.PlaceFault = unlined refl refl
+replay_agrees (replay.BadPriority fault) = unlined refl refl
+replay_agrees (replay.BadStream scan) = unlined refl refl
+replay_agrees (replay.BadPlan fault) = of_session fault
+replay_agrees (replay.BadScript line) = unlined refl refl
+
+pub sample_agrees : (end : SampleEnd) → Agrees false false (line_of_sample end) (status_of_sample end)
+sample_agrees (sample.Done text) = lined text.items
+sample_agrees sample.NoMemory = unlined refl refl
 
 pub send_agrees : (end : SendEnd) → Agrees (send_place end) (send_link end) (line_of_send end) (status_of_send end)
 send_agrees (send.Done sent) = lined (line_of_send (send.Done sent))

@@ -11,10 +11,12 @@ use Rattle.command_video.specs.declared.command.VideoEnd.TheVariants as video
 use Rattle.mpeg_system.specs.declared.unwrap_files.UnwrapEnd.TheVariants as unwrap
 use Rattle.mpeg_system.specs.declared.wrap_files.WrapEnd.TheVariants as wrap
 use Rattle.command_migrate.specs.declared.command.MigrateEnd.TheVariants as migrate
+use Rattle.command_replay.specs.declared.command.ReplayEnd.TheVariants as replay
+use Rattle.command_sample.specs.declared.command.SampleEnd.TheVariants as sample
 use Rattle.text_status.specs.declared.status.Status.TheVariants.{NoMemory}
 use Rattle.pet_text.specs.declared.words.Command.{Command}
 use Rattle.pet_text.specs.declared.words.Command.TheVariants.{Plan, Check, Send, Receive, Merge, Video, Unwrap, Wrap}
-use Rattle.pet_text.specs.declared.words.Command.TheVariants.{Migrate}
+use Rattle.pet_text.specs.declared.words.Command.TheVariants.{Migrate, Replay, Sample}
 use Rattle.command_receive.specs.laws.SessionReceived.{nothing_received}
 use Rattle.pet_text.specs.Ends.{way_in}
 use Rattle.pet_text.specs.declared.end.End.TheVariants.{File, Udp}
@@ -130,6 +132,25 @@ module _ (before after : OutsideSeen) (status : Status) (tells : Tells [] NoMemo
     between = before;
     end = migrate.NoMemory;
     did = record { link = refl; written = refl; out_faults = refl; did = refl };
+    tells = tells;
+    once = no_failure;
+  }
+  no_memory (Replay stream priority script) = record {
+    between = before;
+    end = replay.NoMemory;
+    did =
+        record {
+          only = record { link = refl; written = refl; out_faults = refl; did = tt };
+          files = refl;
+        };
+    tells = tells;
+    once = no_failure;
+  }
+  no_memory (Sample seed groups) = record {
+    between = before;
+    end = sample.NoMemory;
+    did =
+        record { place = refl; link = refl; written = refl; out_faults = refl; cost = omega arith; did = tt };
     tells = tells;
     once = no_failure;
   }

@@ -8,7 +8,6 @@ use Rattle.pet_base.specs.Seen.{Files, Seen, with_file}
 use Rattle.outside_files.specs.Uses.{reading, writing, Failed}
 use Rattle.mpeg_system.specs.declared.refusal.System.{System}
 use Rattle.mpeg_system.specs.declared.refusal.System.TheVariants.{TooLong}
-use Rattle.mpeg_system.specs.declared.unwrap_files.UnwrapEnd.{UnwrapEnd}
 use Rattle.mpeg_system.specs.Completes.{HasFile, UnwrapsStream, WrapsVideo, unwrap_end}
 use Rattle.mpeg_system.specs.Unwraps.{Unwraps}
 use Rattle.mpeg_system.specs.Videos.{refusal_of, video_of}

@@ -1,14 +1,18 @@
 -- The words that were read, as they are handed to a command.
-use Rattle.std.proofs.Common.{◌≡◌, ◌≤◌, ℕ, List, Some, sym, ap, subst, ◌∙◌}
+use Rattle.std.proofs.Common.{◌≡◌, ◌<◌, ◌≤◌, ℕ, List, Some, sym, ap, subst, ◌∙◌}
 use Rattle.outside_routes.specs.Way.{Way}
+use Rattle.pet_base.specs.declared.limits.TheConstants.{MAX_SAMPLE_GROUPS}
+use Rattle.pet_base.specs.Seen.{Seen}
+use Rattle.command_replay.specs.Replays.{Replays}
+use Rattle.command_replay.specs.declared.command.ReplayEnd.{ReplayEnd}
 use Rattle.command_send.specs.Sends.{IsOther}
 use Rattle.pet_text.specs.declared.words.Command.{Command}
-use Rattle.pet_text.specs.declared.words.Command.TheVariants.{Check, Send, Unwrap}
+use Rattle.pet_text.specs.declared.words.Command.TheVariants.{Check, Sample, Send, Unwrap}
 use Rattle.pet_text.specs.declared.end.End.{End}
 use Rattle.pet_text.specs.declared.end.End.TheVariants.{File, Udp}
 use Rattle.pet_text.specs.Ends.{way_in}
 use Rattle.pet_text.specs.Words.{command_of}
-use Rattle.pet_text.specs.laws.VideoIdLaws.{HasVideoId, has_video_id}
+use Rattle.pet_text.specs.laws.NumberLaws.{HasNumbers, has_numbers}
 use Rattle.pet_text.specs.laws.WordLaws.{send_differs}
 
 other_file : (stream priority : List ℕ) (end : End) (words : List (List ℕ))
@@ -37,10 +41,23 @@ pub video_id_in : (words : List (List ℕ)) (command : Command) (file out : List
     → command_of words ≡ Some command
     → command ≡ Unwrap file id out → (0xE0 ≤ id) × (id ≤ 0xEF)
 video_id_in words command file out id words_are is =
-    subst (λ (c : Command). HasVideoId c) is (has_video_id command words words_are)
+    subst HasNumbers is (has_numbers command words words_are)
 
 -- the command, by the words that are handed to `unwrap`
 pub unwrap_words : (command : Command) (file : List ℕ) (id : ℕ) (out f o : List ℕ) → command ≡ Unwrap file id out
     → f ≡ file → o ≡ out → command ≡ Unwrap f id o
 unwrap_words command file id out f o is f_is o_is =
     is ∙ ap (λ (x : List ℕ). Unwrap x id out) (sym f_is) ∙ ap (λ (x : List ℕ). Unwrap f id x) (sym o_is)
+
+-- the groups of `sample` are some, and not too many
+pub groups_in : (words : List (List ℕ)) (command : Command) (seed groups : ℕ) → command_of words ≡ Some command
+    → command ≡ Sample seed groups → (0 < groups) × (groups ≤ MAX_SAMPLE_GROUPS)
+groups_in words command seed groups words_are is = subst HasNumbers is (has_numbers command words words_are)
+
+-- what `replay` does of texts that are these names
+pub replays_named : (s p f stream priority script : List ℕ) (old new : Seen) (end : ReplayEnd) → s ≡ stream
+    → p ≡ priority → f ≡ script → Replays old new s p f end → Replays old new stream priority script end
+replays_named s p f stream priority script old new end s_is p_is f_is did =
+    subst (λ (x : List ℕ). Replays old new stream priority x end) f_is
+    (subst (λ (x : List ℕ). Replays old new stream x f end) p_is
+    (subst (λ (x : List ℕ). Replays old new x p f end) s_is did))

@@ -1,6 +1,7 @@
 -- When each command is done, and what it then does; for `receive` this is the headline. This project's own.
-use Rattle.std.specs.Prelude.{◌≡◌, ℕ, ◌<◌, ◌≤◌, true, List, [], ◌∷◌, ◌++◌, length, Option, None, Some}
-use Rattle.pet_base.specs.declared.limits.TheConstants.{MAX_STREAM}
+use Rattle.std.specs.Prelude.{◌≡◌, ℕ, ◌<◌, ◌≤◌, true, List, [], ◌∷◌, ◌++◌, length, Option, None, Some, Ok}
+use Rattle.pet_base.specs.declared.limits.TheConstants.{MAX_REPLAY_SESSION, MAX_STREAM}
+use Rattle.pet_base.specs.declared.event.Event.{Event}
 use Rattle.pet_base.specs.OutsideSeen.{OutsideSeen}
 use Rattle.outside_files.specs.Uses.{reading, writing}
 use Rattle.pet_base.specs.Seen.{Files, with_file}
@@ -10,10 +11,13 @@ use Rattle.packet_met.specs.Met.{Pair, all_shown}
 use Rattle.packet_met.specs.MetStore.{pairs_store}
 use Rattle.command_merge.specs.MergesSession.{HasStoresOf}
 use Rattle.command_migrate.specs.MigratesSession.{HasOldStoreOf}
+use Rattle.command_replay.specs.Replays.{script_in}
+use Rattle.command_replay.specs.ReplayText.{replay_text}
+use Rattle.command_sample.specs.Samples.{Samples}
 use Rattle.command_video.specs.StreamVideo.{stream_video}
 use Rattle.command_video.specs.VideosSession.{HasStoreOf}
 use Rattle.stream_session.specs.Accepted.{session_of}
-use Rattle.stream_session.specs.Sessions.{IsGiven, tables_in}
+use Rattle.stream_session.specs.Sessions.{IsGiven, IsGivenWithin, tables_in}
 use Rattle.command_plan.specs.SessionPlan.{session_plan}
 use Rattle.command_send.specs.Sends.{sent_line_text}
 use Rattle.command_send.specs.SendsSession.{SendsAll, uses}
@@ -30,7 +34,7 @@ use Rattle.text_status.specs.declared.status.Status.{Status}
 use Rattle.text_status.specs.declared.status.Status.TheVariants.{Done, BadSystem}
 use Rattle.pet_text.specs.declared.words.Command.{Command}
 use Rattle.pet_text.specs.declared.words.Command.TheVariants.{Plan, Check, Send, Receive, Merge, Video, Unwrap, Wrap}
-use Rattle.pet_text.specs.declared.words.Command.TheVariants.{Migrate}
+use Rattle.pet_text.specs.declared.words.Command.TheVariants.{Migrate, Replay, Sample}
 use Rattle.pet_text.specs.Ends.{way_in}
 use Rattle.pet_tool.specs.Headline.{MeetsHeadline}
 use Rattle.pet_tool.specs.Undisturbed.{IsUndisturbed, IsUndisturbedOn, EndsWith}
@@ -122,6 +126,21 @@ CompletesMigrate store out before after status =
     → (after.place.files ≡ Some (with_file out (pairs_store s pairs) files))
     × EndsWith Done (migrated_text (length (met_frames s pairs))) before after status
 
+-- three files that are told, a session that `replay` takes and a script of it, are replayed
+abbrev pub CompletesReplay : List ℕ → List ℕ → List ℕ → OutsideSeen → OutsideSeen → Status → Type 0
+CompletesReplay stream priority script before after status =
+    (p b t : List ℕ) (events : List Event)
+    → IsUndisturbed (reading stream ∷ reading priority ∷ reading script ∷ []) before after status
+    → (given : IsGivenWithin MAX_REPLAY_SESSION before.place stream priority p b) → given.files script ≡ Some t
+    → script_in p b t ≡ Ok events
+    → EndsWith Done (replay_text (session_of p b) events) before after status
+
+-- a sample is made and received, whatever its seed
+abbrev pub CompletesSample : ℕ → ℕ → OutsideSeen → OutsideSeen → Status → Type 0
+CompletesSample seed groups before after status =
+    IsUndisturbed [] before after status
+    → (text : List ℕ) × Samples seed groups text × EndsWith Done text before after status
+
 -- a case for each form of words; of words of no form nothing is owed here
 abbrev pub Completes : Option Command → OutsideSeen → OutsideSeen → Status → Type 0
 Completes None before after status = Unit {0}
@@ -137,3 +156,6 @@ Completes (Some (Video store out)) before after status = CompletesVideo store ou
 Completes (Some (Unwrap file id out)) before after status = CompletesUnwrap file id out before after status
 Completes (Some (Wrap file out)) before after status = CompletesWrap file out before after status
 Completes (Some (Migrate store out)) before after status = CompletesMigrate store out before after status
+Completes (Some (Replay stream priority script)) before after status =
+    CompletesReplay stream priority script before after status
+Completes (Some (Sample seed groups)) before after status = CompletesSample seed groups before after status

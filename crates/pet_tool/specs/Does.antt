@@ -1,5 +1,5 @@
 -- What a run does, by the command that its words give. This project's own.
-use Rattle.std.specs.Prelude.{◌≡◌, Option, None, Some}
+use Rattle.std.specs.Prelude.{◌≡◌, ℕ, ◌+◌, ◌≤◌, Option, None, Some}
 use Rattle.pet_base.specs.OutsideSeen.{OutsideSeen}
 use Rattle.pet_base.specs.Seen.{Seen}
 use Rattle.outside_files.specs.Failures.{EndsAtOnce}
@@ -9,6 +9,9 @@ use Rattle.command_migrate.specs.Migrates.{Migrates}
 use Rattle.command_plan.specs.Checks.{Checks}
 use Rattle.command_plan.specs.Plans.{PlanEnds}
 use Rattle.command_receive.specs.Receives.{Receives}
+use Rattle.command_replay.specs.Replays.{Replays}
+use Rattle.command_sample.specs.Samples.{SampleEnds}
+use Rattle.command_sample.specs.SampleSteps.{sample_steps}
 use Rattle.command_send.specs.Sends.{Sends}
 use Rattle.command_video.specs.Videos.{Videos}
 use Rattle.mpeg_system.specs.Unwraps.{Unwraps}
@@ -17,7 +20,7 @@ use Rattle.text_status.specs.declared.status.Status.{Status}
 use Rattle.text_status.specs.declared.status.Status.TheVariants.{Usage}
 use Rattle.pet_text.specs.declared.words.Command.{Command}
 use Rattle.pet_text.specs.declared.words.Command.TheVariants.{Plan, Check, Send, Receive, Merge, Video, Unwrap, Wrap}
-use Rattle.pet_text.specs.declared.words.Command.TheVariants.{Migrate}
+use Rattle.pet_text.specs.declared.words.Command.TheVariants.{Migrate, Replay, Sample}
 use Rattle.pet_text.specs.Ends.{way_in}
 use Rattle.text_status.specs.Statuses.{fault_text}
 use Rattle.pet_tool.specs.declared.end.End.{End}
@@ -52,6 +55,21 @@ pub record OnRead {E : Type 0} (Did : Seen → Seen → E → Type 0) (before af
   pub files : after.place.files ≡ before.place.files
   pub steps : after.steps ≡ before.steps
 
+-- a command that reads files alone, and counts steps
+pub record OnCountedRead {E : Type 0} (Did : Seen → Seen → E → Type 0) (before after : OutsideSeen)
+    (end : E) : Type 0 where
+  pub only : OnFiles Did before after end
+  pub files : after.place.files ≡ before.place.files
+
+-- a command that uses memory alone, and counts so many steps at most
+pub record OnMemory {E : Type 0} (Did : E → Type 0) (most : ℕ) (before after : OutsideSeen) (end : E) : Type 0 where
+  pub place : after.place ≡ before.place
+  pub link : after.link ≡ before.link
+  pub written : after.written ≡ before.written
+  pub out_faults : after.out_faults ≡ before.out_faults
+  pub cost : after.steps ≤ before.steps + most
+  pub did : Did end
+
 -- Words of no form are refused as usage: its line is printed, and nothing else is done.
 pub record Refuses (before after : OutsideSeen) (status : Status) : Type 0 where
   pub ended : status ≡ Usage
@@ -76,3 +94,7 @@ Does (Some (Unwrap file id out)) before after status =
 Does (Some (Wrap file out)) before after status = Runs end.Wrap (OnFiles (Wraps file out)) before after status
 Does (Some (Migrate store out)) before after status =
     Runs end.Migrate (OnFiles (Migrates store out)) before after status
+Does (Some (Replay stream priority script)) before after status =
+    Runs end.Replay (OnCountedRead (λ old new. Replays old new stream priority script)) before after status
+Does (Some (Sample seed groups)) before after status =
+    Runs end.Sample (OnMemory (SampleEnds seed groups) (sample_steps seed groups)) before after status

@@ -20,10 +20,14 @@ use Rattle.mpeg_system.specs.declared.wrap_files.WrapEnd.{WrapEnd}
 use Rattle.mpeg_system.specs.declared.wrap_files.WrapEnd.TheVariants as wrap
 use Rattle.command_migrate.specs.declared.command.MigrateEnd.{MigrateEnd}
 use Rattle.command_migrate.specs.declared.command.MigrateEnd.TheVariants as migrate
+use Rattle.command_replay.specs.declared.command.ReplayEnd.{ReplayEnd}
+use Rattle.command_replay.specs.declared.command.ReplayEnd.TheVariants as replay
+use Rattle.command_sample.specs.declared.command.SampleEnd.{SampleEnd}
+use Rattle.command_sample.specs.declared.command.SampleEnd.TheVariants as sample
 use Rattle.pet_text.specs.Lines.{receive_text, merged_text, video_text, unwrapped_text, wrapped_text, migrated_text}
 use Rattle.pet_tool.specs.declared.end.End.{End}
 use Rattle.pet_tool.specs.declared.end.End.TheVariants.{Usage, NoMemory, Plan, Check, Send, Receive, Merge, Video}
-use Rattle.pet_tool.specs.declared.end.End.TheVariants.{Unwrap, Wrap, Migrate}
+use Rattle.pet_tool.specs.declared.end.End.TheVariants.{Unwrap, Wrap, Migrate, Replay, Sample}
 
 abbrev pub line_of_plan : PlanEnd → List ℕ
 line_of_plan (plan.Done text) = text.items
@@ -106,6 +110,19 @@ line_of_migrate (migrate.BadStore at kind) = []
 line_of_migrate (migrate.TooWide group) = []
 line_of_migrate (migrate.Full group) = []
 
+abbrev pub line_of_replay : ReplayEnd → List ℕ
+line_of_replay (replay.Done text) = text.items
+line_of_replay replay.NoMemory = []
+line_of_replay replay.PlaceFault = []
+line_of_replay (replay.BadPriority fault) = []
+line_of_replay (replay.BadStream scan) = []
+line_of_replay (replay.BadPlan fault) = []
+line_of_replay (replay.BadScript line) = []
+
+abbrev pub line_of_sample : SampleEnd → List ℕ
+line_of_sample (sample.Done text) = text.items
+line_of_sample sample.NoMemory = []
+
 -- the line of the port, which `receive` prints itself, is no line of its end
 abbrev pub line_of : End → List ℕ
 line_of Usage = []
@@ -119,3 +136,5 @@ line_of (Video end) = line_of_video end
 line_of (Unwrap end) = line_of_unwrap end
 line_of (Wrap end) = line_of_wrap end
 line_of (Migrate end) = line_of_migrate end
+line_of (Replay end) = line_of_replay end
+line_of (Sample end) = line_of_sample end

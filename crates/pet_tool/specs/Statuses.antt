@@ -21,6 +21,10 @@ use Rattle.mpeg_system.specs.declared.wrap_files.WrapEnd.{WrapEnd}
 use Rattle.mpeg_system.specs.declared.wrap_files.WrapEnd.TheVariants as wrap
 use Rattle.command_migrate.specs.declared.command.MigrateEnd.{MigrateEnd}
 use Rattle.command_migrate.specs.declared.command.MigrateEnd.TheVariants as migrate
+use Rattle.command_replay.specs.declared.command.ReplayEnd.{ReplayEnd}
+use Rattle.command_replay.specs.declared.command.ReplayEnd.TheVariants as replay
+use Rattle.command_sample.specs.declared.command.SampleEnd.{SampleEnd}
+use Rattle.command_sample.specs.declared.command.SampleEnd.TheVariants as sample
 use Rattle.pet_tool.specs.declared.end.End.{End}
 use Rattle.pet_tool.specs.declared.end.End.TheVariants as end
 use Rattle.text_status.specs.declared.status.PlanKind.TheVariants as kind
@@ -117,6 +121,19 @@ status_of_migrate (migrate.BadStore at kind) = BadStore 1 at kind
 status_of_migrate (migrate.TooWide group) = TooWide group
 status_of_migrate (migrate.Full group) = Full group
 
+abbrev pub status_of_replay : ReplayEnd → Status
+status_of_replay (replay.Done text) = Done
+status_of_replay replay.NoMemory = NoMemory
+status_of_replay replay.PlaceFault = PlaceFault
+status_of_replay (replay.BadPriority fault) = BadPriority fault
+status_of_replay (replay.BadStream scan) = BadStream scan
+status_of_replay (replay.BadPlan fault) = status_of_session fault
+status_of_replay (replay.BadScript line) = BadScript line
+
+abbrev pub status_of_sample : SampleEnd → Status
+status_of_sample (sample.Done text) = Done
+status_of_sample sample.NoMemory = NoMemory
+
 abbrev pub status_of : End → Status
 status_of end.Usage = Usage
 status_of end.NoMemory = NoMemory
@@ -129,6 +146,8 @@ status_of (end.Video e) = status_of_video e
 status_of (end.Unwrap e) = status_of_unwrap e
 status_of (end.Wrap e) = status_of_wrap e
 status_of (end.Migrate e) = status_of_migrate e
+status_of (end.Replay e) = status_of_replay e
+status_of (end.Sample e) = status_of_sample e
 
 -- which statuses tell of a failure of the place, and which of one of the link
 abbrev pub of_place : Status → Bool

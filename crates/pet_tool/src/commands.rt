@@ -1,5 +1,6 @@
 //! The command that the words give is run.
-ghost use Rattle.std.specs.Prelude.{◌≡◌, ◌≢◌, ◌≤◌, ℕ, List, Some};
+ghost use Rattle.std.specs.Prelude.{◌≡◌, ◌≢◌, ◌<◌, ◌≤◌, ℕ, List, Some};
+ghost use Rattle.pet_base.specs.declared.limits.TheConstants.{MAX_SAMPLE_GROUPS};
 ghost use Rattle.pet_base.specs.OutsideSeen.{OutsideSeen};
 ghost use Rattle.pet_base.specs.Lent.{seen, AreSame};
 ghost use Rattle.command_merge.specs.Merges.{Merges};
@@ -7,13 +8,16 @@ ghost use Rattle.command_migrate.specs.Migrates.{Migrates};
 ghost use Rattle.command_plan.specs.Checks.{Checks};
 ghost use Rattle.command_plan.specs.Plans.{PlanEnds};
 ghost use Rattle.command_receive.specs.Receives.{Receives};
+ghost use Rattle.command_replay.specs.Replays.{Replays};
+ghost use Rattle.command_sample.specs.Samples.{SampleEnds};
+ghost use Rattle.command_sample.specs.SampleSteps.{sample_steps};
 ghost use Rattle.command_send.specs.Sends.{IsOther, Sends};
 ghost use Rattle.command_video.specs.Videos.{Videos};
 ghost use Rattle.mpeg_system.specs.Unwraps.{Unwraps};
 ghost use Rattle.mpeg_system.specs.Wraps.{Wraps};
 ghost use Rattle.outside_routes.specs.Way.{way_of};
 ghost use Rattle.pet_text.specs.Words.{command_of};
-ghost use Rattle.pet_tool.specs.Does.{Does, Runs, OnFiles, OnRead};
+ghost use Rattle.pet_tool.specs.Does.{Does, Runs, OnFiles, OnRead, OnCountedRead, OnMemory};
 ghost use Rattle.pet_tool.specs.Lines.{line_of};
 ghost use Rattle.pet_tool.specs.Told.{Tells};
 ghost use Rattle.pet_tool.specs.Statuses.{status_of};
@@ -24,12 +28,14 @@ use command_merge::merge;
 use command_migrate::migrate;
 use command_plan::{check, plan};
 use command_receive::receive;
+use command_replay::replay;
+use command_sample::sample;
 use command_send::send;
 use command_video::video;
 use mpeg_system::{unwrap_loop, wrap_loop};
 use outside_routes::Route;
 use pet_base::{Link, Outside, Place, Sink};
-use pet_text::Command;
+use pet_text::{Command, Name};
 use std::alloc::Global;
 use std::sync::ledger::Ledger;
 
@@ -53,13 +59,10 @@ pub(crate) fn run_command<P: Place, K: Link, S: Sink, L: Ledger>(
             stream,
             priority,
             plan,
-        } => run_check(
-            alloc,
-            stream.as_str(),
-            priority.as_str(),
-            plan.as_str(),
-            outside,
-        ),
+        } => {
+            let plan = plan.as_str();
+            run_check(alloc, stream.as_str(), priority.as_str(), plan, outside)
+        }
         Command::Send {
             stream,
             priority,
@@ -73,14 +76,10 @@ pub(crate) fn run_command<P: Place, K: Link, S: Sink, L: Ledger>(
             session,
             layers,
             store,
-        } => run_receive(
-            alloc,
-            from.route(),
-            *session,
-            layers.as_str(),
-            store.as_str(),
-            outside,
-        ),
+        } => {
+            let (layers, store) = (layers.as_str(), store.as_str());
+            run_receive(alloc, from.route(), *session, layers, store, outside)
+        }
         Command::Merge { first, second, out } => {
             let out = out.as_str();
             run_merge(alloc, first.as_str(), second.as_str(), out, outside)
@@ -93,6 +92,12 @@ pub(crate) fn run_command<P: Place, K: Link, S: Sink, L: Ledger>(
         Command::Migrate { store, out } => {
             run_migrate(alloc, store.as_str(), out.as_str(), outside)
         }
+        Command::Replay {
+            stream,
+            priority,
+            script,
+        } => run_replay(alloc, stream, priority, script, outside),
+        Command::Sample { seed, groups } => run_sample(alloc, *seed, *groups, outside),
     }
 }
 
@@ -237,4 +242,46 @@ fn run_migrate<P: Place, K: Link, S: Sink, L: Ledger>(
     ensures same { AreSame outside.old outside.new }
 {
     End::Migrate(migrate(alloc, store, out, outside.place))
+}
+
+/// Runs `replay`.
+fn run_replay<P: Place, K: Link, S: Sink, L: Ledger>(
+    alloc: Global,
+    stream: &Name,
+    priority: &Name,
+    script: &Name,
+    outside: &mut Outside<P, K, S, L>,
+) -> End
+    ensures does { (told : OutsideSeen) (status : Status) → Tells (line_of result) (status_of result) (seen outside.new) told status
+        → Runs End.Replay (OnCountedRead (λ old new. Replays old new stream.now priority.now script.now)) (seen outside.old) told status }
+    ensures known { result ≢ End.Usage }
+    ensures same { AreSame outside.old outside.new }
+{
+    let (stream, priority) = (stream.as_str(), priority.as_str());
+    let script = script.as_str();
+    End::Replay(replay(
+        alloc,
+        stream,
+        priority,
+        script,
+        outside.place,
+        outside.steps,
+    ))
+}
+
+/// Runs `sample`.
+fn run_sample<P: Place, K: Link, S: Sink, L: Ledger>(
+    alloc: Global,
+    seed: u64,
+    groups: u32,
+    outside: &mut Outside<P, K, S, L>,
+) -> End
+    requires some { 0 < groups }
+    requires few { groups ≤ MAX_SAMPLE_GROUPS }
+    ensures does { (told : OutsideSeen) (status : Status) → Tells (line_of result) (status_of result) (seen outside.new) told status
+        → Runs End.Sample (OnMemory (SampleEnds seed groups) (sample_steps seed groups)) (seen outside.old) told status }
+    ensures known { result ≢ End.Usage }
+    ensures same { AreSame outside.old outside.new }
+{
+    End::Sample(sample(alloc, seed, groups, outside.steps))
 }

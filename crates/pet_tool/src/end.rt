@@ -4,14 +4,16 @@ ghost use Rattle.pet_tool.specs.Lines.{line_of};
 ghost use Rattle.pet_tool.specs.Statuses.{status_of};
 
 use crate::statuses::{
-    check_status, merge_status, migrate_status, plan_status, receive_status, send_status,
-    unwrap_status, video_status, wrap_status,
+    check_status, merge_status, migrate_status, plan_status, receive_status, replay_status,
+    sample_status, send_status, unwrap_status, video_status, wrap_status,
 };
 use arrayvec::ArrayVec;
 use command_merge::MergeEnd;
 use command_migrate::MigrateEnd;
 use command_plan::{CheckEnd, PlanEnd};
 use command_receive::ReceiveEnd;
+use command_replay::ReplayEnd;
+use command_sample::SampleEnd;
 use command_send::SendEnd;
 use command_video::VideoEnd;
 use mpeg_system::{UnwrapEnd, WrapEnd};
@@ -45,6 +47,10 @@ pub enum End {
     Wrap(WrapEnd),
     /// A run of `migrate`.
     Migrate(MigrateEnd),
+    /// A run of `replay`.
+    Replay(ReplayEnd),
+    /// A run of `sample`.
+    Sample(SampleEnd),
 }
 
 /// The status of each end.
@@ -64,6 +70,8 @@ pub(crate) fn end_status(end: &End) -> Status
         End::Unwrap(end) => unwrap_status(end),
         End::Wrap(end) => wrap_status(end),
         End::Migrate(end) => migrate_status(end),
+        End::Replay(end) => replay_status(end),
+        End::Sample(end) => sample_status(end),
     }
 }
 
@@ -74,6 +82,8 @@ pub(crate) fn end_line<'a>(end: &'a End, room: &'a mut ArrayVec<u8, 64>) -> &'a 
 {
     match end {
         End::Plan(PlanEnd::Done(text)) => return text.as_slice(),
+        End::Replay(ReplayEnd::Done(text)) => return text.as_slice(),
+        End::Sample(SampleEnd::Done(text)) => return text.as_slice(),
         End::Check(CheckEnd::Done(groups)) => least_line(*groups, room),
         End::Send(SendEnd::Done(sent)) => {
             send_line(&sent.session, sent.groups, sent.datagrams, room)
@@ -98,7 +108,9 @@ pub(crate) fn end_line<'a>(end: &'a End, room: &'a mut ArrayVec<u8, 64>) -> &'a 
         | End::Video(_)
         | End::Unwrap(_)
         | End::Wrap(_)
-        | End::Migrate(_) => {}
+        | End::Migrate(_)
+        | End::Replay(_)
+        | End::Sample(_) => {}
     }
     room.as_slice()
 }

@@ -1,11 +1,13 @@
 //! The status of each end of each command.
 ghost use Rattle.std.specs.Prelude.{◌≡◌, ◌≢◌};
-ghost use Rattle.pet_tool.specs.Statuses.{status_of_plan, status_of_check, status_of_send, status_of_receive, status_of_merge, status_of_video, status_of_unwrap, status_of_wrap, status_of_migrate, status_of_session};
+ghost use Rattle.pet_tool.specs.Statuses.{status_of_plan, status_of_check, status_of_send, status_of_receive, status_of_merge, status_of_video, status_of_unwrap, status_of_wrap, status_of_migrate, status_of_replay, status_of_sample, status_of_session};
 
 use command_merge::MergeEnd;
 use command_migrate::MigrateEnd;
 use command_plan::{CheckEnd, PlanEnd};
 use command_receive::ReceiveEnd;
+use command_replay::ReplayEnd;
+use command_sample::SampleEnd;
 use command_send::SendEnd;
 use command_video::VideoEnd;
 use mpeg_system::{UnwrapEnd, WrapEnd};
@@ -150,6 +152,33 @@ pub(crate) fn migrate_status(end: &MigrateEnd) -> Status
         MigrateEnd::BadStore(at, kind) => Status::BadStore(1, *at, *kind),
         MigrateEnd::TooWide(group) => Status::TooWide(*group),
         MigrateEnd::Full(group) => Status::Full(*group),
+    }
+}
+
+/// The status of each end of `replay`.
+pub(crate) fn replay_status(end: &ReplayEnd) -> Status
+    ensures status { result ≡ status_of_replay end.now }
+    ensures known { result ≢ Status.Usage }
+{
+    match end {
+        ReplayEnd::Done(_) => Status::Done,
+        ReplayEnd::NoMemory => Status::NoMemory,
+        ReplayEnd::PlaceFault => Status::PlaceFault,
+        ReplayEnd::BadPriority(fault) => Status::BadPriority(*fault),
+        ReplayEnd::BadStream(scan) => Status::BadStream(*scan),
+        ReplayEnd::BadPlan(fault) => session_status(fault),
+        ReplayEnd::BadScript(line) => Status::BadScript(*line),
+    }
+}
+
+/// The status of each end of `sample`.
+pub(crate) fn sample_status(end: &SampleEnd) -> Status
+    ensures status { result ≡ status_of_sample end.now }
+    ensures known { result ≢ Status.Usage }
+{
+    match end {
+        SampleEnd::Done(_) => Status::Done,
+        SampleEnd::NoMemory => Status::NoMemory,
     }
 }
 

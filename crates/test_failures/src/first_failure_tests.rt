@@ -47,7 +47,7 @@ fn failing(alloc: Global, call: u64, fails: bool) -> Result<Vec<u64>, AllocError
     Ok(calls)
 }
 
-/// The files of the example: stream, priorities, plan, datagrams, a store, and one of the first version.
+/// The files of the example: stream, priorities, plan, datagrams, a store, one of the first version, and a script.
 fn files(alloc: Global, failing: Vec<u64>) -> Result<MemoryPlace, NoMemory> {
     let mut place = MemoryPlace::new(alloc, failing);
     place.add("s", &STREAM)?;
@@ -56,6 +56,7 @@ fn files(alloc: Global, failing: Vec<u64>) -> Result<MemoryPlace, NoMemory> {
     place.add("a", &NOTHING)?;
     place.add("m", &old_store())?;
     place.add("q", &entries(alloc)?)?;
+    place.add("e", b"give A 0 0\n")?;
     Ok(place)
 }
 
@@ -160,7 +161,7 @@ fn calls_of(alloc: Global, words: &[&str], object: Object) -> Result<Option<u64>
 /// Words, and how many calls of the link and of the output they come to.
 type Row = (&'static [&'static str], [u64; 2]);
 
-static ROWS: [Row; 11] = [
+static ROWS: [Row; 12] = [
     (&["plan", "s", "f"], [0, 1]),
     (&["check", "s", "f", "p"], [0, 1]),
     (&["send", "s", "f", "file:d"], [0, 1]),
@@ -175,6 +176,7 @@ static ROWS: [Row; 11] = [
     (&["wrap", "s", "o"], [0, 1]),
     (&["unwrap", "s", "e0", "o"], [0, 0]),
     (&["migrate", "m", "o"], [0, 1]),
+    (&["replay", "s", "f", "e"], [0, 1]),
 ];
 
 #[test]
@@ -187,5 +189,14 @@ fn asks_for_nothing_behind_a_failure(rt: HostRuntime) -> Result<(), NoMemory> {
         assert_eq!(rt; of_link, Some(calls[0]), "{words:?}");
         assert_eq!(rt; of_output, Some(calls[1]), "{words:?}");
     }
+    Ok(())
+}
+
+#[test]
+fn sample_asks_for_no_file_and_no_link(rt: HostRuntime) -> Result<(), NoMemory> {
+    let words = ["sample", "1", "1"];
+    assert_eq!(rt; calls_of(rt.alloc(), &words, Object::Files)?, Some(0));
+    assert_eq!(rt; calls_of(rt.alloc(), &words, Object::Link)?, Some(0));
+    assert_eq!(rt; calls_of(rt.alloc(), &words, Object::Output)?, Some(1));
     Ok(())
 }

@@ -21,4 +21,6 @@ mod text_fixtures;
 #[cfg(test)]
 mod text_tests;
 #[cfg(test)]
+mod world_run_tests;
+#[cfg(test)]
 mod world_text_tests;

@@ -29,7 +29,7 @@ pub(crate) const NOTHING: [u8; 32] = [
 ];
 
 /// Words of no form.
-pub(crate) static USAGE: [&[&str]; 21] = [
+pub(crate) static USAGE: [&[&str]; 26] = [
     &[],
     &["plan", "s"],
     &["plan", "s", ""],
@@ -51,6 +51,11 @@ pub(crate) static USAGE: [&[&str]; 21] = [
     &["merge", "a", "b", "a"],
     &["merge", "a", "b", "b"],
     &["video", "a", "a"],
+    &["replay", "s", "f"],
+    &["sample", "01", "4"],
+    &["sample", "1", "0"],
+    &["sample", "1", "101"],
+    &["sample", "18446744073709551616", "4"],
 ];
 
 /// A stream `s`, priorities `f` and a file `p`.

@@ -45,6 +45,17 @@ fn names_of(command: &Command) -> [&str; 4] {
         Command::Unwrap { file, out, .. } => ["unwrap", file.as_str(), out.as_str(), ""],
         Command::Wrap { file, out } => ["wrap", file.as_str(), out.as_str(), ""],
         Command::Migrate { store, out } => ["migrate", store.as_str(), out.as_str(), ""],
+        Command::Replay {
+            stream,
+            priority,
+            script,
+        } => [
+            "replay",
+            stream.as_str(),
+            priority.as_str(),
+            script.as_str(),
+        ],
+        Command::Sample { .. } => ["sample", "", "", ""],
     }
 }
 
@@ -84,7 +95,7 @@ type Row = (
 const NAMED: Option<[u8; 8]> = Some([0, 1, 2, 3, 4, 5, 6, 7]);
 
 /// The words of each command, and addresses up to their last colon. Port 0, which is one that is to be found, is only received at.
-static READ: [Row; 25] = [
+static READ: [Row; 27] = [
     (
         &["receive", "file:a", SESSION, "b", "c"],
         ["receive", "a", "b", "c"],
@@ -130,6 +141,13 @@ static READ: [Row; 25] = [
         false,
     ),
     (&["wrap", "v", "o"], ["wrap", "v", "o", ""], None, false),
+    (
+        &["replay", "s", "f", "f"],
+        ["replay", "s", "f", "f"],
+        None,
+        false,
+    ),
+    (&["sample", "0", "1"], ["sample", "", "", ""], None, false),
     (
         &["send", "s", "f", "udp:x:1"],
         ["send", "s", "f", "x:1"],

@@ -39,6 +39,8 @@ fn names_of(command: &Command) -> (&str, &str) {
         Command::Unwrap { file, out, .. } | Command::Wrap { file, out } => {
             (file.as_str(), out.as_str())
         }
+        Command::Replay { stream, script, .. } => (stream.as_str(), script.as_str()),
+        Command::Sample { .. } => ("", ""),
     }
 }
 
@@ -53,7 +55,7 @@ fn text_of(end: &End) -> &str {
 /// Words, and what they name first and last.
 type Row = (&'static [&'static str], &'static str, &'static str);
 
-static ROWS: [Row; 9] = [
+static ROWS: [Row; 11] = [
     (&["plan", "s", "f"], "s", "f"),
     (&["check", "s", "f", "p"], "s", "p"),
     (&["send", "s", "f", "file:d"], "s", "d"),
@@ -67,6 +69,8 @@ static ROWS: [Row; 9] = [
     (&["unwrap", "m", "e0", "o"], "m", "o"),
     (&["wrap", "v", "o"], "v", "o"),
     (&["migrate", "t", "o"], "t", "o"),
+    (&["replay", "s", "f", "e"], "s", "e"),
+    (&["sample", "1", "4"], "", ""),
 ];
 
 /// Whether the words of this row are read.

@@ -4,7 +4,7 @@ use Rattle.std.specs.Str.{bytes_eq}
 use Rattle.pet_text.specs.declared.end.End.TheVariants.{File, Udp}
 use Rattle.pet_text.specs.declared.words.Command.{Command}
 use Rattle.pet_text.specs.declared.words.Command.TheVariants.{Plan, Check, Send, Receive, Merge, Video, Unwrap, Wrap}
-use Rattle.pet_text.specs.declared.words.Command.TheVariants.{Migrate}
+use Rattle.pet_text.specs.declared.words.Command.TheVariants.{Migrate, Replay, Sample}
 
 -- the name of each file that a command writes differs, as a text, from every other file name of the command
 abbrev pub writes_others : Command → Bool
@@ -20,3 +20,5 @@ writes_others (Video store out) = not (bytes_eq out store)
 writes_others (Unwrap file id out) = not (bytes_eq out file)
 writes_others (Wrap file out) = not (bytes_eq out file)
 writes_others (Migrate store out) = not (bytes_eq out store)
+writes_others (Replay stream priority script) = true
+writes_others (Sample seed groups) = true

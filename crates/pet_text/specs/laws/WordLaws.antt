@@ -6,9 +6,10 @@ use Rattle.std.proofs.lemmas.Bool.{and_parts}
 use Rattle.pet_text.specs.declared.end.End.{End}
 use Rattle.pet_text.specs.declared.end.End.TheVariants.{File, Udp}
 use Rattle.pet_text.specs.declared.words.Command.TheVariants.{Plan, Check, Send, Receive, Merge, Video, Unwrap, Wrap}
-use Rattle.pet_text.specs.declared.words.Command.TheVariants.{Migrate}
+use Rattle.pet_text.specs.declared.words.Command.TheVariants.{Migrate, Replay}
 use Rattle.pet_text.specs.Words.{is_name, plan_of, check_of, send_of, send_files, receive_files, receive_of, merge_of}
-use Rattle.pet_text.specs.Words.{video_of, unwrap_of, wrap_of, migrate_of, id_of, end_of, session_of, command_of}
+use Rattle.pet_text.specs.Words.{video_of, unwrap_of, wrap_of, migrate_of, id_of, end_of, session_of, replay_of}
+use Rattle.pet_text.specs.Words.{plain_number, groups_of, sample_of, command_of}
 
 -- an answer that a test lets through
 pub if_some : {A : Type 0} (t : Bool) (x y : A) → cond t (Some x) None ≡ Some y → (t ≡ true) × (x ≡ y)
@@ -62,6 +63,16 @@ module _ (stream priority to : List ℕ) where
       let both = if_some (is_name store && (is_name out && not (bytes_eq out store))) (Migrate store out)
       (Send stream priority (File to)) e in absurd (cc)
 
+  not_replay : (first second third : List ℕ) → replay_of first second third ≡ Some (Send stream priority (File to)) → ⊥
+  not_replay first second third e =
+      let both = if_some (is_name first && (is_name second && is_name third)) (Replay first second third)
+      (Send stream priority (File to)) e in absurd (cc)
+
+  not_sample : (seed groups : Option ℕ) → sample_of seed groups ≡ Some (Send stream priority (File to)) → ⊥
+  not_sample None groups e = absurd (cc)
+  not_sample (Some seed) None e = absurd (cc)
+  not_sample (Some seed) (Some groups) e = absurd (cc)
+
   not_true : (t : Bool) → not t ≡ true → t ≡ false
   not_true true e = absurd (cc)
   not_true false e = refl
@@ -103,20 +114,30 @@ module _ (stream priority to : List ℕ) where
       none_sent : None ≡ Some (Send stream priority (File to)) → ⊥
       none_sent e = cc
 
-      by_migrate : (t : Bool) → cond t (migrate_of first second) None ≡ Some (Send stream priority (File to))
+      by_sample : (t : Bool)
+          → cond t (sample_of (plain_number first) (groups_of second)) None ≡ Some (Send stream priority (File to))
+          → bytes_eq to stream ≡ false
+      by_sample true e = absurd (not_sample (plain_number first) (groups_of second) e)
+      by_sample false e = absurd (none_sent e)
+
+      by_migrate : (t : Bool)
+          → cond t (migrate_of first second) (cond (bytes_eq word (codes "sample"))
+          (sample_of (plain_number first) (groups_of second)) None) ≡ Some (Send stream priority (File to))
           → bytes_eq to stream ≡ false
       by_migrate true e = absurd (not_migrate first second e)
-      by_migrate false e = absurd (none_sent e)
+      by_migrate false e = by_sample (bytes_eq word (codes "sample")) e
 
       by_wrap : (t : Bool)
-          → cond t (wrap_of first second) (cond (bytes_eq word (codes "migrate")) (migrate_of first second) None)
+          → cond t (wrap_of first second) (cond (bytes_eq word (codes "migrate")) (migrate_of first second)
+          (cond (bytes_eq word (codes "sample")) (sample_of (plain_number first) (groups_of second)) None))
           ≡ Some (Send stream priority (File to)) → bytes_eq to stream ≡ false
       by_wrap true e = absurd (not_wrap first second e)
       by_wrap false e = by_migrate (bytes_eq word (codes "migrate")) e
 
       by_video : (t : Bool)
           → cond t (video_of first second) (cond (bytes_eq word (codes "wrap")) (wrap_of first second)
-          (cond (bytes_eq word (codes "migrate")) (migrate_of first second) None))
+          (cond (bytes_eq word (codes "migrate")) (migrate_of first second)
+          (cond (bytes_eq word (codes "sample")) (sample_of (plain_number first) (groups_of second)) None)))
           ≡ Some (Send stream priority (File to)) → bytes_eq to stream ≡ false
       by_video true e = absurd (not_video first second e)
       by_video false e = by_wrap (bytes_eq word (codes "wrap")) e
@@ -124,7 +145,8 @@ module _ (stream priority to : List ℕ) where
       by_plan : (t : Bool)
           → cond t (plan_of first second) (cond (bytes_eq word (codes "video")) (video_of first second)
           (cond (bytes_eq word (codes "wrap")) (wrap_of first second)
-          (cond (bytes_eq word (codes "migrate")) (migrate_of first second) None)))
+          (cond (bytes_eq word (codes "migrate")) (migrate_of first second)
+          (cond (bytes_eq word (codes "sample")) (sample_of (plain_number first) (groups_of second)) None))))
           ≡ Some (Send stream priority (File to)) → bytes_eq to stream ≡ false
       by_plan true e = absurd (not_plan first second e)
       by_plan false e = by_video (bytes_eq word (codes "video")) e
@@ -133,15 +155,22 @@ module _ (stream priority to : List ℕ) where
       none_sent : None ≡ Some (Send stream priority (File to)) → ⊥
       none_sent e = cc
 
+      by_replay : (t : Bool) → cond t (replay_of first second third) None ≡ Some (Send stream priority (File to))
+          → bytes_eq to stream ≡ false
+      by_replay true e = absurd (not_replay first second third e)
+      by_replay false e = absurd (none_sent e)
+
       by_unwrap : (t : Bool)
-          → cond t (unwrap_of first (id_of second) third) None ≡ Some (Send stream priority (File to))
+          → cond t (unwrap_of first (id_of second) third) (cond (bytes_eq word (codes "replay"))
+          (replay_of first second third) None) ≡ Some (Send stream priority (File to))
           → bytes_eq to stream ≡ false
       by_unwrap true e = absurd (not_unwrap first (id_of second) third e)
-      by_unwrap false e = absurd (none_sent e)
+      by_unwrap false e = by_replay (bytes_eq word (codes "replay")) e
 
       by_merge : (t : Bool)
           → cond t (merge_of first second third) (cond (bytes_eq word (codes "unwrap"))
-          (unwrap_of first (id_of second) third) None) ≡ Some (Send stream priority (File to))
+          (unwrap_of first (id_of second) third)
+          (cond (bytes_eq word (codes "replay")) (replay_of first second third) None)) ≡ Some (Send stream priority (File to))
           → bytes_eq to stream ≡ false
       by_merge true e = absurd (not_merge first second third e)
       by_merge false e = by_unwrap (bytes_eq word (codes "unwrap")) e
@@ -149,7 +178,8 @@ module _ (stream priority to : List ℕ) where
       by_send : (t : Bool)
           → cond t (send_of first second (end_of 1 third))
           (cond (bytes_eq word (codes "merge")) (merge_of first second third)
-          (cond (bytes_eq word (codes "unwrap")) (unwrap_of first (id_of second) third) None))
+          (cond (bytes_eq word (codes "unwrap")) (unwrap_of first (id_of second) third)
+          (cond (bytes_eq word (codes "replay")) (replay_of first second third) None)))
           ≡ Some (Send stream priority (File to)) → bytes_eq to stream ≡ false
       by_send true e = of_end first second (end_of 1 third) e
       by_send false e = by_merge (bytes_eq word (codes "merge")) e
@@ -158,7 +188,8 @@ module _ (stream priority to : List ℕ) where
           → cond t (check_of first second third) (cond (bytes_eq word (codes "send"))
           (send_of first second (end_of 1 third))
           (cond (bytes_eq word (codes "merge")) (merge_of first second third)
-          (cond (bytes_eq word (codes "unwrap")) (unwrap_of first (id_of second) third) None)))
+          (cond (bytes_eq word (codes "unwrap")) (unwrap_of first (id_of second) third)
+          (cond (bytes_eq word (codes "replay")) (replay_of first second third) None))))
           ≡ Some (Send stream priority (File to)) → bytes_eq to stream ≡ false
       by_check true e = absurd (not_check first second third e)
       by_check false e = by_send (bytes_eq word (codes "send")) e

@@ -7,9 +7,10 @@ use Rattle.pet_text.specs.declared.end.End.{End}
 use Rattle.pet_text.specs.declared.end.End.TheVariants.{File, Udp}
 use Rattle.pet_text.specs.declared.words.Command.{Command}
 use Rattle.pet_text.specs.declared.words.Command.TheVariants.{Plan, Check, Send, Receive, Merge, Video, Unwrap, Wrap}
-use Rattle.pet_text.specs.declared.words.Command.TheVariants.{Migrate}
+use Rattle.pet_text.specs.declared.words.Command.TheVariants.{Migrate, Replay, Sample}
 use Rattle.pet_text.specs.Words.{is_name, plan_of, check_of, send_of, send_files, receive_files, receive_of, merge_of}
-use Rattle.pet_text.specs.Words.{video_of, unwrap_of, wrap_of, migrate_of, id_of, end_of, session_of, command_of}
+use Rattle.pet_text.specs.Words.{video_of, unwrap_of, wrap_of, migrate_of, id_of, end_of, session_of, replay_of}
+use Rattle.pet_text.specs.Words.{plain_number, groups_of, sample_of, command_of}
 use Rattle.pet_text.specs.inside.WrittenFiles.{writes_others}
 use Rattle.pet_text.specs.laws.WordLaws.{if_some}
 
@@ -98,6 +99,18 @@ module _ (c : Command) where
       let tests = and_parts (is_name out) differ behind.1 in
       subst (λ (command : Command). writes_others command ≡ true) both.1 tests.1
 
+  by_replay : (first second third : List ℕ) → replay_of first second third ≡ Some c → writes_others c ≡ true
+  by_replay first second third e =
+      let both = if_some (is_name first && (is_name second && is_name third)) (Replay first second third) c e in
+      subst (λ (command : Command). writes_others command ≡ true) both.1 refl
+
+  by_sample : (seed groups : Option ℕ) → sample_of seed groups ≡ Some c → writes_others c ≡ true
+  by_sample None groups e = by_none e
+  by_sample (Some seed) None e = by_none e
+  by_sample (Some seed) (Some groups) e =
+      let both = if_some true (Sample seed groups) c e in
+      subst (λ (command : Command). writes_others command ≡ true) both.1 refl
+
   one_of : (t : Bool) (answer others : Option Command) → (answer ≡ Some c → writes_others c ≡ true)
       → (others ≡ Some c → writes_others c ≡ true) → cond t answer others ≡ Some c → writes_others c ≡ true
   one_of true answer others met unmet e = met e
@@ -111,28 +124,39 @@ module _ (c : Command) where
       one_of (bytes_eq word (codes "plan")) (plan_of first second)
       (cond (bytes_eq word (codes "video")) (video_of first second)
       (cond (bytes_eq word (codes "wrap")) (wrap_of first second)
-      (cond (bytes_eq word (codes "migrate")) (migrate_of first second) None))) (by_plan first second)
+      (cond (bytes_eq word (codes "migrate")) (migrate_of first second)
+      (cond (bytes_eq word (codes "sample")) (sample_of (plain_number first) (groups_of second)) None)))) (by_plan first second)
       (one_of (bytes_eq word (codes "video")) (video_of first second)
       (cond (bytes_eq word (codes "wrap")) (wrap_of first second)
-      (cond (bytes_eq word (codes "migrate")) (migrate_of first second) None)) (by_video first second)
+      (cond (bytes_eq word (codes "migrate")) (migrate_of first second)
+      (cond (bytes_eq word (codes "sample")) (sample_of (plain_number first) (groups_of second)) None))) (by_video first second)
       (one_of (bytes_eq word (codes "wrap")) (wrap_of first second)
-      (cond (bytes_eq word (codes "migrate")) (migrate_of first second) None) (by_wrap first second)
-      (one_of (bytes_eq word (codes "migrate")) (migrate_of first second) None (by_migrate first second) by_none)))
+      (cond (bytes_eq word (codes "migrate")) (migrate_of first second)
+      (cond (bytes_eq word (codes "sample")) (sample_of (plain_number first) (groups_of second)) None)) (by_wrap first second)
+      (one_of (bytes_eq word (codes "migrate")) (migrate_of first second)
+      (cond (bytes_eq word (codes "sample")) (sample_of (plain_number first) (groups_of second)) None) (by_migrate first second)
+      (one_of (bytes_eq word (codes "sample")) (sample_of (plain_number first) (groups_of second)) None
+      (by_sample (plain_number first) (groups_of second)) by_none))))
       e
   written_differ (word ∷ first ∷ second ∷ third ∷ []) e =
       one_of (bytes_eq word (codes "check")) (check_of first second third)
       (cond (bytes_eq word (codes "send")) (send_of first second (end_of 1 third))
       (cond (bytes_eq word (codes "merge")) (merge_of first second third)
-      (cond (bytes_eq word (codes "unwrap")) (unwrap_of first (id_of second) third) None)))
+      (cond (bytes_eq word (codes "unwrap")) (unwrap_of first (id_of second) third)
+      (cond (bytes_eq word (codes "replay")) (replay_of first second third) None))))
       (by_check first second third)
       (one_of (bytes_eq word (codes "send")) (send_of first second (end_of 1 third))
       (cond (bytes_eq word (codes "merge")) (merge_of first second third)
-      (cond (bytes_eq word (codes "unwrap")) (unwrap_of first (id_of second) third) None))
+      (cond (bytes_eq word (codes "unwrap")) (unwrap_of first (id_of second) third)
+      (cond (bytes_eq word (codes "replay")) (replay_of first second third) None)))
       (by_send first second (end_of 1 third))
       (one_of (bytes_eq word (codes "merge")) (merge_of first second third)
-      (cond (bytes_eq word (codes "unwrap")) (unwrap_of first (id_of second) third) None) (by_merge first second third)
-      (one_of (bytes_eq word (codes "unwrap")) (unwrap_of first (id_of second) third) None
-      (by_unwrap first (id_of second) third) by_none)))
+      (cond (bytes_eq word (codes "unwrap")) (unwrap_of first (id_of second) third)
+      (cond (bytes_eq word (codes "replay")) (replay_of first second third) None)) (by_merge first second third)
+      (one_of (bytes_eq word (codes "unwrap")) (unwrap_of first (id_of second) third)
+      (cond (bytes_eq word (codes "replay")) (replay_of first second third) None)
+      (by_unwrap first (id_of second) third)
+      (one_of (bytes_eq word (codes "replay")) (replay_of first second third) None (by_replay first second third) by_none))))
       e
   written_differ (word ∷ first ∷ second ∷ third ∷ fourth ∷ []) e =
       one_of (bytes_eq word (codes "receive")) (receive_of (end_of 0 first) (session_of second) third fourth) None

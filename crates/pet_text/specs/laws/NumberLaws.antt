@@ -1,29 +1,32 @@
--- What callers know of the words of `unwrap`: the id is that of a video, from E0 to EF.
-use Rattle.std.proofs.Common.{◌≡◌, ℕ, ◌+◌, ◌-◌, ◌≤◌, Bool, true, false, cond, List, [], ◌∷◌, Option, None, Some, refl}
+-- What callers know of the numbers of a command's words: the id of `unwrap` is that of a video, from E0 to EF, and
+-- the groups of `sample` are from 1 to 100.
+use Rattle.std.proofs.Common.{◌≡◌, ℕ, ◌+◌, ◌-◌, ◌<◌, ◌≤◌, Bool, true, false, cond, List, [], ◌∷◌, Option, None, Some, refl}
 use Rattle.std.proofs.Common.{subst, arith}
 use Rattle.std.specs.Prelude.{codes, not, ◌&&◌, ◌==◌, nat_le, option_map}
 use Rattle.std.specs.Str.{bytes_eq}
 use Rattle.std.proofs.lemmas.Bool.{and_parts, leb-true}
+use Rattle.pet_base.specs.declared.limits.TheConstants.{MAX_SAMPLE_GROUPS}
 use Rattle.pet_text.specs.declared.end.End.{End}
 use Rattle.pet_text.specs.declared.words.Command.{Command}
 use Rattle.pet_text.specs.declared.words.Command.TheVariants.{Plan, Check, Send, Receive, Merge, Video, Unwrap, Wrap}
-use Rattle.pet_text.specs.declared.words.Command.TheVariants.{Migrate}
-use Rattle.pet_text.specs.Words.{is_name, digit_of, plan_of, check_of, send_of, send_files, receive_files, receive_of}
-use Rattle.pet_text.specs.Words.{merge_of, video_of}
-use Rattle.pet_text.specs.Words.{unwrap_of, wrap_of, id_of, end_of, session_of, command_of}
+use Rattle.pet_text.specs.declared.words.Command.TheVariants.{Migrate, Replay, Sample}
+use Rattle.pet_text.specs.Words.{is_name, digit_of, send_of, send_files, receive_files, receive_of, unwrap_of, id_of}
+use Rattle.pet_text.specs.Words.{end_of, session_of, some_groups, plain_number, groups_of, sample_of, command_of}
 use Rattle.pet_text.specs.laws.WordLaws.{if_some}
 
--- an id of a video, where the command has one
-abbrev pub HasVideoId : Command → Type 0
-HasVideoId (Plan stream priority) = Unit {0}
-HasVideoId (Check stream priority plan) = Unit {0}
-HasVideoId (Send stream priority to) = Unit {0}
-HasVideoId (Receive from session layers store) = Unit {0}
-HasVideoId (Merge first second out) = Unit {0}
-HasVideoId (Video store out) = Unit {0}
-HasVideoId (Unwrap file id out) = (0xE0 ≤ id) × (id ≤ 0xEF)
-HasVideoId (Wrap file out) = Unit {0}
-HasVideoId (Migrate store out) = Unit {0}
+-- its numbers are in their ranges
+abbrev pub HasNumbers : Command → Type 0
+HasNumbers (Plan stream priority) = Unit {0}
+HasNumbers (Check stream priority plan) = Unit {0}
+HasNumbers (Send stream priority to) = Unit {0}
+HasNumbers (Receive from session layers store) = Unit {0}
+HasNumbers (Merge first second out) = Unit {0}
+HasNumbers (Video store out) = Unit {0}
+HasNumbers (Unwrap file id out) = (0xE0 ≤ id) × (id ≤ 0xEF)
+HasNumbers (Wrap file out) = Unit {0}
+HasNumbers (Migrate store out) = Unit {0}
+HasNumbers (Replay stream priority script) = Unit {0}
+HasNumbers (Sample seed groups) = (0 < groups) × (groups ≤ MAX_SAMPLE_GROUPS)
 
 small_digit : (c n : ℕ) → digit_of c ≡ Some n → n ≤ 15
 small_digit c n e = decimal (nat_le 48 c && nat_le c 57) refl e
@@ -59,49 +62,73 @@ video_id_of (c ∷ d ∷ []) id e = by_first (c == 101) e
     by_first false e = absurd (cc)
 video_id_of (c ∷ d ∷ x ∷ word) id e = absurd (cc)
 
+groups_in : (word : List ℕ) (groups : ℕ) → groups_of word ≡ Some groups → (0 < groups) × (groups ≤ MAX_SAMPLE_GROUPS)
+groups_in word groups e = by_number (plain_number word) e
+  where
+    by_test : (n : ℕ) (t : Bool) → (nat_le 1 n && nat_le n MAX_SAMPLE_GROUPS) ≡ t → cond t (Some n) None ≡ Some groups
+        → (0 < groups) × (groups ≤ MAX_SAMPLE_GROUPS)
+    by_test n false is e = absurd (cc)
+    by_test n true is e =
+        let parts = and_parts (nat_le 1 n) (nat_le n MAX_SAMPLE_GROUPS) is in
+        let some = leb-true 1 n parts.0 in
+        let few = leb-true n MAX_SAMPLE_GROUPS parts.1 in
+        let same : n ≡ groups = cc in (omega (arith, same, some), omega (arith, same, few))
+
+    by_number : (number : Option ℕ) → some_groups number ≡ Some groups → (0 < groups) × (groups ≤ MAX_SAMPLE_GROUPS)
+    by_number None e = absurd (cc)
+    by_number (Some n) e = by_test n (nat_le 1 n && nat_le n MAX_SAMPLE_GROUPS) refl e
+
 module _ (c : Command) where
-  by_none : None ≡ Some c → HasVideoId c
+  by_none : None ≡ Some c → HasNumbers c
   by_none e = absurd (cc)
 
-  by_test : (t : Bool) (command : Command) → HasVideoId command → cond t (Some command) None ≡ Some c → HasVideoId c
-  by_test t command has e = let both = if_some t command c e in subst HasVideoId both.1 has
+  by_test : (t : Bool) (command : Command) → HasNumbers command → cond t (Some command) None ≡ Some c → HasNumbers c
+  by_test t command has e = let both = if_some t command c e in subst HasNumbers both.1 has
 
-  by_send : (first second : List ℕ) (end : Option End) → send_of first second end ≡ Some c → HasVideoId c
+  by_send : (first second : List ℕ) (end : Option End) → send_of first second end ≡ Some c → HasNumbers c
   by_send first second None e = by_none e
   by_send first second (Some to) e = by_test (send_files first second to) (Send first second to) tt e
 
   by_receive : (from : Option End) (session : Option (List ℕ)) (layers store : List ℕ)
-      → receive_of from session layers store ≡ Some c → HasVideoId c
+      → receive_of from session layers store ≡ Some c → HasNumbers c
   by_receive None session layers store e = by_none e
   by_receive (Some from) None layers store e = by_none e
   by_receive (Some from) (Some session) layers store e =
       by_test (receive_files from layers store) (Receive from session layers store) tt e
 
   by_unwrap : (file : List ℕ) (id : Option ℕ) (out : List ℕ) → ((n : ℕ) → id ≡ Some n → (0xE0 ≤ n) × (n ≤ 0xEF))
-      → unwrap_of file id out ≡ Some c → HasVideoId c
+      → unwrap_of file id out ≡ Some c → HasNumbers c
   by_unwrap file None out is e = by_none e
   by_unwrap file (Some id) out is e =
       by_test (is_name file && (is_name out && not (bytes_eq out file))) (Unwrap file id out) (is id refl) e
 
-  either : (t : Bool) (answer others : Option Command) → (answer ≡ Some c → HasVideoId c)
-      → (others ≡ Some c → HasVideoId c) → cond t answer others ≡ Some c → HasVideoId c
+  by_sample : (seed groups : Option ℕ) → ((n : ℕ) → groups ≡ Some n → (0 < n) × (n ≤ MAX_SAMPLE_GROUPS))
+      → sample_of seed groups ≡ Some c → HasNumbers c
+  by_sample None groups is e = by_none e
+  by_sample (Some seed) None is e = by_none e
+  by_sample (Some seed) (Some groups) is e = by_test true (Sample seed groups) (is groups refl) e
+
+  either : (t : Bool) (answer others : Option Command) → (answer ≡ Some c → HasNumbers c)
+      → (others ≡ Some c → HasNumbers c) → cond t answer others ≡ Some c → HasNumbers c
   either true answer others met unmet e = met e
   either false answer others met unmet e = unmet e
 
-  pub has_video_id : (words : List (List ℕ)) → command_of words ≡ Some c → HasVideoId c
-  has_video_id [] e = by_none e
-  has_video_id (word ∷ []) e = by_none e
-  has_video_id (word ∷ first ∷ []) e = by_none e
-  has_video_id (word ∷ first ∷ second ∷ []) e =
+  pub has_numbers : (words : List (List ℕ)) → command_of words ≡ Some c → HasNumbers c
+  has_numbers [] e = by_none e
+  has_numbers (word ∷ []) e = by_none e
+  has_numbers (word ∷ first ∷ []) e = by_none e
+  has_numbers (word ∷ first ∷ second ∷ []) e =
       either (bytes_eq word (codes "plan")) _ _ (by_test (is_name first && is_name second) (Plan first second) tt)
       (either (bytes_eq word (codes "video")) _ _
       (by_test (is_name first && (is_name second && not (bytes_eq second first))) (Video first second) tt)
       (either (bytes_eq word (codes "wrap")) _ _
       (by_test (is_name first && (is_name second && not (bytes_eq second first))) (Wrap first second) tt)
       (either (bytes_eq word (codes "migrate")) _ _
-      (by_test (is_name first && (is_name second && not (bytes_eq second first))) (Migrate first second) tt) by_none)))
+      (by_test (is_name first && (is_name second && not (bytes_eq second first))) (Migrate first second) tt)
+      (either (bytes_eq word (codes "sample")) _ _
+      (by_sample (plain_number first) (groups_of second) (groups_in second)) by_none))))
       e
-  has_video_id (word ∷ first ∷ second ∷ third ∷ []) e =
+  has_numbers (word ∷ first ∷ second ∷ third ∷ []) e =
       either (bytes_eq word (codes "check")) _ _
       (by_test (is_name first && (is_name second && is_name third)) (Check first second third) tt)
       (either (bytes_eq word (codes "send")) _ _ (by_send first second (end_of 1 third))
@@ -110,9 +137,11 @@ module _ (c : Command) where
       && (is_name second && (is_name third && (not (bytes_eq third first) && not (bytes_eq third second)))))
       (Merge first second third) tt)
       (either (bytes_eq word (codes "unwrap")) _ _
-      (by_unwrap first (id_of second) third (video_id_of second)) by_none)))
+      (by_unwrap first (id_of second) third (video_id_of second))
+      (either (bytes_eq word (codes "replay")) _ _
+      (by_test (is_name first && (is_name second && is_name third)) (Replay first second third) tt) by_none))))
       e
-  has_video_id (word ∷ first ∷ second ∷ third ∷ fourth ∷ []) e =
+  has_numbers (word ∷ first ∷ second ∷ third ∷ fourth ∷ []) e =
       either (bytes_eq word (codes "receive")) _ _
       (by_receive (end_of 0 first) (session_of second) third fourth) by_none e
-  has_video_id (word ∷ first ∷ second ∷ third ∷ fourth ∷ fifth ∷ words) e = by_none e
+  has_numbers (word ∷ first ∷ second ∷ third ∷ fourth ∷ fifth ∷ words) e = by_none e
