@@ -25,9 +25,9 @@ _pet() {
     read -a words <<<"${COMP_LINE:0:COMP_POINT}"
     [[ ${COMP_LINE:0:COMP_POINT} == *[[:space:]] ]] && words+=("")
     local at=$((${#words[@]} - 1))
-    local current=${words[at]} names="plan check send receive merge video unwrap wrap migrate replay sample"
-    # These two are words of the script in a checkout.
-    [[ ${words[0]} == */* ]] && names+=" help build"
+    local current=${words[at]} names="plan check send receive merge video unwrap wrap migrate replay sample help --version"
+    # This is a word of the script in a checkout.
+    [[ ${words[0]} == */* ]] && names+=" build"
     COMPREPLY=()
     case ${words[1]}:$at in
         *:1) _pet_offer "$current" < <(compgen -W "$names" -- "$current") ;;

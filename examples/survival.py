@@ -2,19 +2,26 @@
 """Draws which frames survive which loss: survival.py STREAM PRIORITY SEED > survival.svg, run where files may be made.
 
 The stream is sent to a file of packets. At each loss rate each packet is lost or not, the rest is received, and the pictures
-are counted of the video that can be shown. Nothing in the picture is made up: its curves are these counts, and its dashed
-lines the counts of packets that the plan prints.
+are counted of the video that can be shown. Beside it the stream is sent once more, as one layer with one need for all, the
+smallest whose packets have no more bytes, and loses the same packets. Where ffmpeg decodes the stream, the frames that are
+wrong are counted too (wrong_frames.py), and drawn as a share of all. Nothing in the picture is made up: its curves are these
+counts, and its dashed lines the counts of packets that the plan prints.
 """
 import collections
 import pathlib
 import subprocess
 import sys
 
+import wrong_frames
+
 HERE = pathlib.Path(__file__).resolve().parent
 PET = HERE.parent / "pet"
+if not PET.is_file():
+    PET = HERE.parents[2] / "bin/pet"
 RATES = range(0, 91, 2)
 KINDS = {1: "I", 2: "P", 3: "B"}
-COLOURS = {"I": "#1b6ca8", "P": "#2e8b57", "B": "#c1440e"}
+COLOURS = {"I": "#1b6ca8", "P": "#2e8b57", "B": "#c1440e", "one": "#7d3c98", "wrong": "#d4a017"}
+NAMES = {"I": "I frames", "P": "P frames", "B": "B frames", "one": "all frames, one need", "wrong": "wrong frames"}
 LEFT, TOP, WIDTH, HEIGHT = 60, 50, 600, 260
 INCOMPLETE = 12
 
@@ -37,12 +44,39 @@ def pictures(path):
     return counts
 
 
-def survivors(rate, seed, session):
+def survivors(rate, seed, session, sent):
     """The pictures that can be shown of what is left at a loss rate."""
-    subprocess.run([sys.executable, HERE / "lose.py", str(rate), seed, "sent", "came"], check=True)
+    subprocess.run([sys.executable, HERE / "lose.py", str(rate), seed, sent, "came"], check=True)
     pet("receive", "file:came", session, "layers", "store")
     pet("video", "store", "shown")
     return pictures("shown")
+
+
+def bytes_sent(plan):
+    """The bytes of all packets of a plan."""
+    return int(plan[0].split()[-1]) * sum(int(line.split()[-1]) for line in plan if line.startswith("group"))
+
+
+def plan_of_one(stream, packets, need):
+    """The plan of the stream as one layer with this need, whose priorities are left in the file `one`."""
+    kinds = '["head", "I", "P", "B"]'
+    pathlib.Path("one").write_text(f'packets = {packets}\n[[layer]]\nname = "all"\nkinds = {kinds}\nneed = {need}\n')
+    return pet("plan", stream, "one").splitlines()
+
+
+def send_as_one(stream, plan):
+    """Sends the stream as one layer with the smallest need of which the packets have no more bytes than those of a plan."""
+    packets, most = int(plan[0].split()[-1]), bytes_sent(plan)
+    low, high = 1, packets
+    while low < high:
+        middle = (low + high) // 2
+        if bytes_sent(plan_of_one(stream, packets, middle)) <= most:
+            high = middle
+        else:
+            low = middle + 1
+    sent = bytes_sent(plan_of_one(stream, packets, low))
+    print(f"one need for all: {low} of {packets}, {sent} bytes of packets, and {most} of the layers", file=sys.stderr)
+    return pet("send", stream, "one", "file:sent-as-one").split()[1]
 
 
 def limits(plan):
@@ -76,27 +110,35 @@ def axes():
         yield line(LEFT, up(share), LEFT + WIDTH, up(share), 'stroke="#ddd"')
         yield text(LEFT - 8, up(share) + 4, f"{100 * share:.0f} %", "end")
     yield text(LEFT + WIDTH / 2, up(0) + 42, "packets lost")
-    yield text(LEFT, TOP - 32, "frames that can be shown; dashed: the most packets of which each layer stands the loss", "start")
+    words = "frames that can be shown; dashed: the most packets of which each layer stands the loss"
+    yield text(LEFT, TOP - 32, words, "start")
 
 
 def curves(shares):
-    for at, kind in enumerate(COLOURS):
+    for at, kind in enumerate(shares[0][1]):
         points = " ".join(f"{across(rate):.1f},{up(share[kind]):.1f}" for rate, share in shares)
         yield f'<polyline points="{points}" fill="none" stroke="{COLOURS[kind]}" stroke-width="2.5"/>'
-        yield text(LEFT + WIDTH + 14, TOP + 20 + 22 * at, f"{kind} frames", "start", COLOURS[kind])
+        yield text(LEFT + WIDTH + 14, TOP + 20 + 22 * at, NAMES[kind], "start", COLOURS[kind])
 
 
 def main(stream, priority, seed):
     plan = pet("plan", stream, priority).splitlines()
     session = pet("send", stream, priority, "file:sent").split()[1]
+    session_as_one = send_as_one(stream, plan)
     whole = pictures(stream)
+    frames = wrong_frames.frames(stream) if wrong_frames.is_video(stream) else []
     shares = []
     for rate in RATES:
-        shown = survivors(rate, seed, session)
-        shares.append((rate, {kind: shown[kind] / whole[kind] for kind in COLOURS}))
-        print(rate, *(f"{kind} {shown[kind]}/{whole[kind]}" for kind in COLOURS), file=sys.stderr)
+        share = {"one": survivors(rate, seed, session_as_one, "sent-as-one").total() / whole.total()}
+        shown = survivors(rate, seed, session, "sent")
+        share = {kind: shown[kind] / whole[kind] for kind in KINDS.values() if whole[kind]} | share
+        if frames:
+            share["wrong"] = wrong_frames.wrong(frames, wrong_frames.frames("shown")) / len(frames)
+        shares.append((rate, share))
+        print(rate, *(f"{kind} {shown[kind]}/{whole[kind]}" for kind in KINDS.values()), end=" ", file=sys.stderr)
+        print(*(f"{kind} {100 * share[kind]:.1f} %" for kind in ("one", "wrong") if kind in share), file=sys.stderr)
     style = 'stroke="#888" stroke-dasharray="5 4"'
-    print(f'<svg xmlns="http://www.w3.org/2000/svg" viewBox="0 0 {LEFT + WIDTH + 110} {TOP + HEIGHT + 60}"', end="")
+    print(f'<svg xmlns="http://www.w3.org/2000/svg" viewBox="0 0 {LEFT + WIDTH + 170} {TOP + HEIGHT + 60}"', end="")
     print(' font-family="sans-serif" font-size="13">', '<rect width="100%" height="100%" fill="white"/>', *axes(), sep="\n")
     for name, most in limits(plan):
         print(line(across(most), TOP, across(most), up(0), style), text(across(most), TOP - 8, name), sep="\n")

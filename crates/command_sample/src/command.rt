@@ -10,7 +10,7 @@ use std::alloc::Global;
 use std::sync::ledger::Ledger;
 
 /// How `sample` ended.
-#[derive(Drop)]
+#[derive(Debug, PartialEq, Eq, Drop)]
 pub enum SampleEnd {
     /// The text of the summary.
     Done(Vec<u8>),
