@@ -3,7 +3,7 @@ ghost use Rattle.std.specs.Prelude.{◌≡◌, ◌≤◌, length, IfOk};
 ghost use Rattle.pet_base.specs.declared.limits.TheConstants.{MAX_ENTRY};
 ghost use Rattle.pet_base.specs.LinkSeen.{IsShortGot};
 
-use pet_base::{Failed, Got, MAX_ENTRY};
+use pet_base::{Got, MAX_ENTRY};
 use std::io;
 use std::io::ErrorKind;
 use std::net::{Ipv4Addr, Ipv6Addr, Net, SocketAddr, ToSocketAddrs, UdpSocket};
@@ -24,15 +24,16 @@ pub struct Target {
 
 impl Target {
     /// Sends one datagram whole. That a part of it was sent is a failure.
-    pub fn send(&self, datagram: &[u8]) -> Result<(), Failed> {
+    pub fn send(&self, datagram: &[u8]) -> io::Result<()> {
         for _ in 0..u64::MAX {
             match self.socket.send_to(datagram, self.to) {
                 Ok(count) if count == datagram.len() => return Ok(()),
+                Ok(_) => return Err(io::Error::new(ErrorKind::WriteZero, "only a part was sent")),
                 Err(e) if e.kind() == ErrorKind::Interrupted => {}
-                _ => return Err(Failed),
+                Err(e) => return Err(e),
             }
         }
-        Err(Failed)
+        Err(ErrorKind::Interrupted.into())
     }
 }
 
@@ -91,7 +92,7 @@ fn any_port(like: SocketAddr) -> SocketAddr {
 }
 
 /// Receives one datagram to the front of the buffer, or is quiet after it waited.
-pub fn receive(socket: &UdpSocket, into: &mut [u8]) -> Result<Got, Failed>
+pub fn receive(socket: &UdpSocket, into: &mut [u8]) -> io::Result<Got>
     requires { MAX_ENTRY ≤ length into.old }
     ensures short { IfOk result IsShortGot }
     ensures buffer { length into.new ≡ length into.old }
@@ -103,9 +104,9 @@ pub fn receive(socket: &UdpSocket, into: &mut [u8]) -> Result<Got, Failed>
             Err(e) => match e.kind() {
                 ErrorKind::Interrupted => {}
                 ErrorKind::WouldBlock | ErrorKind::TimedOut => return Ok(Got::Quiet),
-                _ => return Err(Failed),
+                _ => return Err(e),
             },
         }
     }
-    Err(Failed)
+    Err(ErrorKind::Interrupted.into())
 }

@@ -4,6 +4,7 @@ ghost use Rattle.pet_ends.specs.Untold.{Opened, nothing_open, untold};
 
 use crate::fault_count::FaultCount;
 use crate::met_files::MetFiles;
+use crate::notices::{Attempt, ShownName, tell};
 use crate::transfer::{read_some, write_whole};
 use pet_base::{Failed, Place};
 use std::marker::Model;
@@ -13,16 +14,20 @@ use std::rt::Files;
 ///
 /// `enter` refuses a directory, and what is no regular file where it was entered before. `create` refuses a regular file that was
 /// entered or made before, by this name or another, and leaves it as it is: so no file of a run is lost to a second name of it.
+/// Of each failure it says by the notices, in a line, which file and why; where that line cannot be printed, nothing changes.
 #[derive(Drop)]
-pub struct FilePlace<'a, R: Files> {
+pub struct FilePlace<'a, R: Files, E: Eprint> {
     rt: &'a R,
+    notices: E,
     input: Option<R::File>,
+    input_name: ShownName,
     output: Option<R::File>,
+    output_name: ShownName,
     met: MetFiles,
     faults: FaultCount,
 }
 
-impl<'a, R: Files> Model for FilePlace<'a, R> {
+impl<'a, R: Files, E: Eprint> Model for FilePlace<'a, R, E> {
     ghost Value = { Opened };
 
     ghost view = { λ p. record {
@@ -35,22 +40,25 @@ impl<'a, R: Files> Model for FilePlace<'a, R> {
     } };
 }
 
-impl<'a, R: Files> FilePlace<'a, R> {
-    /// No input and no output, and no failure yet.
-    pub fn new(rt: &'a R) -> FilePlace<'a, R>
+impl<'a, R: Files, E: Eprint> FilePlace<'a, R, E> {
+    /// No input and no output, and no failure yet. The notices are standard error, or what stands for it.
+    pub fn new(rt: &'a R, notices: E) -> FilePlace<'a, R, E>
         ensures { result ≡ nothing_open }
     {
         FilePlace {
             rt,
+            notices,
             input: None,
+            input_name: ShownName::default(),
             output: None,
+            output_name: ShownName::default(),
             met: MetFiles::new(),
             faults: FaultCount::new(),
         }
     }
 }
 
-impl<R: Files> Place for FilePlace<'_, R> {
+impl<R: Files, E: Eprint> Place for FilePlace<'_, R, E> {
     ghost use Rattle.std.specs.Prelude.{◌≡◌, ◌<◌, ℕ, true, length, take, OnOk, OnErr, IfOk, MatchResult};
     ghost use Rattle.std.specs.Io.{ReadsAtMost};
     ghost use Rattle.std.specs.Io.KnownBytes.{prepend_known, IsAtEnd, ReadConsumes, Appends};
@@ -62,13 +70,15 @@ impl<R: Files> Place for FilePlace<'_, R> {
 
     fn enter(&mut self, name: &str) -> Result<(), Failed> {
         self.faults.begin();
+        self.input_name = ShownName::new(name);
         match self.met.open(self.rt, name) {
             Ok(file) => {
                 self.input = Some(file);
                 Ok(())
             }
-            Err(_) => {
+            Err(why) => {
                 self.input = None;
+                tell(&self.notices, Attempt::Read, self.input_name, why);
                 Err(self.faults.rise())
             }
         }
@@ -94,19 +104,24 @@ impl<R: Files> Place for FilePlace<'_, R> {
         };
         match read_some(file, into) {
             Ok(count) => Ok(count),
-            Err(_) => Err(self.faults.rise()),
+            Err(e) => {
+                tell(&self.notices, Attempt::Read, self.input_name, e.into());
+                Err(self.faults.rise())
+            }
         }
     }
 
     fn create(&mut self, name: &str) -> Result<(), Failed> {
         self.faults.begin();
+        self.output_name = ShownName::new(name);
         match self.met.make(self.rt, name) {
             Ok(file) => {
                 self.output = Some(file);
                 Ok(())
             }
-            Err(_) => {
+            Err(why) => {
                 self.output = None;
+                tell(&self.notices, Attempt::Write, self.output_name, why);
                 Err(self.faults.rise())
             }
         }
@@ -136,7 +151,10 @@ impl<R: Files> Place for FilePlace<'_, R> {
         };
         match write_whole(file, bytes) {
             Ok(()) => Ok(()),
-            Err(_) => Err(self.faults.rise()),
+            Err(e) => {
+                tell(&self.notices, Attempt::Write, self.output_name, e.into());
+                Err(self.faults.rise())
+            }
         }
     }
 }

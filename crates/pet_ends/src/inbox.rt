@@ -5,7 +5,7 @@ ghost use Rattle.pet_base.specs.LinkSeen.{IsShortGot};
 
 use crate::datagrams::{open_at, receive};
 use crate::waiting::{Room, Waiting};
-use pet_base::{Failed, Got};
+use pet_base::Got;
 use std::alloc::Global;
 use std::io;
 use std::net::{Net, UdpSocket};
@@ -19,8 +19,8 @@ pub struct Inbox {
     /// A call of it does not wait, but where `wait` lets it.
     socket: UdpSocket,
     waiting: Waiting,
-    /// Whether the system told an error, behind what waits.
-    failed: bool,
+    /// The error that the system told, behind what waits.
+    failed: Option<io::Error>,
 }
 
 impl Inbox {
@@ -31,14 +31,14 @@ impl Inbox {
         let inbox = Inbox {
             socket,
             waiting: Waiting::new(alloc),
-            failed: false,
+            failed: None,
         };
         Ok((inbox, port))
     }
 
     /// Takes all that waits, and moves the datagram that came first to the front of the buffer. Where there is none, it tells the
     /// error that the system told, or waits for a datagram, or is quiet.
-    pub fn next(&mut self, into: &mut [u8]) -> Result<Got, Failed>
+    pub fn next(&mut self, into: &mut [u8]) -> io::Result<Got>
         requires { MAX_ENTRY ≤ length into.old }
         ensures { IfOk result IsShortGot }
     {
@@ -46,11 +46,10 @@ impl Inbox {
         if let Some(count) = self.waiting.pop(into) {
             return Ok(Got::Datagram(count));
         }
-        if self.failed {
-            self.failed = false;
-            return Err(Failed);
+        match self.failed.take() {
+            Some(error) => Err(error),
+            None => self.wait(into),
         }
-        self.wait(into)
     }
 
     /// Takes what waits into the queue, through this buffer, as long as there is room.
@@ -59,27 +58,25 @@ impl Inbox {
         ensures { length through.new ≡ length through.old }
     {
         for _ in 0..u64::MAX {
-            if self.failed || self.waiting.make_room() != Room::There {
+            if self.failed.is_some() || self.waiting.make_room() != Room::There {
                 return;
             }
             match receive(&self.socket, through) {
                 Ok(Got::Datagram(count)) => self.waiting.push(&through[..count]),
                 Ok(Got::Quiet) => return,
-                Err(Failed) => self.failed = true,
+                Err(e) => self.failed = Some(e),
             }
         }
     }
 
     /// Waits for a datagram.
-    fn wait(&mut self, into: &mut [u8]) -> Result<Got, Failed>
+    fn wait(&mut self, into: &mut [u8]) -> io::Result<Got>
         requires { MAX_ENTRY ≤ length into.old }
         ensures { IfOk result IsShortGot }
     {
-        if self.socket.set_nonblocking(false).is_err() {
-            return Err(Failed);
-        }
+        self.socket.set_nonblocking(false)?;
         let got = receive(&self.socket, into);
-        self.failed = self.socket.set_nonblocking(true).is_err();
+        self.failed = self.socket.set_nonblocking(true).err();
         got
     }
 }

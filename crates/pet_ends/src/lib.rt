@@ -4,7 +4,8 @@
 //! their addresses; of what was printed the output tells what its writer
 //! does. Each end keeps a count, up to the last value of a u64, that rises at each
 //! failure. A write goes on until all bytes are written, a datagram is sent whole or it is a failure, and what a signal
-//! interrupts is tried again. These few lines are the edge at which the program trusts the operating system.
+//! interrupts is tried again. Of a file or an address that fails, one line on standard error says which and why. These few lines
+//! are the edge at which the program trusts the operating system.
 #![tactic(auto)]
 
 mod datagrams;
@@ -12,6 +13,7 @@ mod fault_count;
 mod file_place;
 mod inbox;
 mod met_files;
+mod notices;
 mod printer;
 mod standard_out;
 mod transfer;

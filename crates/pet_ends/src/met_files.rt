@@ -1,6 +1,6 @@
 //! The files of the machine that a run has opened, and how it opens one more.
+use crate::notices::{ShownName, Why};
 use arrayvec::ArrayVec;
-use pet_base::Failed;
 use std::fs;
 use std::fs::{Metadata, OpenFile, OpenOptions};
 use std::os::unix::fs::MetadataExt;
@@ -24,10 +24,17 @@ fn number_of(file: &Metadata) -> FileNumber {
     }
 }
 
+/// A file that was opened, and the name by which it was opened first.
+#[derive(Clone, Copy, Default)]
+struct MetFile {
+    number: FileNumber,
+    name: ShownName,
+}
+
 /// The files that were opened. One more than `MOST_FILES` is refused.
 #[derive(Drop)]
 pub struct MetFiles {
-    files: ArrayVec<FileNumber, MOST_FILES>,
+    files: ArrayVec<MetFile, MOST_FILES>,
 }
 
 impl MetFiles {
@@ -40,38 +47,29 @@ impl MetFiles {
 
     /// Opens a file to be read. A directory is refused, and so is what is no regular file and was opened before: of a pipe
     /// nothing is left, or it is waited for without end.
-    pub fn open<R: Files>(&mut self, rt: &R, name: &str) -> Result<R::File, Failed> {
+    pub fn open<R: Files>(&mut self, rt: &R, name: &str) -> Result<R::File, Why> {
         if self.has_given(rt, name) {
-            return Err(Failed);
+            return Err(Why::ReadBefore);
         }
-        let Ok(file) = fs::open(rt, name) else {
-            return Err(Failed);
-        };
-        match file.metadata() {
-            Ok(about) if !about.is_dir() => {
-                self.remember(&about)?;
-                Ok(file)
-            }
-            _ => Err(Failed),
+        let file = fs::open(rt, name)?;
+        let about = file.metadata()?;
+        if about.is_dir() {
+            return Err(Why::Directory);
         }
+        self.remember(&about, name)?;
+        Ok(file)
     }
 
     /// Opens a file to be written, and empties it. One that was opened before, by whatever name, is refused and not changed.
-    pub fn make<R: Files>(&mut self, rt: &R, name: &str) -> Result<R::File, Failed> {
-        let Ok(file) = OpenOptions::new().write(true).create(true).open(rt, name) else {
-            return Err(Failed);
-        };
-        let Ok(about) = file.metadata() else {
-            return Err(Failed);
-        };
+    pub fn make<R: Files>(&mut self, rt: &R, name: &str) -> Result<R::File, Why> {
+        let file = OpenOptions::new().write(true).create(true).open(rt, name)?;
+        let about = file.metadata()?;
         if about.is_file() {
-            if self.has(&about) {
-                return Err(Failed);
+            if let Some(first) = self.first_name(&about) {
+                return Err(Why::SameAs(first));
             }
-            self.remember(&about)?;
-            if file.set_len(0).is_err() {
-                return Err(Failed);
-            }
+            self.remember(&about, name)?;
+            file.set_len(0)?;
         }
         Ok(file)
     }
@@ -80,22 +78,27 @@ impl MetFiles {
     /// since that waits at a pipe.
     fn has_given<R: Files>(&self, rt: &R, name: &str) -> bool {
         match fs::metadata(rt, name) {
-            Ok(about) => !about.is_file() && self.has(&about),
+            Ok(about) => !about.is_file() && self.first_name(&about).is_some(),
             Err(_) => false,
         }
     }
 
-    /// Whether the file was opened before.
-    fn has(&self, about: &Metadata) -> bool {
-        self.files.as_slice().contains(&number_of(about))
+    /// The name by which the file was opened first, where it was opened before.
+    fn first_name(&self, about: &Metadata) -> Option<ShownName> {
+        let number = number_of(about);
+        let met = self.files.iter().find(|met| met.number == number)?;
+        Some(met.name)
     }
 
-    /// Remembers the file.
-    fn remember(&mut self, about: &Metadata) -> Result<(), Failed> {
-        if self.has(about) || self.files.try_push(number_of(about)).is_ok() {
-            Ok(())
-        } else {
-            Err(Failed)
+    /// Remembers the file, and this name where it is its first.
+    fn remember(&mut self, about: &Metadata, name: &str) -> Result<(), Why> {
+        if self.first_name(about).is_some() {
+            return Ok(());
         }
+        let met = MetFile {
+            number: number_of(about),
+            name: ShownName::new(name),
+        };
+        self.files.try_push(met).map_err(|_| Why::TooMany)
     }
 }

@@ -5,8 +5,10 @@ ghost use Rattle.pet_ends.specs.Untold.{Numbered, never_bound, untold_link};
 use crate::datagrams::{Target, open_towards};
 use crate::fault_count::FaultCount;
 use crate::inbox::Inbox;
+use crate::notices::{Attempt, ShownName, tell};
 use pet_base::{Failed, Got, Link};
 use std::alloc::Global;
+use std::io::ErrorKind;
 use std::marker::Model;
 use std::net::Net;
 
@@ -16,39 +18,47 @@ use std::net::Net;
 /// take the first of its addresses that serves. Where they succeed they replace the socket of their side, and where
 /// they fail it stays. `next` takes all that waits, up to 64 MB, and hands on what came first; where nothing waits, it waits
 /// three seconds for a datagram. `next` before a `bind`, and `send` before an `aim`, are failures.
+/// Of each failure it says by the notices, in a line, which address and why; where that line cannot be printed, nothing changes.
 #[derive(Drop)]
-pub struct UdpLink<'a, R: Net> {
+pub struct UdpLink<'a, R: Net, E: Eprint> {
     alloc: Global,
     net: &'a R,
+    notices: E,
     bound: Option<Inbox>,
+    bound_name: ShownName,
     aimed: Option<Target>,
+    aimed_name: ShownName,
     port: u16,
     faults: FaultCount,
 }
 
-impl<'a, R: Net> Model for UdpLink<'a, R> {
+impl<'a, R: Net, E: Eprint> Model for UdpLink<'a, R, E> {
     ghost Value = { Numbered };
 
     ghost view = { λ l. record { port = l.port; faults = l.faults.count; failing = l.faults.last } };
 }
 
-impl<'a, R: Net> UdpLink<'a, R> {
-    /// Neither side is ready, and nothing failed yet. What waits is kept in this memory.
-    pub fn new(alloc: Global, net: &'a R) -> UdpLink<'a, R>
+impl<'a, R: Net, E: Eprint> UdpLink<'a, R, E> {
+    /// Neither side is ready, and nothing failed yet. What waits is kept in this memory. The notices are standard error, or what
+    /// stands for it.
+    pub fn new(alloc: Global, net: &'a R, notices: E) -> UdpLink<'a, R, E>
         ensures { result ≡ never_bound }
     {
         UdpLink {
             alloc,
             net,
+            notices,
             bound: None,
+            bound_name: ShownName::default(),
             aimed: None,
+            aimed_name: ShownName::default(),
             port: 0,
             faults: FaultCount::new(),
         }
     }
 }
 
-impl<R: Net> Link for UdpLink<'_, R> {
+impl<R: Net, E: Eprint> Link for UdpLink<'_, R, E> {
     ghost seen = { untold_link };
 
     ghost small = { λ _. tt };
@@ -58,10 +68,19 @@ impl<R: Net> Link for UdpLink<'_, R> {
         match Inbox::open(self.alloc, self.net, address) {
             Ok((inbox, port)) => {
                 self.bound = Some(inbox);
+                self.bound_name = ShownName::new(address);
                 self.port = port;
                 Ok(port)
             }
-            Err(_) => Err(self.faults.rise()),
+            Err(e) => {
+                tell(
+                    &self.notices,
+                    Attempt::Receive,
+                    ShownName::new(address),
+                    e.into(),
+                );
+                Err(self.faults.rise())
+            }
         }
     }
 
@@ -70,9 +89,18 @@ impl<R: Net> Link for UdpLink<'_, R> {
         match open_towards(self.net, address) {
             Ok(target) => {
                 self.aimed = Some(target);
+                self.aimed_name = ShownName::new(address);
                 Ok(())
             }
-            Err(_) => Err(self.faults.rise()),
+            Err(e) => {
+                tell(
+                    &self.notices,
+                    Attempt::Send,
+                    ShownName::new(address),
+                    e.into(),
+                );
+                Err(self.faults.rise())
+            }
         }
     }
 
@@ -80,11 +108,14 @@ impl<R: Net> Link for UdpLink<'_, R> {
         self.faults.begin();
         let sent = match &self.aimed {
             Some(target) => target.send(datagram),
-            None => Err(Failed),
+            None => Err(ErrorKind::NotConnected.into()),
         };
         match sent {
             Ok(()) => Ok(()),
-            Err(_) => Err(self.faults.rise()),
+            Err(e) => {
+                tell(&self.notices, Attempt::Send, self.aimed_name, e.into());
+                Err(self.faults.rise())
+            }
         }
     }
 
@@ -92,11 +123,14 @@ impl<R: Net> Link for UdpLink<'_, R> {
         self.faults.begin();
         let got = match &mut self.bound {
             Some(inbox) => inbox.next(into),
-            None => Err(Failed),
+            None => Err(ErrorKind::NotConnected.into()),
         };
         match got {
             Ok(got) => Ok(got),
-            Err(_) => Err(self.faults.rise()),
+            Err(e) => {
+                tell(&self.notices, Attempt::Receive, self.bound_name, e.into());
+                Err(self.faults.rise())
+            }
         }
     }
 }

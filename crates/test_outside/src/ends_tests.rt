@@ -3,7 +3,7 @@ ghost use Rattle.pet_ends.specs.laws.SteadyLaws.{never_told};
 
 use pet_base::{Failed, Place, Sink};
 use pet_ends::{FilePlace, Printer, StandardOut};
-use std::io::{ErrorKind, Write};
+use std::io::{ErrorKind, Stderr, Write};
 use std::test::Fail;
 use std::{fs, io};
 
@@ -56,12 +56,12 @@ fn a_vector_gives_back_what_was_printed(rt: HostRuntime) {
 }
 
 /// Whether a file that is not there is made and written.
-fn is_written(place: &mut FilePlace<'_, HostRuntime>, name: &str) -> bool {
+fn is_written(place: &mut FilePlace<'_, HostRuntime, Stderr>, name: &str) -> bool {
     place.enter(name).is_err() && place.create(name).is_ok() && place.put(b"abc").is_ok()
 }
 
 /// Whether what was written is read, and no more.
-fn is_read(place: &mut FilePlace<'_, HostRuntime>, name: &str) -> bool {
+fn is_read(place: &mut FilePlace<'_, HostRuntime, Stderr>, name: &str) -> bool {
     let mut buffer = [0u8; 4];
     place.enter(name).is_ok()
         && place.take(&mut buffer) == Ok(3)
@@ -72,7 +72,7 @@ fn is_read(place: &mut FilePlace<'_, HostRuntime>, name: &str) -> bool {
 #[test]
 fn a_file_is_written_and_read(rt: HostRuntime) -> Result<(), Fail> {
     let name = "pet_ends_test_file";
-    let mut place = FilePlace::new(&rt);
+    let mut place = FilePlace::new(&rt, rt.stderr());
     assert!(rt; is_written(&mut place, name));
     assert!(rt; is_read(&mut place, name));
     fs::remove_file(&rt, name)?;

@@ -2,20 +2,17 @@
 ghost use Rattle.std.specs.Prelude.{◌≤◌, length};
 ghost use Rattle.pet_base.specs.declared.limits.TheConstants.{MAX_ENTRY};
 
+use crate::buffers::long;
 use crate::room;
 use pet_base::{Failed, Got, Link};
 use pet_ends::UdpLink;
-use std::alloc::{AllocError, Global};
+use std::alloc::Global;
+use std::io::Stderr;
 use std::test::Fail;
 use std::time::{Duration, Instant};
 
 /// The most bytes of a datagram that IPv4 has room for, beside its header and that of UDP.
 const LONGEST: usize = 65_507;
-
-/// A datagram of so many bytes.
-fn long(alloc: Global, length: usize) -> Result<Vec<u8>, AllocError> {
-    vec![in alloc; 7u8; length]
-}
 
 /// A link that receives at a port of this host that the system chose, and one that sends to it. None where the machine
 /// does not have this host.
@@ -23,8 +20,19 @@ fn pair<'a>(
     net: &'a HostRuntime,
     alloc: Global,
     host: &str,
-) -> Result<Option<(UdpLink<'a, HostRuntime>, UdpLink<'a, HostRuntime>)>, Fail> {
-    let (mut near, mut far) = (UdpLink::new(alloc, net), UdpLink::new(alloc, net));
+) -> Result<
+    Option<
+        (
+            UdpLink<'a, HostRuntime, Stderr>,
+            UdpLink<'a, HostRuntime, Stderr>,
+        ),
+    >,
+    Fail,
+> {
+    let (mut near, mut far) = (
+        UdpLink::new(alloc, net, net.stderr()),
+        UdpLink::new(alloc, net, net.stderr()),
+    );
     let Ok(port) = near.bind(&format!(in alloc; "{host}:0")?) else {
         return Ok(None);
     };
@@ -34,8 +42,8 @@ fn pair<'a>(
 
 /// Sends the datagrams, and says whether they come in their order, byte by byte.
 fn arrive(
-    near: &mut UdpLink<'_, HostRuntime>,
-    far: &mut UdpLink<'_, HostRuntime>,
+    near: &mut UdpLink<'_, HostRuntime, Stderr>,
+    far: &mut UdpLink<'_, HostRuntime, Stderr>,
     datagrams: &[Vec<u8>],
     room: &mut [u8],
 ) -> bool
@@ -88,7 +96,11 @@ const EACH_ROUND: u16 = 40;
 const COMMON: usize = 1001;
 
 /// Sends the datagrams of a round, each with its number in front.
-fn send_round(far: &mut UdpLink<'_, HostRuntime>, round: u16, datagram: &mut Vec<u8>) -> bool {
+fn send_round(
+    far: &mut UdpLink<'_, HostRuntime, Stderr>,
+    round: u16,
+    datagram: &mut Vec<u8>,
+) -> bool {
     for place in 0..EACH_ROUND {
         let number = round.wrapping_mul(EACH_ROUND).wrapping_add(place);
         if let Some(front) = datagram.first_chunk_mut() {
@@ -102,7 +114,7 @@ fn send_round(far: &mut UdpLink<'_, HostRuntime>, round: u16, datagram: &mut Vec
 }
 
 /// Whether the datagram of this number comes next.
-fn comes(near: &mut UdpLink<'_, HostRuntime>, number: u16, room: &mut [u8]) -> bool
+fn comes(near: &mut UdpLink<'_, HostRuntime, Stderr>, number: u16, room: &mut [u8]) -> bool
     requires { MAX_ENTRY ≤ length room.old }
 {
     near.next(room) == Ok(Got::Datagram(COMMON)) && room.starts_with(&number.to_be_bytes())
@@ -110,8 +122,8 @@ fn comes(near: &mut UdpLink<'_, HostRuntime>, number: u16, room: &mut [u8]) -> b
 
 /// Sends round after round, and takes one datagram after each; then takes the others. Says whether all came in their order.
 fn keeps_up(
-    near: &mut UdpLink<'_, HostRuntime>,
-    far: &mut UdpLink<'_, HostRuntime>,
+    near: &mut UdpLink<'_, HostRuntime, Stderr>,
+    far: &mut UdpLink<'_, HostRuntime, Stderr>,
     datagram: &mut Vec<u8>,
     room: &mut [u8],
 ) -> bool
@@ -143,8 +155,8 @@ fn no_datagram_is_lost_while_others_wait(rt: HostRuntime) -> Result<(), Fail> {
 
 /// Whether what came at one port does not come at the next.
 fn begins_anew(
-    near: &mut UdpLink<'_, HostRuntime>,
-    far: &mut UdpLink<'_, HostRuntime>,
+    near: &mut UdpLink<'_, HostRuntime, Stderr>,
+    far: &mut UdpLink<'_, HostRuntime, Stderr>,
     room: &mut [u8],
 ) -> bool
     requires { MAX_ENTRY ≤ length room.old }
@@ -167,7 +179,7 @@ fn a_link_that_is_bound_again_has_nothing_of_before(rt: HostRuntime) -> Result<(
 }
 
 /// Whether nothing comes.
-fn is_quiet(link: &mut UdpLink<'_, HostRuntime>, room: &mut [u8]) -> bool
+fn is_quiet(link: &mut UdpLink<'_, HostRuntime, Stderr>, room: &mut [u8]) -> bool
     requires { MAX_ENTRY ≤ length room.old }
 {
     link.bind("127.0.0.1:0").is_ok() && link.next(room) == Ok(Got::Quiet)
@@ -176,7 +188,7 @@ fn is_quiet(link: &mut UdpLink<'_, HostRuntime>, room: &mut [u8]) -> bool
 #[test]
 fn it_is_quiet_after_three_seconds(rt: HostRuntime) -> Result<(), Fail> {
     let mut room = room(rt.alloc())?;
-    let mut link = UdpLink::new(rt.alloc(), &rt);
+    let mut link = UdpLink::new(rt.alloc(), &rt, rt.stderr());
     let start = Instant::now(&rt)?;
     assert!(rt; is_quiet(&mut link, &mut room));
     assert!(rt; start.elapsed(&rt)? >= Duration::from_secs(3));
@@ -185,7 +197,7 @@ fn it_is_quiet_after_three_seconds(rt: HostRuntime) -> Result<(), Fail> {
 
 #[test]
 fn all_machines_of_a_network_are_sent_to(rt: HostRuntime) -> Result<(), Fail> {
-    let mut link = UdpLink::new(rt.alloc(), &rt);
+    let mut link = UdpLink::new(rt.alloc(), &rt, rt.stderr());
     let aimed = link.aim("127.255.255.255:9").is_ok();
     assert!(rt; aimed && link.send(b"abc").is_ok());
     Ok(())
@@ -193,7 +205,7 @@ fn all_machines_of_a_network_are_sent_to(rt: HostRuntime) -> Result<(), Fail> {
 
 #[test]
 fn an_interface_is_named_in_an_address(rt: HostRuntime) -> Result<(), Fail> {
-    let mut link = UdpLink::new(rt.alloc(), &rt);
+    let mut link = UdpLink::new(rt.alloc(), &rt, rt.stderr());
     assert!(rt; link.aim("[fe80::1%no_interface]:9").is_err());
     assert!(rt; link.aim("[ff02::1%lo]:9").is_ok() || link.bind("[::1]:0").is_err());
     Ok(())
@@ -205,7 +217,7 @@ static UNBOUND: [&str; 5] = ["192.0.2.1:0", "127.0.0.1", "127.0.0.1:65536", ":",
 static UNAIMED: [&str; 4] = ["127.0.0.1", "127.0.0.1:65536", "[::1]", ""];
 
 /// The first of these addresses at which the link can receive.
-fn first_bound(link: &mut UdpLink<'_, HostRuntime>, addresses: &[&str]) -> Option<usize> {
+fn first_bound(link: &mut UdpLink<'_, HostRuntime, Stderr>, addresses: &[&str]) -> Option<usize> {
     for row in 0..addresses.len() {
         if link.bind(addresses[row]).is_ok() {
             return Some(row);
@@ -215,7 +227,7 @@ fn first_bound(link: &mut UdpLink<'_, HostRuntime>, addresses: &[&str]) -> Optio
 }
 
 /// The first of these addresses to which it can send.
-fn first_aimed(link: &mut UdpLink<'_, HostRuntime>, addresses: &[&str]) -> Option<usize> {
+fn first_aimed(link: &mut UdpLink<'_, HostRuntime, Stderr>, addresses: &[&str]) -> Option<usize> {
     for row in 0..addresses.len() {
         if link.aim(addresses[row]).is_ok() {
             return Some(row);
@@ -226,15 +238,15 @@ fn first_aimed(link: &mut UdpLink<'_, HostRuntime>, addresses: &[&str]) -> Optio
 
 /// Whether a port in use cannot be bound again.
 fn refuses_a_port_in_use(net: &HostRuntime, alloc: Global) -> Result<bool, Fail> {
-    let mut first = UdpLink::new(alloc, net);
+    let mut first = UdpLink::new(alloc, net, net.stderr());
     let port = first.bind("127.0.0.1:0")?;
     let taken = format!(in alloc; "127.0.0.1:{port}")?;
-    Ok(UdpLink::new(alloc, net).bind(&taken).is_err())
+    Ok(UdpLink::new(alloc, net, net.stderr()).bind(&taken).is_err())
 }
 
 #[test]
 fn an_address_that_cannot_be_used_is_a_failure(rt: HostRuntime) -> Result<(), Fail> {
-    let mut link = UdpLink::new(rt.alloc(), &rt);
+    let mut link = UdpLink::new(rt.alloc(), &rt, rt.stderr());
     assert!(rt; refuses_a_port_in_use(&rt, rt.alloc())?);
     assert_eq!(rt; first_bound(&mut link, &UNBOUND), None);
     assert_eq!(rt; first_aimed(&mut link, &UNAIMED), None);
@@ -242,14 +254,18 @@ fn an_address_that_cannot_be_used_is_a_failure(rt: HostRuntime) -> Result<(), Fa
 }
 
 /// Whether the link is no end that receives, and does not send what is too long.
-fn refuses_both(far: &mut UdpLink<'_, HostRuntime>, too_long: &[u8], room: &mut [u8]) -> bool
+fn refuses_both(
+    far: &mut UdpLink<'_, HostRuntime, Stderr>,
+    too_long: &[u8],
+    room: &mut [u8],
+) -> bool
     requires { MAX_ENTRY ≤ length room.old }
 {
     far.next(room).is_err() && far.send(too_long).is_err()
 }
 
 /// Whether three datagrams are sent.
-fn sends_three(far: &mut UdpLink<'_, HostRuntime>) -> bool {
+fn sends_three(far: &mut UdpLink<'_, HostRuntime, Stderr>) -> bool {
     far.send(b"abc").is_ok() && far.send(b"abc").is_ok() && far.send(b"abc").is_ok()
 }
 
@@ -263,7 +279,11 @@ fn a_side_that_is_not_ready_fails_and_an_end_that_nobody_has_does_not(
         return Err(Failed.into());
     };
     assert!(rt; refuses_both(&mut far, &too_long, &mut room));
-    assert!(rt; UdpLink::new(rt.alloc(), &rt).send(b"abc").is_err());
+    assert!(rt;
+        UdpLink::new(rt.alloc(), &rt, rt.stderr())
+            .send(b"abc")
+            .is_err()
+    );
     drop(near);
     assert!(rt; sends_three(&mut far));
     Ok(())

@@ -12,8 +12,16 @@ use test_example::{PLAN, PRIORITIES, STREAM};
 
 #[test]
 fn the_real_ends(rt: HostRuntime) {
-    assert!(rt; FilePlace::new(&rt).enter("pet_surface_missing").is_err());
-    assert!(rt; UdpLink::new(rt.alloc(), &rt).aim("no address").is_err());
+    assert!(rt;
+        FilePlace::new(&rt, rt.stderr())
+            .enter("pet_surface_missing")
+            .is_err()
+    );
+    assert!(rt;
+        UdpLink::new(rt.alloc(), &rt, rt.stderr())
+            .aim("no address")
+            .is_err()
+    );
     let mut out = StandardOut::new(Vec::new(rt.alloc()));
     assert!(rt; out.put(b"abc").is_ok());
     assert_eq!(rt; out.into_writer().as_slice(), b"abc".as_slice());

@@ -1,15 +1,23 @@
 //! Commands whose files are not what their names make them look like, and one whose standard streams are closed.
-use crate::started::{OUT_FAULT, PLACE_FAULT, SESSION, pet};
+use crate::started::{OUT_FAULT, PLACE_FAULT, SESSION, is_refused, pet};
 use std::io::Write;
 use std::os::unix::fs::symlink;
 use std::process::{Command, Output, Stdio};
 use std::{fs, io};
 
 /// All that a command prints whose file could not be read or written.
-const FAULT_LINE: &[u8] = b"fault place\n";
+const FAULT_LINE: &str = "fault place\n";
 
 /// Other names of the file `d`: its path in another form, a hard link and a symbolic link.
 const NAMES_OF_D: [&str; 3] = ["./d", "hard", "soft"];
+
+/// What is said where a file is the same as another of the command, is a directory, or is a pipe that was read.
+const LAYERS_AGAIN: &str = "pet: cannot write './l1': it is the same file as 'l1'";
+
+const A_DIRECTORY: &str = "pet: cannot read 'folder': it is a directory";
+
+const PIPE_AGAIN: &str =
+    "pet: cannot read '/dev/stdin': it is a pipe or a device, and was opened before";
 
 /// Closes standard input and output, and goes on as the words that follow.
 const CLOSED: &str = "exec \"$0\" \"$@\" <&- >&-";
@@ -26,7 +34,13 @@ pub fn refuses_another_name(rt: &HostRuntime) -> io::Result<bool> {
     let before = fs::read(rt, "d")?;
     for name in NAMES_OF_D {
         let output = pet(rt, &["receive", "file:d", SESSION, name, "none"])?.output(rt)?;
-        if !is_refused(&output) || fs::exists(rt, "none")? || fs::read(rt, "d")? != before {
+        let said = format!(in rt.alloc();
+            "pet: cannot write '{name}': it is the same file as 'd'"
+        )?;
+        if !place_failed(&output, &said)
+            || fs::exists(rt, "none")?
+            || fs::read(rt, "d")? != before
+        {
             return Ok(false);
         }
     }
@@ -38,7 +52,7 @@ fn refuses_layers_as_store(rt: &HostRuntime) -> io::Result<bool> {
     let output = pet(rt, &["receive", "file:d", SESSION, "l1", "./l1"])?.output(rt)?;
     let good = pet(rt, &["receive", "file:d", SESSION, "l2", "t2"])?.output(rt)?;
     let same = fs::read(rt, "l1")? == fs::read(rt, "l2")?;
-    Ok(is_refused(&output) && good.status.success() && same)
+    Ok(place_failed(&output, LAYERS_AGAIN) && good.status.success() && same)
 }
 
 /// Whether a directory is refused as FROM, and no file is made.
@@ -47,7 +61,7 @@ pub fn refuses_a_directory(rt: &HostRuntime) -> io::Result<bool> {
         fs::create_dir(rt, "folder")?;
     }
     let output = pet(rt, &["receive", "file:folder", SESSION, "none", "none2"])?.output(rt)?;
-    Ok(is_refused(&output) && !fs::exists(rt, "none")? && !fs::exists(rt, "none2")?)
+    Ok(place_failed(&output, A_DIRECTORY) && !fs::exists(rt, "none")? && !fs::exists(rt, "none2")?)
 }
 
 /// Whether `receive` reads FROM from a pipe, and `send`, which reads STREAM twice, refuses a pipe there.
@@ -58,7 +72,7 @@ pub fn reads_a_pipe_once(rt: &HostRuntime) -> io::Result<bool> {
         &["receive", "file:/dev/stdin", SESSION, "l3", "t3"],
     )?;
     let sent = with_input(rt, "s", &["send", "/dev/stdin", "f", "file:d3"])?;
-    Ok(received.status.success() && is_refused(&sent))
+    Ok(received.status.success() && place_failed(&sent, PIPE_AGAIN))
 }
 
 /// Runs the command of these words, whose standard input is a pipe that brings this file.
@@ -67,6 +81,7 @@ fn with_input(rt: &HostRuntime, file: &str, words: &[&str]) -> io::Result<Output
     let mut child = pet(rt, words)?
         .stdin(Stdio::piped())
         .stdout(Stdio::piped())
+        .stderr(Stdio::piped())
         .spawn(rt)?;
     if let Some(mut input) = child.stdin.take() {
         input.write_all(&bytes)?;
@@ -88,7 +103,7 @@ pub fn keeps_its_line_out_of_a_file(rt: &HostRuntime) -> io::Result<bool> {
     Ok(output.status.code() == Some(OUT_FAULT) && fs::read(rt, "d4")? == fs::read(rt, "d")?)
 }
 
-/// Whether the command ended as a failure of a file, and printed that alone.
-fn is_refused(output: &Output) -> bool {
-    output.status.code() == Some(PLACE_FAULT) && output.stdout.as_slice() == FAULT_LINE
+/// Whether the command ended as a failure of a file, printed that alone, and said this on standard error.
+fn place_failed(output: &Output, said: &str) -> bool {
+    is_refused(output, PLACE_FAULT, FAULT_LINE, said)
 }

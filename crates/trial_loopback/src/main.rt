@@ -4,7 +4,7 @@
 //! With no words it starts itself as `pet`, a receiver and a sender for each kind of address, and looks at what the two printed
 //! and left; then a receiver at a port that is in use, and a receiver and a sender with an address of no machine, which are
 //! refused. It also starts commands whose files have several names, or are a directory or a pipe, and one whose standard streams are
-//! closed. With words it is `pet`.
+//! closed. Of what is refused it looks at the line on standard error too. With words it is `pet`.
 #![tactic(auto)]
 
 mod files;
