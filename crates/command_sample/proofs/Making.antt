@@ -14,13 +14,14 @@ use Rattle.layer_split.specs.declared.fault.SplitFault.{SplitFault}
 use Rattle.layer_split.specs.Faults.{fault_of}
 use Rattle.layer_split.specs.Groups.{groups_of}
 use Rattle.stream_sample.specs.SampleStream.{sample_text}
+use Rattle.stream_session.specs.declared.pass.SessionPlan.{SessionPlan}
 use Rattle.stream_session.specs.declared.pass.StreamFault.{StreamFault}
 use Rattle.stream_session.specs.declared.pass.StreamFault.TheVariants.{Stream, Plan, NoMemory}
 use Rattle.stream_session.specs.Accepted.{IsAcceptedSession}
 use Rattle.stream_session.specs.Number.{session_number}
-use Rattle.stream_session.specs.Passing.{IsStreamFault}
+use Rattle.stream_session.specs.Passing.{IsPlanOf, IsStreamFault}
 use Rattle.stream_session.specs.Sessions.{tables_in}
-use Rattle.stream_session.specs.Tables.{cuts_of_stream}
+use Rattle.stream_session.specs.Tables.{tables_of, cuts_of_stream}
 use Rattle.stream_session.specs.laws.FitLaws.{no_cause_within}
 use Rattle.pet_base.specs.declared.limits.TheConstants.{MAX_SESSION}
 use Rattle.command_sample.specs.SamplePriority.{sample_priority}
@@ -81,3 +82,10 @@ made_so seed (suc before) made some few is number tables cuts = record {
   tables = tables;
   cuts = cuts;
 }
+
+-- the tables of a plan under the priorities of the file are those of the file
+pub planned_tables : (plan : SessionPlan) (priority : Priorities) (file stream : List ℕ)
+    → priority ≡ priorities_of sample_priority → IsPlanOf plan priority file stream
+    → plan.tables.items ≡ tables_in sample_priority stream
+planned_tables plan priority file stream is planned =
+    planned.tables ∙ ap (λ (p : Priorities). tables_of p (cuts_of_stream p stream)) is

@@ -5,11 +5,15 @@ use Rattle.std.proofs.lemmas.Option.{same_Some}
 use Rattle.stripe_plan.specs.Sizes.{Sizes}
 use Rattle.layer_split.specs.Layers.{message}
 use Rattle.packet_frame.specs.declared.frame.Header.{Header}
+use Rattle.packet_frame.specs.declared.format.Format.{Format}
+use Rattle.packet_frame.specs.declared.format.TheConstants.{FORMAT}
+use Rattle.packet_encoder.specs.CodedGroup.{CodedGroup}
 use Rattle.packet_session.specs.Encoding.{Encoding}
 use Rattle.stream_session.specs.declared.source.Source.{Source}
 use Rattle.stream_groups.specs.CutGroups.{CutGroup}
 use Rattle.stream_session.specs.Tables.{table_of}
 use Rattle.command_send.specs.Sending.{encoding_of}
+use Rattle.command_send.specs.inside.Coded.{coded_of}
 
 no_some : {A : Type 0} (x : A) → None ≡ Some x → ⊥
 no_some x e = cc
@@ -21,18 +25,20 @@ there_at (y ∷ ys) zero d x e = same_Some y x e
 there_at (y ∷ ys) (suc k) d x e = there_at ys k d x e
 
 -- an encoder of this header and this message
-pub encoder_is : {X : Type 0} (r : Result Encoding X) (source : Source) (number : ℕ) (g : CutGroup) (header : Header)
-    (bytes : List ℕ) → IfOk r (λ e. e.header ≡ header) → IfOk r (λ e. e.message ≡ bytes)
+pub encoder_is : {X : Type 0} (r : Result CodedGroup X) (source : Source) (number : ℕ) (g : CutGroup) (header : Header)
+    (bytes : List ℕ) → IfOk r (λ e. e.format ≡ FORMAT) → IfOk r (λ e. e.encoding.header ≡ header)
+    → IfOk r (λ e. e.encoding.message ≡ bytes)
     → header ≡ record {
       session = source.number;
       groups = length source.tables.items;
       group = number;
       table = table_of source.priority g.cut;
     }
-    → bytes ≡ message g.bytes g.cut.runs (length source.priority.layers) → IfOk r (λ e. e ≡ encoding_of source number g)
-encoder_is (Ok e) source number g header bytes h m is words =
-    ap₂ (λ (x : Header) (y : List ℕ). record { header = x; message = y }) (h ∙ is) (m ∙ words)
-encoder_is (Err x) source number g header bytes h m is words = tt
+    → bytes ≡ message g.bytes g.cut.runs (length source.priority.layers) → IfOk r (λ e. e ≡ coded_of source number g)
+encoder_is (Ok e) source number g header bytes f h m is words =
+    ap₂ (λ (t : Format) (y : Encoding). record { format = t; encoding = y }) f
+    (ap₂ (λ (x : Header) (y : List ℕ). record { header = x; message = y }) (h ∙ is) (m ∙ words))
+encoder_is (Err x) source number g header bytes f h m is words = tt
 
 abbrev pub head : List ℕ → ℕ → ℕ → Sizes → Header
 head session groups number table = record { session = session; groups = groups; group = number; table = table }

@@ -1,3 +1,4 @@
+pub mod Coded
 pub mod Job
 pub mod Second
 pub mod SendParts

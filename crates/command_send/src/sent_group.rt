@@ -17,14 +17,15 @@ ghost use Rattle.command_send.specs.inside.Sending.{StopsGroup};
 ghost use Rattle.packet_session.specs.Datagrams.{group_datagrams};
 ghost use Rattle.command_send.specs.inside.Second.{SendsGroup, SendsGroupPart, Differs, cost_at};
 ghost use Rattle.command_send.specs.Sending.{encoding_of};
+ghost use Rattle.command_send.specs.inside.Coded.{coded_of};
 
 use crate::job::Job;
 use layer_split::{GroupCut, message};
 use outside_routes::RouteStop;
-use packet_frame::Header;
+use packet_encoder::PacketEncoder;
+use packet_frame::{FORMAT, Header};
 use packet_sending::put_group;
 use pet_base::{Link, NoMemory, Outside, Place, Sink};
-use pet_encode::Encoder;
 use pet_field::Gf16Tables;
 use std::alloc::Global;
 use std::sync::ledger::Ledger;
@@ -153,11 +154,11 @@ fn encoder_of<'f>(
     job: &'f Job<'_>,
     number: u32,
     group: &Group,
-) -> Result<Encoder<'f, Gf16Tables>, NoMemory>
+) -> Result<PacketEncoder<'f, Gf16Tables>, NoMemory>
     requires there { slice_get job.now.found.source.tables.items number
         ≡ Some (table_of job.now.found.source.priority group.now.cut) }
     requires whole { IsWhole (length job.now.found.source.priority.layers) group.now }
-    ensures { IfOk result (λ encoder. encoder ≡ encoding_of job.now.found.source number group.now) }
+    ensures { IfOk result (λ encoder. encoder ≡ coded_of job.now.found.source number group.now) }
 {
     let bytes = message_of(alloc, group)?;
     let header = Header {
@@ -166,7 +167,7 @@ fn encoder_of<'f>(
         group: number,
         table: job.found.source.tables[number as usize].clone()?,
     };
-    Encoder::new(alloc, &job.field, header, &bytes)
+    PacketEncoder::new(alloc, &job.field, FORMAT, header, &bytes)
 }
 
 /// The message of a group.

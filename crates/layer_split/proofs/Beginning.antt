@@ -12,7 +12,7 @@ use Rattle.std.proofs.lemmas.List.Sums.{sum_by-cons}
 use Rattle.std.proofs.lemmas.Bool.{cond-true, cond-false, cases_Bool, eq-eqb, ne_eqb}
 use Rattle.layer_split.specs.declared.cut.Run.{Run}
 use Rattle.layer_split.specs.Layers.{run_entry, run_table, run_table_size, runs_in, bytes_of_run, layer_bytes}
-use Rattle.layer_split.specs.Layers.{layer_length, lengths_of, padded, message}
+use Rattle.layer_split.specs.Layers.{layer_length, lengths_of, padded_by, message_by}
 use Rattle.layer_split.specs.Bytes.{Begins, run_part, table_of}
 
 pub begins_same : (old new : List ℕ) → new ≡ old → Begins old new
@@ -145,15 +145,16 @@ layer_size stream runs layer inside =
     ∙ ap (λ n. cond (layer == 0) (run_table_size (length runs)) 0 + n) (runs_length stream layer runs inside))
 
 -- whole words
-pub padded_odd : (bytes : List ℕ) (n : ℕ) → n ≡ length bytes → n % 2 ≡ 1 → padded bytes ≡ bytes ++ 0 ∷ []
-padded_odd bytes n e odd =
-    cond-true (length bytes % 2 == 1) (bytes ++ 0 ∷ []) bytes
-    (eq-eqb (length bytes % 2) 1 (ap (λ k. k % 2) (sym e) ∙ odd))
+pub padded_odd : (word : ℕ) (bytes : List ℕ) (n : ℕ) → n ≡ length bytes → n % word ≡ 1
+    → padded_by word bytes ≡ bytes ++ 0 ∷ []
+padded_odd word bytes n e odd =
+    cond-true (length bytes % word == 1) (bytes ++ 0 ∷ []) bytes
+    (eq-eqb (length bytes % word) 1 (ap (λ k. k % word) (sym e) ∙ odd))
 
-pub padded_even : (bytes : List ℕ) (n : ℕ) → n ≡ length bytes → n % 2 ≢ 1 → padded bytes ≡ bytes
-padded_even bytes n e even =
-    cond-false (length bytes % 2 == 1) (bytes ++ 0 ∷ []) bytes
-    (ne_eqb (length bytes % 2) 1 (λ odd. even (ap (λ k. k % 2) e ∙ odd)))
+pub padded_even : (word : ℕ) (bytes : List ℕ) (n : ℕ) → n ≡ length bytes → n % word ≢ 1 → padded_by word bytes ≡ bytes
+padded_even word bytes n e even =
+    cond-false (length bytes % word == 1) (bytes ++ 0 ∷ []) bytes
+    (ne_eqb (length bytes % word) 1 (λ odd. even (ap (λ k. k % word) e ∙ odd)))
 
 -- one layer more of the lengths and of the message
 from_range : (f : ℕ → ℕ) (a n i : ℕ) → i < n → get_or (map f (range_with_len a n)) i 0 ≡ f (a + i)
@@ -169,10 +170,10 @@ length_at runs lengths i e lt =
     ∙ (from_range (layer_length runs) 0 (length lengths) i lt
     ∙ ap (layer_length runs) (let k : 0 + i ≡ i = omega arith in k))
 
-pub message_more : (stream : List ℕ) (runs : List Run) (i : ℕ)
-    → message stream runs (i + 1) ≡ message stream runs i ++ padded (layer_bytes stream runs i)
-message_more stream runs i =
-    let part : ℕ → List ℕ = λ layer. padded (layer_bytes stream runs layer) in
+pub message_more : (word : ℕ) (stream : List ℕ) (runs : List Run) (i : ℕ)
+    → message_by word stream runs (i + 1) ≡ message_by word stream runs i ++ padded_by word (layer_bytes stream runs i)
+message_more word stream runs i =
+    let part : ℕ → List ℕ = λ layer. padded_by word (layer_bytes stream runs layer) in
     ap (flat_map part) (range_push 0 i)
     ∙ (flat_more part (range_with_len 0 i) ((0 + i) ∷ [])
     ∙ (ap (λ l. flat_map part (range_with_len 0 i) ++ l) (append-nil (part (0 + i)))

@@ -38,13 +38,21 @@ layer_length runs layer =
 abbrev pub lengths_of : List Run → ℕ → List ℕ
 lengths_of runs layers = map (layer_length runs) (range_with_len 0 layers)
 
--- whole words: an odd end is filled with one byte 0
-abbrev pub padded : List ℕ → List ℕ
-padded bytes = if length bytes % 2 == 1 then bytes ++ 0 ∷ [] else bytes
+-- whole words of `word` bytes, one or two: an odd end of words of two is filled with one byte 0
+abbrev pub padded_by : ℕ → List ℕ → List ℕ
+padded_by word bytes = if length bytes % word == 1 then bytes ++ 0 ∷ [] else bytes
 
 -- the layers' bytes in order, each in whole words
+abbrev pub message_by : ℕ → List ℕ → List Run → ℕ → List ℕ
+message_by word stream runs layers =
+    flat_map (λ layer. padded_by word (layer_bytes stream runs layer)) (range_with_len 0 layers)
+
+-- the same in words of two bytes
+abbrev pub padded : List ℕ → List ℕ
+padded bytes = padded_by 2 bytes
+
 abbrev pub message : List ℕ → List Run → ℕ → List ℕ
-message stream runs layers = flat_map (λ layer. padded (layer_bytes stream runs layer)) (range_with_len 0 layers)
+message stream runs layers = message_by 2 stream runs layers
 
 -- what a group is cut into: its runs, and the lengths of its layers
 pub record Cut : Type 0 where

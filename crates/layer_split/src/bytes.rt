@@ -40,8 +40,31 @@ pub fn message(stream: &[u8], cut: &GroupCut, into: &mut Vec<u8>) -> Result<(), 
         ++ layers.message stream.now cut.now.runs (length cut.now.lengths)) }
     ensures kept { OnErr result (into.new.items ≡ into.old.items) }
 {
+    message_by(stream, cut, 2, into)
+}
+
+/// The same in words of so many bytes, one or two: where a word has one byte, nothing follows a layer.
+pub fn message_by(
+    stream: &[u8],
+    cut: &GroupCut,
+    word: u32,
+    into: &mut Vec<u8>,
+) -> Result<(), NoMemory>
+    requires word { 0 < word }
+    requires inside { All (λ run. run.at + run.len ≤ length stream.now) cut.now.runs }
+    requires lengths { cut.now.lengths ≡ layers.lengths_of cut.now.runs (length cut.now.lengths) }
+    ensures ok { OnOk result (into.new.items ≡ into.old.items
+        ++ layers.message_by word stream.now cut.now.runs (length cut.now.lengths)) }
+    ensures kept { OnErr result (into.new.items ≡ into.old.items) }
+{
     let before = into.len();
-    match append_layers(stream, cut.runs.as_slice(), cut.lengths.as_slice(), into) {
+    match append_layers(
+        stream,
+        cut.runs.as_slice(),
+        cut.lengths.as_slice(),
+        word,
+        into,
+    ) {
         Ok(()) => Ok(()),
         Err(NoMemory) => {
             into.truncate(before);
@@ -55,17 +78,19 @@ fn append_layers(
     stream: &[u8],
     runs: &[Run],
     lengths: &[u32],
+    word: u32,
     into: &mut Vec<u8>,
 ) -> Result<(), NoMemory>
+    requires word { 0 < word }
     requires inside { All (λ run. run.at + run.len ≤ length stream.now) runs.now }
     requires lengths { lengths.now ≡ layers.lengths_of runs.now (length lengths.now) }
     requires few { length lengths.now ≤ MAX_LAYERS }
     ensures ok { OnOk result (into.new.items ≡ into.old.items
-        ++ layers.message stream.now runs.now (length lengths.now)) }
+        ++ layers.message_by word stream.now runs.now (length lengths.now)) }
     ensures begins { Begins into.old.items into.new.items }
 {
     for layer in 0..lengths.len() {
-        append_padded(stream, runs, layer as u8, lengths[layer], into)?;
+        append_padded(stream, runs, layer as u8, lengths[layer], word, into)?;
     }
     Ok(())
 }
@@ -76,16 +101,18 @@ fn append_padded(
     runs: &[Run],
     layer: u8,
     len: u32,
+    word: u32,
     into: &mut Vec<u8>,
 ) -> Result<(), NoMemory>
+    requires word { 0 < word }
     requires inside { All (λ run. run.at + run.len ≤ length stream.now) runs.now }
     requires len { len ≡ layers.layer_length runs.now layer }
     ensures ok { OnOk result (into.new.items ≡ into.old.items
-        ++ layers.padded (layers.layer_bytes stream.now runs.now layer)) }
+        ++ layers.padded_by word (layers.layer_bytes stream.now runs.now layer)) }
     ensures begins { Begins into.old.items into.new.items }
 {
     append_layer(stream, runs, layer, into)?;
-    if len % 2 == 1 {
+    if len % word == 1 {
         into.push(0)?;
     }
     Ok(())

@@ -18,7 +18,7 @@ mod runs;
 mod splitter;
 mod whole;
 
-pub use bytes::{layer_bytes, message};
+pub use bytes::{layer_bytes, message, message_by};
 pub use cut::{GroupCut, Run};
 pub use fault::SplitFault;
 pub use run_table::{NamedRun, read_run_table};

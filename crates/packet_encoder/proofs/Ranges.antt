@@ -17,7 +17,7 @@ use Rattle.packet_frame.specs.declared.format.Format.{Format}
 use Rattle.packet_frame.specs.Planned.{IsPlannedFrame, planned_text}
 use Rattle.packet_frame.specs.declared.frame.Header.{Header}
 use Rattle.packet_session.specs.Encoding.{Encoding, frame_of, values_at}
-use Rattle.packet_encoder.specs.CodedGroup.{frames_by}
+use Rattle.packet_session.specs.Encoding.{frames_text_in}
 use Rattle.field_values.specs.Matrix.{HasRows}
 use Rattle.packet_encoder.specs.Stored.{IsStored, words_in}
 use Rattle.packet_encoder.proofs.Made.{carries}
@@ -33,19 +33,19 @@ numbers_more first n =
 
 module _ {E : Type 0} (t : Format) (c : Coding E) (e : Encoding) (first n m : ℕ) (is : m ≡ first + n) where
   -- the frame of one packet more
-  frames_more : frames_by t c e first (n + 1) ≡ frames_by t c e first n ++ planned_text t (frame_of c e m)
+  frames_more : frames_text_in t c e first (n + 1) ≡ frames_text_in t c e first n ++ planned_text t (frame_of c e m)
   frames_more =
       ap (flat_map (λ k. planned_text t (frame_of c e k))) (numbers_more first n)
       ∙ flat_map-append (λ k. planned_text t (frame_of c e k)) (range_with_len first n) ((first + n) ∷ [])
-      ∙ ap (λ l. frames_by t c e first n ++ l) (append-nil (planned_text t (frame_of c e (first + n))))
-      ∙ ap (λ k. frames_by t c e first n ++ planned_text t (frame_of c e k)) (sym is)
+      ∙ ap (λ l. frames_text_in t c e first n ++ l) (append-nil (planned_text t (frame_of c e (first + n))))
+      ∙ ap (λ k. frames_text_in t c e first n ++ planned_text t (frame_of c e k)) (sym is)
 
-  pub text_more : (old before after : List ℕ) → before ≡ old ++ frames_by t c e first n
+  pub text_more : (old before after : List ℕ) → before ≡ old ++ frames_text_in t c e first n
       → after ≡ before ++ planned_text t (frame_of c e m)
-      → after ≡ old ++ frames_by t c e first (n + 1)
+      → after ≡ old ++ frames_text_in t c e first (n + 1)
   text_more old before after so_far grown =
       grown ∙ ap (λ l. l ++ planned_text t (frame_of c e m)) so_far
-      ∙ append_assoc old (frames_by t c e first n) (planned_text t (frame_of c e m))
+      ∙ append_assoc old (frames_text_in t c e first n) (planned_text t (frame_of c e m))
       ∙ ap (λ l. old ++ l) (sym frames_more)
 
   pub ranges_more : IsPlannedFrame t (frame_of c e m)

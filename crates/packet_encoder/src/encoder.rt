@@ -1,13 +1,14 @@
 //! The encoder of one group.
 ghost use Rattle.std.specs.Prelude.{◌≡◌, ℕ, ◌+◌, ◌*◌, ◌<◌, ◌≤◌, ◌++◌, length, IfOk, OnOk, OnErr};
-ghost use Rattle.packet_encoder.specs.CodedGroup.{frames_by};
+ghost use Rattle.packet_session.specs.Encoding.{frames_text_in};
 ghost use Rattle.packet_frame.specs.Format.{IsFormat};
 ghost use Rattle.packet_frame.specs.Planned.{planned_text, IsPlannedFrame, IsPlanTableIn};
 ghost use Rattle.packet_session.specs.Encoding.{IsGroupOf, frame_of, values_at};
 ghost use Rattle.packet_session.specs.Session.{Session, IsMessage, IsPacketOf};
 ghost use Rattle.field_values.specs.Matrix.{HasRows};
 ghost use Rattle.stripe_plan.specs.Layers.{needs_of, plan_stripes};
-ghost use Rattle.stripe_plan.specs.Sizes.{IsTable};
+ghost use Rattle.stripe_plan.specs.Sizes.{IsTable, length_by};
+ghost use Rattle.stripe_plan.specs.declared.bounds.TheConstants.{BOUNDS};
 
 use crate::laid::{laid_out, plan_blocks};
 use crate::values::{append_elements, elements, stripe_values};
@@ -107,6 +108,15 @@ impl<'f, F: Field> PacketEncoder<'f, F> {
         Ok(())
     }
 
+    /// The length of a frame of the group, by its plan's table.
+    pub fn frame_length(&self) -> u32
+        ensures value { result ≡ length_by self.now.format.word BOUNDS.bare
+            self.now.encoding.header.table.layers }
+        ensures narrow { result ≤ MAX_DATAGRAM }
+    {
+        datagram_length_by(&self.header.table, self.format.word as u32)
+    }
+
     /// What the packets share.
     pub fn header(&self) -> &Header
         ensures value { result.now ≡ self.now.encoding.header }
@@ -158,7 +168,7 @@ impl<'f, F: AllValues> PacketEncoder<'f, F> {
     /// table. Where it finds no memory, `into` is as before.
     pub fn all<L: Ledger>(&self, into: &mut Vec<u8>, steps: &mut Steps<L>) -> Result<(), NoMemory>
         ensures ok { OnOk result (into.new.items ≡ into.old.items
-            ++ frames_by self.now.format F.coding self.now.encoding 0
+            ++ frames_text_in self.now.format F.coding self.now.encoding 0
             self.now.encoding.header.table.packets) }
         ensures err { OnErr result (into.new.items ≡ into.old.items) }
         ensures cost { steps.new ≤ steps.old + self.now.encoding.header.table.packets
@@ -186,7 +196,7 @@ impl<'f, F: AllValues> PacketEncoder<'f, F> {
     ) -> Result<(), NoMemory>
         requires { first + count ≤ self.now.encoding.header.table.packets }
         ensures ok { OnOk result (into.new.items ≡ into.old.items
-            ++ frames_by self.now.format F.coding self.now.encoding first count) }
+            ++ frames_text_in self.now.format F.coding self.now.encoding first count) }
         ensures err { OnErr result (into.new.items ≡ into.old.items) }
         ensures cost { steps.new ≤ steps.old
             + count * length (needs_of self.now.encoding.header.table.layers) }
@@ -241,13 +251,13 @@ impl<'f, F: AllValues> PacketEncoder<'f, F> {
         requires rows { HasRows (length (plan_stripes self.now.encoding.header.table.layers)) count
             (λ p. values_at F.coding self.now.encoding (first + p)) values.now }
         ensures ok { OnOk result (into.new.items ≡ into.old.items
-            ++ frames_by self.now.format F.coding self.now.encoding first count) }
+            ++ frames_text_in self.now.format F.coding self.now.encoding first count) }
         ensures err { OnErr result (into.new.items ≡ into.old.items) }
         ensures ranges { OnOk result ((number : ℕ) → first ≤ number → number < first + count
             → IsPlannedFrame self.now.format (frame_of F.coding self.now.encoding number)) }
     {
         let wide = stripes(&self.header().table) as usize;
-        into.reserve(usize::from(count) * self.frame_length())?;
+        into.reserve(usize::from(count) * self.frame_length() as usize)?;
         let start = into.len();
         let mut at = 0;
         for p in 0..count {
@@ -259,12 +269,5 @@ impl<'f, F: AllValues> PacketEncoder<'f, F> {
             at = end;
         }
         Ok(())
-    }
-
-    /// The length of a frame.
-    fn frame_length(&self) -> usize
-        ensures { result ≤ MAX_DATAGRAM }
-    {
-        datagram_length_by(&self.header.table, self.format.word as u32) as usize
     }
 }

@@ -1,4 +1,4 @@
-//! The packets of one group, sent on a route.
+//! The packets of one group, sent on a route, in any format and over any field.
 ghost use Rattle.std.specs.Prelude.{◌≡◌, ◌∷◌, [], ◌+◌, ◌*◌, ◌<◌, ◌≤◌, length, OnOk, OnErr, IfErr};
 ghost use Rattle.stripe_plan.specs.Layers.{needs_of};
 ghost use Rattle.pet_base.specs.Causes.{stops};
@@ -7,16 +7,17 @@ ghost use Rattle.pet_base.specs.LinkSeen.{LinkStops};
 ghost use Rattle.outside_routes.specs.RouteFaults.{IsStop, stop_of_a_place, stop_of_a_link};
 ghost use Rattle.outside_routes.specs.Sending.{routes, Sends, SendsPart, IsOpen, OnlyGrows, OutputFailed, SendingFailed};
 ghost use Rattle.outside_routes.specs.Way.{way_of};
-ghost use Rattle.packet_session.specs.Datagrams.{group_datagrams, range_datagrams};
+ghost use Rattle.packet_frame.specs.Format.{IsFormat};
+ghost use Rattle.packet_session.specs.Datagrams.{group_datagrams_in, range_datagrams_in};
+ghost use Rattle.stripe_plan.specs.declared.bounds.TheConstants.{BOUNDS};
 ghost use Rattle.pet_base.specs.Entries.{entry_text};
 
+use field_values::AllValues;
 use outside_routes::{Route, RouteStop, put_entry};
+use packet_encoder::PacketEncoder;
 use pet_base::{Link, MAX_DATAGRAM, NoMemory, Place, Steps};
-use pet_encode::Encoder;
-use pet_field::Gf16Tables;
 use std::alloc::Global;
 use std::sync::ledger::Ledger;
-use stripe_plan::datagram_length;
 
 /// The bytes that the packets of a range may have: those of a group that fit are made at once.
 const RANGE_ROOM: u32 = 16_777_216;
@@ -28,18 +29,20 @@ const RANGE_ROOM: u32 = 16_777_216;
 /// # Errors
 ///
 /// There was no memory, or the object that the route leads to failed.
-pub fn put_group<P: Place, K: Link, L: Ledger>(
+pub fn put_group<P: Place, K: Link, F: AllValues, L: Ledger>(
     alloc: Global,
     to: Route<'_>,
     place: &mut P,
     link: &mut K,
-    encoder: &Encoder<'_, Gf16Tables>,
+    encoder: &PacketEncoder<'_, F>,
     steps: &mut Steps<L>,
 ) -> Result<(), RouteStop>
+    requires format { IsFormat encoder.now.format }
+    requires bare { encoder.now.format.bounds.bare ≡ BOUNDS.bare }
     requires open { IsOpen (way_of to) (routes P.Place K.Link place.old link.old) }
-    ensures sends { OnOk result (Sends (way_of to.entry) (group_datagrams encoder.now)
+    ensures sends { OnOk result (Sends (way_of to.entry) (group_datagrams_in encoder.now.format F.coding encoder.now.encoding)
         (routes P.Place K.Link place.old link.old) (routes P.Place K.Link place.new link.new)) }
-    ensures part { OnErr result (SendsPart (way_of to.entry) (group_datagrams encoder.now)
+    ensures part { OnErr result (SendsPart (way_of to.entry) (group_datagrams_in encoder.now.format F.coding encoder.now.encoding)
         (routes P.Place K.Link place.old link.old) (routes P.Place K.Link place.new link.new)) }
     ensures others { OnlyGrows (routes P.Place K.Link place.old link.old)
         (routes P.Place K.Link place.new link.new) }
@@ -50,12 +53,11 @@ pub fn put_group<P: Place, K: Link, L: Ledger>(
         (P.seen place.new) }
     ensures once_link { LinkStops (stops stop_of_a_link result) (K.seen link.old)
         (K.seen link.new) }
-    ensures cost { steps.new ≤ steps.old + encoder.now.header.table.packets * length
-        (needs_of encoder.now.header.table.layers) }
+    ensures cost { steps.new ≤ steps.old + encoder.now.encoding.header.table.packets * length
+        (needs_of encoder.now.encoding.header.table.layers) }
 {
-    let table = &encoder.header().table;
-    let packets = table.packets();
-    let most = (RANGE_ROOM / datagram_length(table)).max(1);
+    let packets = encoder.header().table.packets();
+    let most = (RANGE_ROOM / encoder.frame_length()).max(1);
     let mut frames = Vec::new(alloc);
     let mut entry = Vec::new(alloc);
     let mut first = 0;
@@ -78,22 +80,24 @@ pub fn put_group<P: Place, K: Link, L: Ledger>(
 }
 
 /// Sends the packets `first` to `first + count - 1`, which are packets of the group. The buffers are emptied first.
-fn put_range<P: Place, K: Link, L: Ledger>(
+fn put_range<P: Place, K: Link, F: AllValues, L: Ledger>(
     to: Route<'_>,
     place: &mut P,
     link: &mut K,
-    encoder: &Encoder<'_, Gf16Tables>,
+    encoder: &PacketEncoder<'_, F>,
     first: u16,
     count: u16,
     frames: &mut Vec<u8>,
     entry: &mut Vec<u8>,
     steps: &mut Steps<L>,
 ) -> Result<(), RouteStop>
+    requires format { IsFormat encoder.now.format }
+    requires bare { encoder.now.format.bounds.bare ≡ BOUNDS.bare }
     requires open { IsOpen (way_of to) (routes P.Place K.Link place.old link.old) }
-    requires within { first + count ≤ encoder.now.header.table.packets }
-    ensures sends { OnOk result (Sends (way_of to.entry) (range_datagrams encoder.now first count)
+    requires within { first + count ≤ encoder.now.encoding.header.table.packets }
+    ensures sends { OnOk result (Sends (way_of to.entry) (range_datagrams_in encoder.now.format F.coding encoder.now.encoding first count)
         (routes P.Place K.Link place.old link.old) (routes P.Place K.Link place.new link.new)) }
-    ensures part { OnErr result (SendsPart (way_of to.entry) (range_datagrams encoder.now first count)
+    ensures part { OnErr result (SendsPart (way_of to.entry) (range_datagrams_in encoder.now.format F.coding encoder.now.encoding first count)
         (routes P.Place K.Link place.old link.old) (routes P.Place K.Link place.new link.new)) }
     ensures others { OnlyGrows (routes P.Place K.Link place.old link.old)
         (routes P.Place K.Link place.new link.new) }
@@ -104,9 +108,9 @@ fn put_range<P: Place, K: Link, L: Ledger>(
         (P.seen place.new) }
     ensures once_link { LinkStops (stops stop_of_a_link result) (K.seen link.old)
         (K.seen link.new) }
-    ensures cost { steps.new ≤ steps.old + count * length (needs_of encoder.now.header.table.layers) }
+    ensures cost { steps.new ≤ steps.old + count * length (needs_of encoder.now.encoding.header.table.layers) }
 {
-    let length = datagram_length(&encoder.header().table) as usize;
+    let length = encoder.frame_length() as usize;
     frames.clear();
     encoder.range(first, count, frames, steps)?;
     let mut at = 0;

@@ -3,7 +3,10 @@ use Rattle.std.specs.Prelude.{◌≡◌, ℕ, List, length, map, slice_get, Some
 use Rattle.std.specs.List.{flat_map, range_with_len}
 use Rattle.field_elements.specs.Field.{Coding}
 use Rattle.packet_frame.specs.declared.frame.Header.{Header}
-use Rattle.packet_frame.specs.Frame.{Fields, text}
+use Rattle.packet_frame.specs.declared.format.Format.{Format}
+use Rattle.packet_frame.specs.declared.format.TheConstants.{FORMAT}
+use Rattle.packet_frame.specs.Frame.{Fields}
+use Rattle.packet_frame.specs.Planned.{planned_text}
 use Rattle.packet_frame.specs.View.{fields_with}
 use Rattle.pet_poly.specs.Value.{value}
 use Rattle.packet_session.specs.Payload.{payload_at, stripes_in}
@@ -24,9 +27,13 @@ abbrev pub values_at : {E : Type 0} → Coding E → Encoding → ℕ → List E
 values_at c e number =
     map (λ stripe. value c.ops stripe (c.point_of number)) (stripes_in c e.header.table.layers e.message)
 
--- the packets `first` to `first + count - 1`, on end
+-- the packets `first` to `first + count - 1` as frames of a format, on end
+abbrev pub frames_text_in : {E : Type 0} → Format → Coding E → Encoding → ℕ → ℕ → List ℕ
+frames_text_in t c e first count = flat_map (λ number. planned_text t (frame_of c e number)) (range_with_len first count)
+
+-- as the frames that are written today
 abbrev pub frames_text : {E : Type 0} → Coding E → Encoding → ℕ → ℕ → List ℕ
-frames_text c e first count = flat_map (λ number. text (frame_of c e number)) (range_with_len first count)
+frames_text c e first count = frames_text_in FORMAT c e first count
 
 -- the encoder is that of one of the session's groups
 pub record IsGroupOf (s : Session) (e : Encoding) : Type 0 where

@@ -1,4 +1,5 @@
--- A session, and the packets that a sender makes of it. This project's own.
+-- A session, and the packets that a sender makes of it. A session is of a format, and its tables are those whose words the
+-- plan cuts; names that tell no format are of the frames that are written today. This project's own.
 use Rattle.std.specs.Prelude.{◌≡◌, ℕ, ◌+◌, ◌*◌, ◌<◌, ◌≤◌, min, List, [], ◌∷◌, ◌++◌, length, take, drop, map, All}
 use Rattle.std.specs.Prelude.{sum_by, option_map, unwrap_or, slice_get, Some}
 use Rattle.std.specs.List.{range_with_len}
@@ -6,8 +7,11 @@ use Rattle.pet_base.specs.declared.limits.TheConstants.{MAX_GROUPS}
 use Rattle.field_elements.specs.Field.{Coding}
 use Rattle.stripe_plan.specs.declared.layer.LayerSize.{LayerSize}
 use Rattle.stripe_plan.specs.Layers.{needs_of, words_before, words_of}
-use Rattle.stripe_plan.specs.Sizes.{IsTable, cost_of}
+use Rattle.stripe_plan.specs.Sizes.{IsTableIn, cost_by, planned}
+use Rattle.packet_frame.specs.declared.format.Format.{Format}
+use Rattle.packet_frame.specs.declared.format.TheConstants.{FORMAT}
 use Rattle.packet_frame.specs.Frame.{Fields}
+use Rattle.packet_frame.specs.Planned.{unplanned}
 use Rattle.packet_session.specs.Payload.{payload_at}
 
 -- a group: its table, and its message, the words of its layers on end
@@ -26,20 +30,32 @@ pub record IsMessage (width : ℕ) (layers : List LayerSize) (message : List ℕ
   pub whole : length message ≡ length (needs_of layers) * width
   pub bytes : All (λ b. b < 256) message
 
-pub record IsSessionGroup (width : ℕ) (g : SessionGroup) : Type 0 where
-  pub table : IsTable g.packets g.layers
-  pub message : IsMessage width g.layers g.message
+-- its table is the plan's table of one of the format, and its message has the format's words
+pub record IsSessionGroupIn (t : Format) (g : SessionGroup) : Type 0 where
+  pub table : IsTableIn t.bounds g.packets (unplanned t.bounds g.layers)
+  pub whole : planned t.bounds (unplanned t.bounds g.layers) ≡ g.layers
+  pub message : IsMessage t.word g.layers g.message
 
-pub record IsSession (width : ℕ) (s : Session) : Type 0 where
+pub record IsSessionIn (t : Format) (s : Session) : Type 0 where
   pub number : length s.number ≡ 8
   pub bytes : All (λ b. b < 256) s.number
   pub some : 0 < length s.groups
   pub few : length s.groups ≤ MAX_GROUPS
-  pub groups : All (IsSessionGroup width) s.groups
+  pub groups : All (IsSessionGroupIn t) s.groups
 
 -- its packets, all together, have at most so many bytes
+abbrev pub FitsIn : Format → Session → ℕ → Type 0
+FitsIn t s limit = sum_by (λ g. cost_by t.word g.packets g.layers) s.groups ≤ limit
+
+-- of the frames that are written today, with words of `width` bytes
+abbrev pub IsSessionGroup : ℕ → SessionGroup → Type 0
+IsSessionGroup width g = IsSessionGroupIn (record FORMAT { word = width }) g
+
+abbrev pub IsSession : ℕ → Session → Type 0
+IsSession width s = IsSessionIn (record FORMAT { word = width }) s
+
 abbrev pub Fits : Session → ℕ → Type 0
-Fits s limit = sum_by (λ g. cost_of g.packets g.layers) s.groups ≤ limit
+Fits s limit = FitsIn FORMAT s limit
 
 -- how many bytes a layer has: those of its words, cut to its length
 abbrev pub bytes_in_layer : ℕ → LayerSize → ℕ

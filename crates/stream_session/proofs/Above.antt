@@ -38,23 +38,23 @@ pub above_from_start : (limit : ℕ) (costs : List ℕ) → first_above limit 0 
 above_from_start limit costs = sym (above_is 0 limit 0 costs ∙ no_more (first_above limit 0 costs))
 
 -- one table more
-pub above_here : (tables : List Sizes) (at limit before : ℕ) (table : Sizes) → at < length tables
-    → get_or tables at table ≡ table → limit < before + table_cost table
-    → above_from at limit before (map table_cost (drop at tables)) ≡ Some at
-above_here tables at limit before table lt is over =
-    ap (λ ts. above_from at limit before (map table_cost ts))
+pub above_here : (word : ℕ) (tables : List Sizes) (at limit before : ℕ) (table : Sizes) → at < length tables
+    → get_or tables at table ≡ table → limit < before + table_cost word table
+    → above_from at limit before (map (table_cost word) (drop at tables)) ≡ Some at
+above_here word tables at limit before table lt is over =
+    ap (λ ts. above_from at limit before (map (table_cost word) ts))
     (drop_more tables at table lt ∙ ap (λ t. t ∷ drop (at + 1) tables) is)
-    ∙ cond-true (nat_lt limit (before + table_cost table)) (Some at)
-    (above_from (at + 1) limit (before + table_cost table) (map table_cost (drop (at + 1) tables)))
-    (lt-ltb limit (before + table_cost table) over)
+    ∙ cond-true (nat_lt limit (before + table_cost word table)) (Some at)
+    (above_from (at + 1) limit (before + table_cost word table) (map (table_cost word) (drop (at + 1) tables)))
+    (lt-ltb limit (before + table_cost word table) over)
 
-pub above_later : (tables : List Sizes) (at limit before : ℕ) (table : Sizes) → at < length tables
-    → get_or tables at table ≡ table → before + table_cost table ≤ limit
-    → above_from at limit before (map table_cost (drop at tables))
-    ≡ above_from (at + 1) limit (before + table_cost table) (map table_cost (drop (at + 1) tables))
-above_later tables at limit before table lt is under =
-    ap (λ ts. above_from at limit before (map table_cost ts))
+pub above_later : (word : ℕ) (tables : List Sizes) (at limit before : ℕ) (table : Sizes) → at < length tables
+    → get_or tables at table ≡ table → before + table_cost word table ≤ limit
+    → above_from at limit before (map (table_cost word) (drop at tables))
+    ≡ above_from (at + 1) limit (before + table_cost word table) (map (table_cost word) (drop (at + 1) tables))
+above_later word tables at limit before table lt is under =
+    ap (λ ts. above_from at limit before (map (table_cost word) ts))
     (drop_more tables at table lt ∙ ap (λ t. t ∷ drop (at + 1) tables) is)
-    ∙ cond-false (nat_lt limit (before + table_cost table)) (Some at)
-    (above_from (at + 1) limit (before + table_cost table) (map table_cost (drop (at + 1) tables)))
-    (le-ltb limit (before + table_cost table) under)
+    ∙ cond-false (nat_lt limit (before + table_cost word table)) (Some at)
+    (above_from (at + 1) limit (before + table_cost word table) (map (table_cost word) (drop (at + 1) tables)))
+    (le-ltb limit (before + table_cost word table) under)

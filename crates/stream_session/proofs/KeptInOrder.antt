@@ -1,5 +1,5 @@
 -- From the groups that a cutter gives to the tables and the marks of the stream.
-use Rattle.std.proofs.Common.{◌≡◌, ◌≢◌, ℕ, suc, ◌+◌, ◌<◌, ◌≤◌, false, List, [], ◌∷◌, ◌++◌, length, get_or, map, take}
+use Rattle.std.proofs.Common.{◌≡◌, ◌≢◌, ℕ, suc, ◌+◌, ◌<◌, ◌≤◌, Bool, true, false, nat_lt, List, [], ◌∷◌, ◌++◌, length, get_or, map, take}
 use Rattle.std.proofs.Common.{Option, Some, None, position, refl, sym, ◌∙◌, ap, subst, arith, append-nil, append_assoc}
 use Rattle.std.proofs.Common.{length-append}
 use Rattle.std.specs.Prelude.{All, if◌then◌else◌}
@@ -32,17 +32,18 @@ use Rattle.stream_session.specs.declared.mark.GroupMark.{GroupMark}
 use Rattle.stream_session.specs.declared.marking.KeptGroups.{KeptGroups}
 use Rattle.stream_session.specs.declared.marking.MarkedPlan.{MarkedPlan}
 use Rattle.stream_session.specs.declared.pass.StreamFault.TheVariants.{Plan}
-use Rattle.stream_session.specs.Tables.{table_of, tables_of, cuts_of_stream, IsFit}
-use Rattle.stream_session.specs.Refusals.{is_wide, cost_in, first_above, size_fault, fault_after, fault_of_cuts}
-use Rattle.stream_session.specs.Refusals.{fault_of_cuts_within, session_fault_within}
+use Rattle.stream_session.specs.Tables.{table_of_in, tables_of_in, cuts_of_stream, IsFit}
+use Rattle.packet_frame.specs.declared.format.Format.{Format}
+use Rattle.stream_session.specs.Refusals.{is_long_in, is_wide_in, group_cost_in, first_above, size_fault, long_fault}
+use Rattle.stream_session.specs.Refusals.{fault_after, many_fault, fault_of_cuts_in, session_fault_in}
 use Rattle.stream_session.specs.Planning.{HasTables}
-use Rattle.stream_session.specs.Passing.{IsStreamFault, IsStreamFaultWithin}
+use Rattle.stream_session.specs.Passing.{IsStreamFaultIn}
 use Rattle.stream_session.specs.Marks.{mark_of}
 use Rattle.stream_session.specs.inside.Marking.{AreKept, HasKept, IsMarkedPlanOf, cuts_in_groups}
 use Rattle.stream_session.specs.Number.{hashed, session_number}
 use Rattle.stream_session.specs.laws.TableLaws.{cut_fits}
 use Rattle.stream_session.specs.laws.FitLaws.{all_short, groups_few}
-use Rattle.stream_session.proofs.Planned.{behind, fault_judged, fault_refused}
+use Rattle.stream_session.proofs.Planned.{behind, fault_judged}
 
 -- the group's cut is fit
 abbrev FitsIn : Priorities → CutGroup → Type 0
@@ -179,103 +180,137 @@ cuts_same f priority stream (group ∷ groups) same =
     ∙ ap (λ l. f (cut_of (layer_of priority) (length priority.layers) group) ∷ l)
     (cuts_same f priority stream groups same)
 
-wide_from : (priority : Priorities) (stream : List ℕ) (i : ℕ) (groups : List (List Piece))
-    → position_from (is_wide priority) i (cuts_in_groups (map (cut_group priority stream) groups))
-    ≡ position_from (is_wide priority) i (cuts_of priority groups)
-wide_from priority stream i [] = refl
-wide_from priority stream i (group ∷ groups) =
-    ap (λ o. if is_wide priority (cut_of (layer_of priority) (length priority.layers) group) then Some i else o)
-    (wide_from priority stream (i + 1) groups)
+wide_from : (t : Format) (priority : Priorities) (stream : List ℕ) (i : ℕ) (groups : List (List Piece))
+    → position_from (is_wide_in t priority) i (cuts_in_groups (map (cut_group priority stream) groups))
+    ≡ position_from (is_wide_in t priority) i (cuts_of priority groups)
+wide_from t priority stream i [] = refl
+wide_from t priority stream i (group ∷ groups) =
+    ap (λ o. if is_wide_in t priority (cut_of (layer_of priority) (length priority.layers) group) then Some i else o)
+    (wide_from t priority stream (i + 1) groups)
 
-wide_same : (priority : Priorities) (stream : List ℕ) (groups : List (List Piece))
-    → position (is_wide priority) (cuts_in_groups (map (cut_group priority stream) groups))
-    ≡ position (is_wide priority) (cuts_of priority groups)
-wide_same priority stream groups =
-    position_from-zero (is_wide priority) (cuts_in_groups (map (cut_group priority stream) groups))
-    ∙ (wide_from priority stream 0 groups ∙ sym (position_from-zero (is_wide priority) (cuts_of priority groups)))
+wide_same : (t : Format) (priority : Priorities) (stream : List ℕ) (groups : List (List Piece))
+    → position (is_wide_in t priority) (cuts_in_groups (map (cut_group priority stream) groups))
+    ≡ position (is_wide_in t priority) (cuts_of priority groups)
+wide_same t priority stream groups =
+    position_from-zero (is_wide_in t priority) (cuts_in_groups (map (cut_group priority stream) groups))
+    ∙ (wide_from t priority stream 0 groups ∙ sym (position_from-zero (is_wide_in t priority) (cuts_of priority groups)))
 
-fault_same : (limit : ℕ) (priority : Priorities) (stream : List ℕ)
-    → fault_of_cuts_within limit priority (cuts_in_groups (cut_groups priority stream))
-    ≡ fault_of_cuts_within limit priority (cuts_of_stream priority stream)
-fault_same limit priority stream =
+long_from : (t : Format) (priority : Priorities) (stream : List ℕ) (i : ℕ) (groups : List (List Piece))
+    → position_from (is_long_in t priority) i (cuts_in_groups (map (cut_group priority stream) groups))
+    ≡ position_from (is_long_in t priority) i (cuts_of priority groups)
+long_from t priority stream i [] = refl
+long_from t priority stream i (group ∷ groups) =
+    ap (λ o. if is_long_in t priority (cut_of (layer_of priority) (length priority.layers) group) then Some i else o)
+    (long_from t priority stream (i + 1) groups)
+
+long_same : (t : Format) (priority : Priorities) (stream : List ℕ) (groups : List (List Piece))
+    → position (is_long_in t priority) (cuts_in_groups (map (cut_group priority stream) groups))
+    ≡ position (is_long_in t priority) (cuts_of priority groups)
+long_same t priority stream groups =
+    position_from-zero (is_long_in t priority) (cuts_in_groups (map (cut_group priority stream) groups))
+    ∙ (long_from t priority stream 0 groups ∙ sym (position_from-zero (is_long_in t priority) (cuts_of priority groups)))
+
+fault_same : (t : Format) (limit : ℕ) (priority : Priorities) (stream : List ℕ)
+    → fault_of_cuts_in t limit priority (cuts_in_groups (cut_groups priority stream))
+    ≡ fault_of_cuts_in t limit priority (cuts_of_stream priority stream)
+fault_same t limit priority stream =
     let groups : List (List Piece) = groups_of (pieces_of stream) in
-    ap (λ o. size_fault o (first_above limit 0
-    (map (cost_in priority) (cuts_in_groups (map (cut_group priority stream) groups)))))
-    (wide_same priority stream groups)
-    ∙ ap (λ l. size_fault (position (is_wide priority) (cuts_of priority groups)) (first_above limit 0 l))
-    (cuts_same (cost_in priority) priority stream groups (λ group. refl))
+    let mine : List Cut = cuts_in_groups (map (cut_group priority stream) groups) in
+    let costs = first_above limit 0 (map (group_cost_in t priority) mine) in
+    ap (λ o. long_fault o (size_fault (position (is_wide_in t priority) mine) costs))
+    (long_same t priority stream groups)
+    ∙ ap (λ o. long_fault (position (is_long_in t priority) (cuts_of priority groups)) (size_fault o costs))
+    (wide_same t priority stream groups)
+    ∙ ap (λ l. long_fault (position (is_long_in t priority) (cuts_of priority groups))
+    (size_fault (position (is_wide_in t priority) (cuts_of priority groups)) (first_above limit 0 l)))
+    (cuts_same (group_cost_in t priority) priority stream groups (λ group. refl))
 
 -- what was kept of all groups
 kept_all : (kept : KeptGroups) (priority : Priorities) (stream : List ℕ) (groups : List CutGroup)
     → AreAll priority stream groups → AreKept kept priority groups → AreKept kept priority (cut_groups priority stream)
 kept_all kept priority stream groups all h = subst (AreKept kept priority) all.all h
 
-fault_is : (limit : ℕ) (priority : Priorities) (stream : List ℕ) (groups : List CutGroup) (o : Option SessionFault)
-    → AreAll priority stream groups → fault_of_cuts_within limit priority (cuts_in_groups (cut_groups priority stream)) ≡ o
-    → session_fault_within limit priority (pieces_of stream) ≡ o
-fault_is limit priority stream groups o all judged =
-    fault_judged limit priority (pieces_of stream) (cuts_of_stream priority stream) o all.cuttable.1 refl
-    (sym (fault_same limit priority stream) ∙ judged)
+fault_is : (t : Format) (limit : ℕ) (priority : Priorities) (stream : List ℕ) (groups : List CutGroup)
+    (o : Option SessionFault) → AreAll priority stream groups
+    → many_fault t priority (fault_of_cuts_in t limit priority (cuts_in_groups (cut_groups priority stream))) ≡ o
+    → session_fault_in t limit priority (pieces_of stream) ≡ o
+fault_is t limit priority stream groups o all judged =
+    fault_judged t limit priority (pieces_of stream) (cuts_of_stream priority stream) o all.cuttable.1 refl
+    (ap (many_fault t priority) (sym (fault_same t limit priority stream)) ∙ judged)
 
-tables_are : (priority : Priorities) (stream : List ℕ) (tables : List Sizes)
-    → tables ≡ tables_of priority (cuts_in_groups (cut_groups priority stream))
-    → tables ≡ tables_of priority (cuts_of_stream priority stream)
-tables_are priority stream tables is =
-    is ∙ cuts_same (table_of priority) priority stream (groups_of (pieces_of stream)) (λ group. refl)
+tables_are : (t : Format) (priority : Priorities) (stream : List ℕ) (tables : List Sizes)
+    → tables ≡ tables_of_in t priority (cuts_in_groups (cut_groups priority stream))
+    → tables ≡ tables_of_in t priority (cuts_of_stream priority stream)
+tables_are t priority stream tables is =
+    is ∙ cuts_same (table_of_in t priority) priority stream (groups_of (pieces_of stream)) (λ group. refl)
 
 -- a fault of the groups of an accepted stream is one of its plan
-told_after : (fault : SplitFault) (cause : SessionFault) → fault ≢ split.NoMemory
-    → fault_after (Some fault) None ≡ Some cause → cause ≢ session.NoMemory
-told_after (split.GroupTooLong group) cause told is e = cc
-told_after split.TooManyGroups cause told is e = cc
-told_after split.NoMemory cause told is e = told refl
+told_after : (t : Format) (priority : Priorities) (fault : SplitFault) (cause : SessionFault) → fault ≢ split.NoMemory
+    → many_fault t priority (fault_after (Some fault) None) ≡ Some cause → cause ≢ session.NoMemory
+told_after t priority fault cause told is =
+    by_flag (nat_lt t.bounds.packets priority.packets) fault told is
+  where
+    by_flag : (many : Bool) (f : SplitFault) → f ≢ split.NoMemory
+        → (if many then Some (session.ManyPackets priority.packets) else fault_after (Some f) None) ≡ Some cause
+        → cause ≢ session.NoMemory
+    by_flag true f told is e = cc
+    by_flag false (split.GroupTooLong group) told is e = cc
+    by_flag false split.TooManyGroups told is e = cc
+    by_flag false split.NoMemory told is e = told refl
 
-groups_stop : (limit : ℕ) (priority : Priorities) (stream : List ℕ) (fault : SplitFault) (cause : SessionFault)
+groups_stop : (t : Format) (limit : ℕ) (priority : Priorities) (stream : List ℕ) (fault : SplitFault)
+    (cause : SessionFault)
     → fault ≢ split.NoMemory → groups_fault priority stream ≡ Some fault
-    → ((later : Option SessionFault) → fault_after (Some fault) later ≡ Some cause)
-    → (cause ≢ session.NoMemory) × (session_fault_within limit priority (pieces_of stream) ≡ Some cause)
-groups_stop limit priority stream fault cause told is after =
-    (told_after fault cause told (after None), fault_refused limit priority (pieces_of stream) fault (Some cause) is after)
+    → ((later : Option SessionFault) → many_fault t priority (fault_after (Some fault) later) ≡ Some cause)
+    → (cause ≢ session.NoMemory) × (session_fault_in t limit priority (pieces_of stream) ≡ Some cause)
+unfolding session_fault_in
+groups_stop t limit priority stream fault cause told is after =
+    let later = fault_of_cuts_in t limit priority (cuts_of priority (groups_of (pieces_of stream))) in (
+      told_after t priority fault cause told (after None),
+      ap (λ f. many_fault t priority (fault_after f later)) is ∙ after later,
+    )
 
-pub groups_told : (limit : ℕ) (priority : Priorities) (stream : List ℕ) (why : CutFault) (fault : SplitFault)
-    (cause : SessionFault) → why ≡ Groups fault → IsCutFault priority stream why
-    → ((later : Option SessionFault) → fault_after (Some fault) later ≡ Some cause)
-    → IsStreamFaultWithin limit priority stream (Plan cause)
-groups_told limit priority stream why fault cause e is after =
+pub groups_told : (t : Format) (limit : ℕ) (priority : Priorities) (stream : List ℕ) (why : CutFault)
+    (fault : SplitFault) (cause : SessionFault) → why ≡ Groups fault → IsCutFault priority stream why
+    → ((later : Option SessionFault) → many_fault t priority (fault_after (Some fault) later) ≡ Some cause)
+    → IsStreamFaultIn t limit priority stream (Plan cause)
+groups_told t limit priority stream why fault cause e is after =
     let of = subst (IsCutFault priority stream) e is in
-    let stop = groups_stop limit priority stream fault cause of.1 of.2 after in
+    let stop = groups_stop t limit priority stream fault cause of.1 of.2 after in
     (of.0, stop.0, stop.1)
 
 -- the plan of all groups
-pub marked_plan : (marked : MarkedPlan) (after : KeptGroups) (priority : Priorities) (file stream : List ℕ)
+pub marked_plan : (t : Format) (marked : MarkedPlan) (after : KeptGroups) (priority : Priorities) (file stream : List ℕ)
     (groups : List CutGroup) → AreAll priority stream groups → AreKept after priority groups
     → marked.plan.number ≡ take 8 (sha256 (hashed file stream)) → marked.marks.items ≡ after.marks.items
     → ((p : Priorities) (cuts : List Cut) → HasTables after.tables p cuts
-    → (fault_of_cuts p cuts ≡ None) × (marked.plan.tables.items ≡ tables_of p cuts))
-    → IsMarkedPlanOf marked priority file stream
+    → (many_fault t p (fault_of_cuts_in t MAX_SESSION p cuts) ≡ None)
+    × (marked.plan.tables.items ≡ tables_of_in t p cuts))
+    → IsMarkedPlanOf t marked priority file stream
 unfolding session_number
-marked_plan marked after priority file stream groups all kept number marks judged =
+marked_plan t marked after priority file stream groups all kept number marks judged =
     let h = kept_all after priority stream groups all kept in
     let of = judged priority (cuts_in_groups (cut_groups priority stream)) h.has_tables in
     record {
       plan =
           record {
             accepted = all.cuttable.0;
-            fits = fault_is MAX_SESSION priority stream groups None all of.0;
+            fits = fault_is t MAX_SESSION priority stream groups None all of.0;
             number = number;
-            tables = tables_are priority stream marked.plan.tables.items of.1;
+            tables = tables_are t priority stream marked.plan.tables.items of.1;
           };
       marks = marks ∙ h.has_marks;
     }
 
-pub marked_fault : (after : KeptGroups) (fault : SessionFault) (priority : Priorities) (stream : List ℕ)
+pub marked_fault : (t : Format) (after : KeptGroups) (fault : SessionFault) (priority : Priorities) (stream : List ℕ)
     (groups : List CutGroup) → AreAll priority stream groups → AreKept after priority groups → fault ≢ session.NoMemory
-    → ((p : Priorities) (cuts : List Cut) → HasTables after.tables p cuts → fault_of_cuts p cuts ≡ Some fault)
-    → IsStreamFault priority stream (Plan fault)
-marked_fault after fault priority stream groups all kept told judged =
+    → ((p : Priorities) (cuts : List Cut) → HasTables after.tables p cuts
+    → many_fault t p (fault_of_cuts_in t MAX_SESSION p cuts) ≡ Some fault)
+    → IsStreamFaultIn t MAX_SESSION priority stream (Plan fault)
+marked_fault t after fault priority stream groups all kept told judged =
     let h = kept_all after priority stream groups all kept in (
       all.cuttable.0,
       told,
-      fault_is MAX_SESSION priority stream groups (Some fault) all
+      fault_is t MAX_SESSION priority stream groups (Some fault) all
           (judged priority (cuts_in_groups (cut_groups priority stream)) h.has_tables),
     )

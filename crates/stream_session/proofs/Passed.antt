@@ -17,7 +17,8 @@ use Rattle.stream_session.specs.declared.pass.StreamFault.{StreamFault}
 use Rattle.stream_session.specs.declared.pass.StreamFault.TheVariants.{Stream, Plan, NoMemory}
 use Rattle.stream_session.specs.Number.{hashed, session_number}
 use Rattle.stream_session.specs.Planning.{HasPlanned}
-use Rattle.stream_session.specs.Passing.{IsLive, HasPassed, IsPlanWithin, IsPlanBy, IsPlanFault, IsStreamFaultWithin}
+use Rattle.stream_session.specs.Passing.{IsLive, HasPassed, IsPlanIn, IsPlanBy, IsPlanFault, IsStreamFaultIn}
+use Rattle.packet_frame.specs.declared.format.Format.{Format}
 
 -- a refusal stays
 pub stays_refused : (o : Option Scan) (A B : Type 0) (stream portion : List ℕ) → is_some o ≡ true
@@ -120,53 +121,53 @@ end_refused pass scan none refuses priority file stream passed =
     (refuses stream live.given live.scanned, λ lt. absurd (omega (arith, lt)))
 
 -- the plan of all pieces is that of the stream
-plan_of_stream : (limit : ℕ) (pass : Pass) (plan : SessionPlan) (priority : Priorities) (file stream : List ℕ)
+plan_of_stream : (t : Format) (limit : ℕ) (pass : Pass) (plan : SessionPlan) (priority : Priorities) (file stream : List ℕ)
     (pieces last : List Piece) (live : IsLive pass priority file stream) → last ≡ pieces
     → IsAccepted stream × (live.given ++ added pass.pieces.items pieces ≡ pieces_of stream)
-    → IsPlanBy limit plan priority (live.given ++ last) (hashed file stream) → IsPlanWithin limit plan priority file stream
+    → IsPlanBy t limit plan priority (live.given ++ last) (hashed file stream) → IsPlanIn t limit plan priority file stream
 unfolding session_number
-plan_of_stream limit pass plan priority file stream pieces last live same accepted by =
+plan_of_stream t limit pass plan priority file stream pieces last live same accepted by =
     let e : live.given ++ last ≡ pieces_of stream =
     ap (λ (xs : List Piece). live.given ++ xs) (same ∙ sym (added_to_none pass.pieces.items pieces live.empty))
     ∙ accepted.1 in
-    let of = subst (λ (xs : List Piece). IsPlanBy limit plan priority xs (hashed file stream)) e by in
+    let of = subst (λ (xs : List Piece). IsPlanBy t limit plan priority xs (hashed file stream)) e by in
     record { accepted = accepted.0; fits = of.fits; number = of.number; tables = of.tables }
 
-pub finish_plan : (limit : ℕ) (pass : Pass) (result : Result SessionPlan StreamFault) (pieces last : List Piece)
+pub finish_plan : (t : Format) (limit : ℕ) (pass : Pass) (result : Result SessionPlan StreamFault) (pieces last : List Piece)
     → ((scan : Scan) → pass.refused ≡ Some scan → ⊥) → last ≡ pieces
     → ((stream : List ℕ) (given : List Piece) → HasRead pass.scanner stream given
     → IsAccepted stream × (given ++ added pass.pieces.items pieces ≡ pieces_of stream))
     → IfOk result (λ plan. (priority : Priorities) (given : List Piece) (message : List ℕ)
     → HasPlanned pass.planner priority given → Holds256 pass.hasher message
-    → IsPlanBy limit plan priority (given ++ last) message)
+    → IsPlanBy t limit plan priority (given ++ last) message)
     → IfOk result (λ plan. (priority : Priorities) (file stream : List ℕ) → HasPassed pass priority file stream
-    → IsPlanWithin limit plan priority file stream)
-finish_plan limit pass (Err fault) pieces last none same accepted by = tt
-finish_plan limit pass (Ok plan) pieces last none same accepted by = λ priority file stream passed.
+    → IsPlanIn t limit plan priority file stream)
+finish_plan t limit pass (Err fault) pieces last none same accepted by = tt
+finish_plan t limit pass (Ok plan) pieces last none same accepted by = λ priority file stream passed.
     let live = live_at pass.refused (IsLive pass priority file stream) _ none passed in
-    plan_of_stream limit pass plan priority file stream pieces last live same (accepted stream live.given live.scanned)
+    plan_of_stream t limit pass plan priority file stream pieces last live same (accepted stream live.given live.scanned)
     (by priority live.given (hashed file stream) live.planned live.hashed)
 
-fault_of_stream : (limit : ℕ) (priority : Priorities) (stream : List ℕ) (fault : StreamFault) → IsAccepted stream
-    → IsPlanFault limit priority (pieces_of stream) fault → IsStreamFaultWithin limit priority stream fault
-fault_of_stream limit priority stream (Stream scan) accepted why = absurd why
-fault_of_stream limit priority stream (Plan fault) accepted why = (accepted, why.0, why.1)
-fault_of_stream limit priority stream NoMemory accepted why = tt
+fault_of_stream : (t : Format) (limit : ℕ) (priority : Priorities) (stream : List ℕ) (fault : StreamFault) → IsAccepted stream
+    → IsPlanFault t limit priority (pieces_of stream) fault → IsStreamFaultIn t limit priority stream fault
+fault_of_stream t limit priority stream (Stream scan) accepted why = absurd why
+fault_of_stream t limit priority stream (Plan fault) accepted why = (accepted, why.0, why.1)
+fault_of_stream t limit priority stream NoMemory accepted why = tt
 
-pub finish_fault : (limit : ℕ) (pass : Pass) (result : Result SessionPlan StreamFault) (pieces last : List Piece)
+pub finish_fault : (t : Format) (limit : ℕ) (pass : Pass) (result : Result SessionPlan StreamFault) (pieces last : List Piece)
     → ((scan : Scan) → pass.refused ≡ Some scan → ⊥) → last ≡ pieces
     → ((stream : List ℕ) (given : List Piece) → HasRead pass.scanner stream given
     → IsAccepted stream × (given ++ added pass.pieces.items pieces ≡ pieces_of stream))
     → IfErr result (λ fault. (priority : Priorities) (given : List Piece) → HasPlanned pass.planner priority given
-    → IsPlanFault limit priority (given ++ last) fault)
+    → IsPlanFault t limit priority (given ++ last) fault)
     → IfErr result (λ fault. (priority : Priorities) (file stream : List ℕ) → HasPassed pass priority file stream
-    → IsStreamFaultWithin limit priority stream fault)
-finish_fault limit pass (Ok plan) pieces last none same accepted why = tt
-finish_fault limit pass (Err fault) pieces last none same accepted why = λ priority file stream passed.
+    → IsStreamFaultIn t limit priority stream fault)
+finish_fault t limit pass (Ok plan) pieces last none same accepted why = tt
+finish_fault t limit pass (Err fault) pieces last none same accepted why = λ priority file stream passed.
     let live = live_at pass.refused (IsLive pass priority file stream) _ none passed in
     let all = accepted stream live.given live.scanned in
     let e : live.given ++ last ≡ pieces_of stream =
     ap (λ (xs : List Piece). live.given ++ xs) (same ∙ sym (added_to_none pass.pieces.items pieces live.empty))
     ∙ all.1 in
-    fault_of_stream limit priority stream fault all.0
-    (subst (λ (xs : List Piece). IsPlanFault limit priority xs fault) e (why priority live.given live.planned))
+    fault_of_stream t limit priority stream fault all.0
+    (subst (λ (xs : List Piece). IsPlanFault t limit priority xs fault) e (why priority live.given live.planned))

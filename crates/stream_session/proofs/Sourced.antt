@@ -21,12 +21,13 @@ use Rattle.priority_file.specs.Refusals.{Row, first_of, rows, refusal_of, priori
 use Rattle.stream_session.specs.declared.pass.StreamFault.{StreamFault}
 use Rattle.stream_session.specs.declared.pass.StreamFault.TheVariants as pass
 use Rattle.stream_session.specs.declared.source.SourceFault.TheVariants as source
-use Rattle.stream_session.specs.Refusals.{session_fault_within}
+use Rattle.stream_session.specs.Refusals.{session_fault_in}
+use Rattle.packet_frame.specs.declared.format.Format.{Format}
 use Rattle.outside_files.specs.Inputs.{IsFile, IsFrontOf, IsRead, Licensed}
 use Rattle.stream_session.specs.declared.pass.SessionPlan.{SessionPlan}
-use Rattle.stream_session.specs.Passing.{IsPlanWithin, IsStreamFaultWithin}
-use Rattle.stream_session.specs.Sources.{of_stop, of_stream, of_priority, BothFiles, IsOfSource, IsSourceWithin}
-use Rattle.stream_session.specs.Sources.{IsSourceFaultWithin}
+use Rattle.stream_session.specs.Passing.{IsPlanIn, IsStreamFaultIn}
+use Rattle.stream_session.specs.Sources.{of_stop, of_stream, of_priority, BothFiles, IsOfSource, IsSourceIn}
+use Rattle.stream_session.specs.Sources.{IsSourceFaultIn}
 
 -- all of the file was read
 whole_file : (limit : ℕ) (bytes name : List ℕ) (files : Option Files) → length bytes ≤ limit
@@ -80,42 +81,42 @@ refused_file bytes more fault whole e =
       | inr le ↦ ap refusal_of (ap (λ (m : List ℕ). bytes ++ m) (whole le) ∙ append-nil bytes) ∙ e
     ]
 
-refused_at : (limit : ℕ) (stream priority bytes : List ℕ) (old new : Seen) (fault : PriorityFault)
+refused_at : (t : Format) (limit : ℕ) (stream priority bytes : List ℕ) (old new : Seen) (fault : PriorityFault)
     → IsFrontOf MAX_PRIORITY_FILE bytes old.files priority
-    → refusal_of bytes ≡ Some fault → IsSourceFaultWithin limit old new stream priority (source.Priority fault)
-refused_at limit stream priority bytes old new fault front e =
+    → refusal_of bytes ≡ Some fault → IsSourceFaultIn t limit old new stream priority (source.Priority fault)
+refused_at t limit stream priority bytes old new fault front e =
     (bytes ++ front.more, front.told, refused_file bytes front.more fault front.whole e)
 
 -- the priority file is refused
-pub priority_at : (limit : ℕ) (stream priority bytes : List ℕ) (old new : Seen) (fault : PriorityFault)
+pub priority_at : (t : Format) (limit : ℕ) (stream priority bytes : List ℕ) (old new : Seen) (fault : PriorityFault)
     → IsFrontOf MAX_PRIORITY_FILE bytes old.files priority
     → (fault ≢ rules.NoMemory → refusal_of bytes ≡ Some fault)
-    → IsSourceFaultWithin limit old new stream priority (of_priority fault)
-priority_at limit stream priority bytes old new rules.Long front why =
-    refused_at limit stream priority bytes old new rules.Long front (why (λ e. cc))
-priority_at limit stream priority bytes old new rules.Text front why =
-    refused_at limit stream priority bytes old new rules.Text front (why (λ e. cc))
-priority_at limit stream priority bytes old new rules.UnknownKey front why =
-    refused_at limit stream priority bytes old new rules.UnknownKey front (why (λ e. cc))
-priority_at limit stream priority bytes old new rules.MissingKey front why =
-    refused_at limit stream priority bytes old new rules.MissingKey front (why (λ e. cc))
-priority_at limit stream priority bytes old new rules.WrongType front why =
-    refused_at limit stream priority bytes old new rules.WrongType front (why (λ e. cc))
-priority_at limit stream priority bytes old new rules.PacketsRange front why =
-    refused_at limit stream priority bytes old new rules.PacketsRange front (why (λ e. cc))
-priority_at limit stream priority bytes old new rules.NeedRange front why =
-    refused_at limit stream priority bytes old new rules.NeedRange front (why (λ e. cc))
-priority_at limit stream priority bytes old new rules.Name front why =
-    refused_at limit stream priority bytes old new rules.Name front (why (λ e. cc))
-priority_at limit stream priority bytes old new rules.KindTwice front why =
-    refused_at limit stream priority bytes old new rules.KindTwice front (why (λ e. cc))
-priority_at limit stream priority bytes old new rules.KindMissing front why =
-    refused_at limit stream priority bytes old new rules.KindMissing front (why (λ e. cc))
-priority_at limit stream priority bytes old new rules.HeadNotFirst front why =
-    refused_at limit stream priority bytes old new rules.HeadNotFirst front (why (λ e. cc))
-priority_at limit stream priority bytes old new rules.TooManyLayers front why =
-    refused_at limit stream priority bytes old new rules.TooManyLayers front (why (λ e. cc))
-priority_at limit stream priority bytes old new rules.NoMemory front why = tt
+    → IsSourceFaultIn t limit old new stream priority (of_priority fault)
+priority_at t limit stream priority bytes old new rules.Long front why =
+    refused_at t limit stream priority bytes old new rules.Long front (why (λ e. cc))
+priority_at t limit stream priority bytes old new rules.Text front why =
+    refused_at t limit stream priority bytes old new rules.Text front (why (λ e. cc))
+priority_at t limit stream priority bytes old new rules.UnknownKey front why =
+    refused_at t limit stream priority bytes old new rules.UnknownKey front (why (λ e. cc))
+priority_at t limit stream priority bytes old new rules.MissingKey front why =
+    refused_at t limit stream priority bytes old new rules.MissingKey front (why (λ e. cc))
+priority_at t limit stream priority bytes old new rules.WrongType front why =
+    refused_at t limit stream priority bytes old new rules.WrongType front (why (λ e. cc))
+priority_at t limit stream priority bytes old new rules.PacketsRange front why =
+    refused_at t limit stream priority bytes old new rules.PacketsRange front (why (λ e. cc))
+priority_at t limit stream priority bytes old new rules.NeedRange front why =
+    refused_at t limit stream priority bytes old new rules.NeedRange front (why (λ e. cc))
+priority_at t limit stream priority bytes old new rules.Name front why =
+    refused_at t limit stream priority bytes old new rules.Name front (why (λ e. cc))
+priority_at t limit stream priority bytes old new rules.KindTwice front why =
+    refused_at t limit stream priority bytes old new rules.KindTwice front (why (λ e. cc))
+priority_at t limit stream priority bytes old new rules.KindMissing front why =
+    refused_at t limit stream priority bytes old new rules.KindMissing front (why (λ e. cc))
+priority_at t limit stream priority bytes old new rules.HeadNotFirst front why =
+    refused_at t limit stream priority bytes old new rules.HeadNotFirst front (why (λ e. cc))
+priority_at t limit stream priority bytes old new rules.TooManyLayers front why =
+    refused_at t limit stream priority bytes old new rules.TooManyLayers front (why (λ e. cc))
+priority_at t limit stream priority bytes old new rules.NoMemory front why = tt
 
 -- a priority file that was read whole and is accepted, and its priority
 pub record IsJudged (files : Option Files) (name file : List ℕ) (read : Priorities) : Type 0 where
@@ -151,32 +152,32 @@ both_files stream priority file bytes read old between P judged same is holds = 
 }
 
 -- it is refused, or its plan
-pub stream_at : (limit : ℕ) (stream priority file bytes : List ℕ) (read : Priorities) (old between new : Seen)
+pub stream_at : (t : Format) (limit : ℕ) (stream priority file bytes : List ℕ) (read : Priorities) (old between new : Seen)
     (fault : StreamFault) → IsJudged old.files priority file read
-    → between.files ≡ old.files → IsFrontOf MAX_STREAM bytes between.files stream → IsStreamFaultWithin limit read bytes fault
-    → IsSourceFaultWithin limit old new stream priority (of_stream fault)
-stream_at limit stream priority file bytes read old between new (pass.Stream scan) judged same front why =
+    → between.files ≡ old.files → IsFrontOf MAX_STREAM bytes between.files stream → IsStreamFaultIn t limit read bytes fault
+    → IsSourceFaultIn t limit old new stream priority (of_stream fault)
+stream_at t limit stream priority file bytes read old between new (pass.Stream scan) judged same front why =
     both_files stream priority file (bytes ++ front.more) read old between _ judged same front.told
     (refuses_file bytes front.more scan front.whole why.0 why.1)
-stream_at limit stream priority file bytes read old between new (pass.Plan fault) judged same front why =
+stream_at t limit stream priority file bytes read old between new (pass.Plan fault) judged same front why =
     both_files stream priority file bytes read old between _ judged same
     (whole_file MAX_STREAM bytes stream between.files (short_stream bytes why.0) front)
-    (why.0, why.1, subst (λ (p : Priorities). session_fault_within limit p (pieces_of bytes) ≡ Some fault) judged.rules why.2)
-stream_at limit stream priority file bytes read old between new pass.NoMemory judged same front why = tt
+    (why.0, why.1, subst (λ (p : Priorities). session_fault_in t limit p (pieces_of bytes) ≡ Some fault) judged.rules why.2)
+stream_at t limit stream priority file bytes read old between new pass.NoMemory judged same front why = tt
 
 -- a fault of the place at the priority file, and one at the stream, where the priority file is accepted
-pub rules_failed : (limit : ℕ) (stream priority : List ℕ) (old new : Seen) (why : Stop)
-    → Licensed (HadFault old new (IsRead priority)) why → IsSourceFaultWithin limit old new stream priority (of_stop why)
-rules_failed limit stream priority old new stop.NoMemory had = tt
-rules_failed limit stream priority old new stop.Failed had =
+pub rules_failed : (t : Format) (limit : ℕ) (stream priority : List ℕ) (old new : Seen) (why : Stop)
+    → Licensed (HadFault old new (IsRead priority)) why → IsSourceFaultIn t limit old new stream priority (of_stop why)
+rules_failed t limit stream priority old new stop.NoMemory had = tt
+rules_failed t limit stream priority old new stop.Failed had =
     HadFault-since old old new (IsRead priority) (IsOfSource old.files stream priority) (omega arith)
     (λ b at. inl at) had
 
-pub stream_failed : (limit : ℕ) (stream priority file : List ℕ) (read : Priorities) (old between new : Seen) (why : Stop)
+pub stream_failed : (t : Format) (limit : ℕ) (stream priority file : List ℕ) (read : Priorities) (old between new : Seen) (why : Stop)
     → IsJudged old.files priority file read → old.faults ≤ between.faults
-    → Licensed (HadFault between new (IsRead stream)) why → IsSourceFaultWithin limit old new stream priority (of_stop why)
-stream_failed limit stream priority file read old between new stop.NoMemory judged later had = tt
-stream_failed limit stream priority file read old between new stop.Failed judged later had =
+    → Licensed (HadFault between new (IsRead stream)) why → IsSourceFaultIn t limit old new stream priority (of_stop why)
+stream_failed t limit stream priority file read old between new stop.NoMemory judged later had = tt
+stream_failed t limit stream priority file read old between new stop.Failed judged later had =
     HadFault-since old between new (IsRead stream) (IsOfSource old.files stream priority) later
     (λ b at. inr (at, file, judged.file_is, judged.accepted)) had
 
@@ -195,11 +196,11 @@ answer_at stream priority given file bytes read old between P judged same is fro
     )
 
 -- the session of both files, by its plan
-unfoldable pub source_by : {limit : ℕ} {files : Option Files} {stream priority : List ℕ} {P : List ℕ → List ℕ → Type 0}
+unfoldable pub source_by : {t : Format} {limit : ℕ} {files : Option Files} {stream priority : List ℕ} {P : List ℕ → List ℕ → Type 0}
     (both : BothFiles files stream priority P) (rules : Priorities) (plan : SessionPlan)
     → rules ≡ priorities_of both.file
-    → IsPlanWithin limit plan (priorities_of both.file) both.file both.bytes
-    → IsSourceWithin limit files stream priority (record { priority = rules; number = plan.number; tables = plan.tables })
+    → IsPlanIn t limit plan (priorities_of both.file) both.file both.bytes
+    → IsSourceIn t limit files stream priority (record { priority = rules; number = plan.number; tables = plan.tables })
 source_by both rules plan is planned = record {
   file = both.file;
   bytes = both.bytes;

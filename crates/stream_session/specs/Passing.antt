@@ -1,5 +1,5 @@
 -- Where a pass stands over a stream that came in portions, and what it answers at the end. This project's own.
-use Rattle.std.specs.Prelude.{◌≡◌, ◌≢◌, ℕ, ◌<◌, List, [], ◌++◌, length, take, None, Some, MatchOption}
+use Rattle.std.specs.Prelude.{◌≡◌, ◌≢◌, ℕ, List, [], ◌++◌, take, None, Some, MatchOption}
 use Rattle.mpeg_scan.specs.declared.piece.Piece.{Piece}
 use Rattle.mpeg_scan.specs.Refusals.{Refuses, IsRefusal, IsAccepted}
 use Rattle.mpeg_scan.specs.Pieces.{pieces_of}
@@ -14,9 +14,11 @@ use Rattle.stream_session.specs.declared.pass.Pass.{Pass}
 use Rattle.stream_session.specs.declared.pass.SessionPlan.{SessionPlan}
 use Rattle.stream_session.specs.declared.pass.StreamFault.{StreamFault}
 use Rattle.stream_session.specs.declared.pass.StreamFault.TheVariants.{Stream, Plan, NoMemory}
-use Rattle.stream_session.specs.Tables.{tables_of, cuts_of_stream}
+use Rattle.packet_frame.specs.declared.format.Format.{Format}
+use Rattle.packet_frame.specs.declared.format.TheConstants.{FORMAT}
+use Rattle.stream_session.specs.Tables.{tables_of_in, cuts_of_stream}
 use Rattle.pet_base.specs.declared.limits.TheConstants.{MAX_SESSION}
-use Rattle.stream_session.specs.Refusals.{session_fault_within}
+use Rattle.stream_session.specs.Refusals.{session_fault_in}
 use Rattle.stream_session.specs.Number.{hashed, session_number}
 use Rattle.stream_session.specs.Planning.{HasPlanned}
 
@@ -35,38 +37,45 @@ HasPassed pass priority file stream =
     MatchOption pass.refused (IsLive pass priority file stream)
     (λ scan. (rest : List ℕ) → Refuses (stream ++ rest) scan)
 
--- the number and the tables of the session that the stream is, where a session may have so many bytes
-pub record IsPlanWithin (limit : ℕ) (plan : SessionPlan) (priority : Priorities) (file stream : List ℕ) : Type 0 where
+-- the number and the tables of the session that the stream is in a format, where a session may have so many bytes
+pub record IsPlanIn (t : Format) (limit : ℕ) (plan : SessionPlan) (priority : Priorities) (file stream : List ℕ) : Type 0 where
   pub accepted : IsAccepted stream
-  pub fits : session_fault_within limit priority (pieces_of stream) ≡ None
+  pub fits : session_fault_in t limit priority (pieces_of stream) ≡ None
   pub number : plan.number ≡ session_number file stream
-  pub tables : plan.tables.items ≡ tables_of priority (cuts_of_stream priority stream)
+  pub tables : plan.tables.items ≡ tables_of_in t priority (cuts_of_stream priority stream)
+
+-- in the format that is written today
+abbrev pub IsPlanWithin : ℕ → SessionPlan → Priorities → List ℕ → List ℕ → Type 0
+IsPlanWithin limit plan priority file stream = IsPlanIn FORMAT limit plan priority file stream
 
 abbrev pub IsPlanOf : SessionPlan → Priorities → List ℕ → List ℕ → Type 0
 IsPlanOf plan priority file stream = IsPlanWithin MAX_SESSION plan priority file stream
 
 -- the same, of these pieces and of all that is hashed
-pub record IsPlanBy (limit : ℕ) (plan : SessionPlan) (priority : Priorities) (pieces : List Piece)
+pub record IsPlanBy (t : Format) (limit : ℕ) (plan : SessionPlan) (priority : Priorities) (pieces : List Piece)
     (message : List ℕ) : Type 0 where
-  pub fits : session_fault_within limit priority pieces ≡ None
+  pub fits : session_fault_in t limit priority pieces ≡ None
   pub number : plan.number ≡ take 8 (sha256 message)
-  pub tables : plan.tables.items ≡ tables_of priority (cuts_of priority (groups_of pieces))
+  pub tables : plan.tables.items ≡ tables_of_in t priority (cuts_of priority (groups_of pieces))
 
 -- why there is no plan of these pieces
-abbrev pub IsPlanFault : ℕ → Priorities → List Piece → StreamFault → Type 0
-IsPlanFault limit priority pieces (Stream scan) = ⊥
-IsPlanFault limit priority pieces (Plan fault) =
-    (fault ≢ session.NoMemory) × (session_fault_within limit priority pieces ≡ Some fault)
-IsPlanFault limit priority pieces NoMemory = Unit {0}
+abbrev pub IsPlanFault : Format → ℕ → Priorities → List Piece → StreamFault → Type 0
+IsPlanFault t limit priority pieces (Stream scan) = ⊥
+IsPlanFault t limit priority pieces (Plan fault) =
+    (fault ≢ session.NoMemory) × (session_fault_in t limit priority pieces ≡ Some fault)
+IsPlanFault t limit priority pieces NoMemory = Unit {0}
 
--- Why the stream is no session of so many bytes: its refusal, which holds however it goes on where it is too long
+-- Why the stream is no session of so many bytes in a format: its refusal, which holds however it goes on where it is too long
 -- already, or else that of the plan. Want of memory says nothing.
-abbrev pub IsStreamFaultWithin : ℕ → Priorities → List ℕ → StreamFault → Type 0
-IsStreamFaultWithin limit priority stream (Stream scan) = IsRefusal stream scan
-IsStreamFaultWithin limit priority stream (Plan fault) =
+abbrev pub IsStreamFaultIn : Format → ℕ → Priorities → List ℕ → StreamFault → Type 0
+IsStreamFaultIn t limit priority stream (Stream scan) = IsRefusal stream scan
+IsStreamFaultIn t limit priority stream (Plan fault) =
     IsAccepted stream × (fault ≢ session.NoMemory)
-    × (session_fault_within limit priority (pieces_of stream) ≡ Some fault)
-IsStreamFaultWithin limit priority stream NoMemory = Unit {0}
+    × (session_fault_in t limit priority (pieces_of stream) ≡ Some fault)
+IsStreamFaultIn t limit priority stream NoMemory = Unit {0}
+
+abbrev pub IsStreamFaultWithin : ℕ → Priorities → List ℕ → StreamFault → Type 0
+IsStreamFaultWithin limit priority stream fault = IsStreamFaultIn FORMAT limit priority stream fault
 
 abbrev pub IsStreamFault : Priorities → List ℕ → StreamFault → Type 0
 IsStreamFault priority stream fault = IsStreamFaultWithin MAX_SESSION priority stream fault

@@ -1,15 +1,18 @@
 -- Where a planner stands to the pieces that were added. This project's own.
-use Rattle.std.specs.Prelude.{◌≡◌, ◌≤◌, ◌⊎◌, ℕ, List, ◌++◌, length, map, None, position, is_some, true}
-use Rattle.pet_base.specs.declared.limits.TheConstants.{MAX_LAYERS}
+use Rattle.std.specs.Prelude.{◌≡◌, ◌≤◌, ◌⊎◌, List, ◌++◌, length, map, Option, None, is_some, true, All}
+use Rattle.pet_base.specs.declared.limits.TheConstants.{MAX_GROUPS, MAX_LAYERS}
 use Rattle.mpeg_scan.specs.declared.piece.Piece.{Piece}
-use Rattle.priority_file.specs.Priority.{Priorities, is_priority}
+use Rattle.priority_file.specs.Priority.{Priorities, is_priority, layer_of}
+use Rattle.layer_split.specs.Faults.{fault_of}
+use Rattle.layer_split.specs.Groups.{groups_of}
 use Rattle.layer_split.specs.Layers.{Cut}
 use Rattle.layer_split.specs.Splitting.{HasAdded}
 use Rattle.stream_session.specs.declared.group_tables.GroupTables.{GroupTables}
 use Rattle.stream_session.specs.declared.needs.LayerNeeds.{LayerNeeds}
 use Rattle.stream_session.specs.declared.planner.Planner.{Planner}
-use Rattle.stream_session.specs.Tables.{tables_of}
-use Rattle.stream_session.specs.Refusals.{is_wide, session_fault_within}
+use Rattle.stream_session.specs.declared.fault.SessionFault.{SessionFault}
+use Rattle.stream_session.specs.Tables.{sizes_of, IsFit}
+use Rattle.stream_session.specs.Refusals.{fault_after}
 
 -- these are the packets and the needs of the priority
 pub record AreOf (held : LayerNeeds) (priority : Priorities) : Type 0 where
@@ -18,24 +21,27 @@ pub record AreOf (held : LayerNeeds) (priority : Priorities) : Type 0 where
   pub few : length priority.layers ≤ MAX_LAYERS
   pub bounds : is_priority priority ≡ true
 
--- kept are the number of the first cut that is too wide, and while there is none the tables of all
+-- kept are the layers of these cuts, which are not too long and not too many
 pub record HasTables (kept : GroupTables) (priority : Priorities) (cuts : List Cut) : Type 0 where
   pub needs : AreOf kept.needs priority
-  pub wide : kept.wide ≡ position (is_wide priority) cuts
-  pub tables : kept.wide ≡ None → kept.tables.items ≡ tables_of priority cuts
+  pub layers : kept.layers.items ≡ map (sizes_of priority) cuts
+  pub fit : All (IsFit priority) cuts
+  pub few : length cuts ≤ MAX_GROUPS
 
--- the splitter has refused nothing, and of the cuts that it has answered the tables are kept
+-- the splitter has refused nothing, and of the cuts that it has answered the layers are kept
 pub record IsLive (planner : Planner) (priority : Priorities) (pieces : List Piece) : Type 0 where
   pub cuts : List Cut
   pub none : planner.refused ≡ None
   pub added : HasAdded planner.splitter priority pieces cuts
   pub kept : HasTables planner.tables priority cuts
 
--- what was refused is the fault of the pieces, whatever comes later, and however many bytes a session may have
+-- what was refused is the fault of the pieces, whatever comes later
 pub record IsRefused (planner : Planner) (priority : Priorities) (pieces : List Piece) : Type 0 where
+  pub needs : AreOf planner.tables.needs priority
   pub some : is_some planner.refused ≡ true
-  pub fault : (limit : ℕ) (later : List Piece)
-      → session_fault_within limit priority (pieces ++ later) ≡ planner.refused
+  pub fault : (later : List Piece) (rest : Option SessionFault)
+      → fault_after (fault_of (layer_of priority) (length priority.layers) (groups_of (pieces ++ later))) rest
+      ≡ planner.refused
 
 -- The planner for this priority was given these pieces.
 abbrev pub HasPlanned : Planner → Priorities → List Piece → Type 0

@@ -14,11 +14,13 @@ use Rattle.stream_session.specs.declared.pass.StreamFault.TheVariants as pass
 use Rattle.stream_session.specs.declared.source.Source.{Source}
 use Rattle.stream_session.specs.declared.source.SourceFault.{SourceFault}
 use Rattle.stream_session.specs.declared.source.SourceFault.TheVariants.{NoMemory, Failed, Priority, Stream, Plan}
-use Rattle.stream_session.specs.Tables.{tables_of, cuts_of_stream}
+use Rattle.packet_frame.specs.declared.format.Format.{Format}
+use Rattle.packet_frame.specs.declared.format.TheConstants.{FORMAT}
+use Rattle.stream_session.specs.Tables.{tables_of_in, cuts_of_stream}
 use Rattle.pet_base.specs.declared.limits.TheConstants.{MAX_SESSION}
-use Rattle.stream_session.specs.Refusals.{session_fault_within}
+use Rattle.stream_session.specs.Refusals.{session_fault_in}
 use Rattle.stream_session.specs.Number.{session_number}
-use Rattle.stream_session.specs.Accepted.{IsAcceptedWithin}
+use Rattle.stream_session.specs.Accepted.{IsAcceptedIn}
 use Rattle.outside_files.specs.Inputs.{IsFile, IsRead}
 
 -- each cause as one of both files
@@ -35,17 +37,21 @@ of_stream (pass.Stream scan) = Stream scan
 of_stream (pass.Plan fault) = Plan fault
 of_stream pass.NoMemory = NoMemory
 
--- The files are an accepted session of so many bytes, and this is its priority, its number and its tables.
-pub record IsSourceWithin (limit : ℕ) (files : Option Files) (stream priority : List ℕ) (source : Source)
+-- The files are an accepted session of so many bytes in a format, and this is its priority, its number and its tables.
+pub record IsSourceIn (t : Format) (limit : ℕ) (files : Option Files) (stream priority : List ℕ) (source : Source)
     : Type 0 where
   pub file : List ℕ
   pub bytes : List ℕ
   pub priority_is : IsFile files priority file
   pub stream_is : IsFile files stream bytes
-  pub accepted : IsAcceptedWithin limit file bytes
+  pub accepted : IsAcceptedIn t limit file bytes
   pub rules : source.priority ≡ priorities_of file
   pub number : source.number ≡ session_number file bytes
-  pub tables : source.tables.items ≡ tables_of (priorities_of file) (cuts_of_stream (priorities_of file) bytes)
+  pub tables : source.tables.items ≡ tables_of_in t (priorities_of file) (cuts_of_stream (priorities_of file) bytes)
+
+-- in the format that is written today
+abbrev pub IsSourceWithin : ℕ → Option Files → List ℕ → List ℕ → Source → Type 0
+IsSourceWithin limit files stream priority source = IsSourceIn FORMAT limit files stream priority source
 
 abbrev pub IsSource : Option Files → List ℕ → List ℕ → Source → Type 0
 IsSource files stream priority source = IsSourceWithin MAX_SESSION files stream priority source
@@ -73,19 +79,22 @@ has_failed (Priority fault) = false
 has_failed (Stream scan) = false
 has_failed (Plan fault) = false
 
--- When each fault comes, where a session may have so many bytes: want of memory at any time, a failure where the place
+-- When each fault comes in a format, where a session may have so many bytes: want of memory at any time, a failure where the place
 -- had a fault at one of the files, and else the first refusal, of the priority file, of the stream, or of the plan.
-abbrev pub IsSourceFaultWithin : ℕ → Seen → Seen → List ℕ → List ℕ → SourceFault → Type 0
-IsSourceFaultWithin limit old new stream priority NoMemory = Unit {0}
-IsSourceFaultWithin limit old new stream priority Failed = HadFault old new (IsOfSource old.files stream priority)
-IsSourceFaultWithin limit old new stream priority (Priority fault) =
+abbrev pub IsSourceFaultIn : Format → ℕ → Seen → Seen → List ℕ → List ℕ → SourceFault → Type 0
+IsSourceFaultIn t limit old new stream priority NoMemory = Unit {0}
+IsSourceFaultIn t limit old new stream priority Failed = HadFault old new (IsOfSource old.files stream priority)
+IsSourceFaultIn t limit old new stream priority (Priority fault) =
     (file : List ℕ) × IsFile old.files priority file × (refusal_of file ≡ Some fault)
-IsSourceFaultWithin limit old new stream priority (Stream scan) =
+IsSourceFaultIn t limit old new stream priority (Stream scan) =
     BothFiles old.files stream priority (λ file bytes. Refuses bytes scan)
-IsSourceFaultWithin limit old new stream priority (Plan fault) =
+IsSourceFaultIn t limit old new stream priority (Plan fault) =
     BothFiles old.files stream priority (λ file bytes.
     IsAccepted bytes × (fault ≢ session.NoMemory)
-    × (session_fault_within limit (priorities_of file) (pieces_of bytes) ≡ Some fault))
+    × (session_fault_in t limit (priorities_of file) (pieces_of bytes) ≡ Some fault))
+
+abbrev pub IsSourceFaultWithin : ℕ → Seen → Seen → List ℕ → List ℕ → SourceFault → Type 0
+IsSourceFaultWithin limit old new stream priority fault = IsSourceFaultIn FORMAT limit old new stream priority fault
 
 abbrev pub IsSourceFault : Seen → Seen → List ℕ → List ℕ → SourceFault → Type 0
 IsSourceFault old new stream priority fault = IsSourceFaultWithin MAX_SESSION old new stream priority fault

@@ -1,4 +1,5 @@
 pub mod TableLaws
+pub mod FormatLaws
 pub mod FitLaws
 pub mod SessionLaws
 pub mod SourceLaws

@@ -9,35 +9,39 @@ ghost use Rattle.priority_file.specs.Refusals.{priorities_of};
 ghost use Rattle.outside_files.specs.declared.input.TheConstants.{MAX_PORTION};
 ghost use Rattle.outside_files.specs.Failures.{has_failed as stop_failed};
 ghost use Rattle.outside_files.specs.Inputs.{IsFrontOf, IsRead, Licensed, HasTakenAll};
-ghost use Rattle.stream_session.specs.Sources.{BothFiles, IsSourceFaultWithin, has_failed};
+ghost use Rattle.stream_session.specs.Tables.{IsSessionFormat};
+ghost use Rattle.stream_session.specs.Sources.{BothFiles, IsSourceFaultIn, has_failed};
 
 use crate::reader::StreamReader;
 use crate::source::SourceFault;
 use outside_files::{portion_room, read_file, take_portion};
+use packet_frame::Format;
 use pet_base::{MAX_PRIORITY_FILE, MAX_STREAM, Place, Stop};
 use priority_file::{Priority, read_priority};
 use std::alloc::Global;
 
-/// Reads both files, and answers the priority, and what the reader answers of the stream under it. The priority file is
+/// Reads both files, and answers the priority, and what the reader answers of the stream under it in a format. The priority file is
 /// read and judged first; of the stream nothing is held but the last portion and what the reader holds.
 pub(crate) fn read_both<P: Place, R: StreamReader>(
     alloc: Global,
+    format: &Format,
     stream: &str,
     priority: &str,
     place: &mut P,
 ) -> Result<(Priority, R::Answer), SourceFault>
+    requires { IsSessionFormat format.now }
     ensures read { IfOk result (λ both. BothFiles (P.seen place.old).files stream.now priority.now (λ file bytes.
-        (both.0 ≡ priorities_of file) × R.answers both.1 (priorities_of file) file bytes)) }
+        (both.0 ≡ priorities_of file) × R.answers format.now both.1 (priorities_of file) file bytes)) }
     ensures others { KeepsOutput (P.seen place.old) (P.seen place.new) }
     ensures later { (P.seen place.old).faults ≤ (P.seen place.new).faults }
-    ensures cause { IfErr result (IsSourceFaultWithin R.limit (P.seen place.old) (P.seen place.new)
+    ensures cause { IfErr result (IsSourceFaultIn format.now R.limit (P.seen place.old) (P.seen place.new)
         stream.now priority.now) }
     ensures once { PlaceStops (stops has_failed result) (P.seen place.old) (P.seen place.new) }
 {
     let file = read_file(alloc, priority, u64::from(MAX_PRIORITY_FILE), place)?;
     let rules = read_priority(alloc, &file)?;
     let reader: R = read_through(alloc, stream, &rules, &file, place)?;
-    let answer = reader.end()?;
+    let answer = reader.end(format)?;
     Ok((rules, answer))
 }
 

@@ -1,6 +1,7 @@
 //! The first pass over a stream.
 ghost use Rattle.std.specs.Prelude.{◌≡◌, ◌≢◌, ◌<◌, ◌≤◌, ◌^◌, ◌++◌, ℕ, List, [], length, take, OnOk, IfOk, IfErr};
 ghost use Rattle.pet_base.specs.declared.limits.TheConstants.{MAX_SESSION};
+ghost use Rattle.packet_frame.specs.declared.format.Format.{Format};
 ghost use Rattle.mpeg_scan.specs.declared.piece.Piece.{Piece};
 ghost use Rattle.mpeg_scan.specs.declared.refusal.Scan.{Scan};
 ghost use Rattle.mpeg_scan.specs.Refusals.{IsRefusal};
@@ -8,12 +9,14 @@ ghost use Rattle.sha2.specs.Hashers.{Holds256};
 ghost use Rattle.priority_file.specs.Priority.{Priorities};
 ghost use Rattle.stream_session.specs.Planning.{HasPlanned};
 ghost use Rattle.stream_session.specs.Number.{hashed};
-ghost use Rattle.stream_session.specs.Passing.{HasPassed, IsPlanOf, IsPlanWithin, IsStreamFault, IsStreamFaultWithin, IsPlanBy, IsPlanFault};
+ghost use Rattle.stream_session.specs.Passing.{HasPassed, IsPlanOf, IsPlanIn, IsPlanWithin, IsStreamFault, IsStreamFaultIn, IsStreamFaultWithin, IsPlanBy, IsPlanFault};
+ghost use Rattle.stream_session.specs.Tables.{IsSessionFormat};
 
 use crate::fault::SessionFault;
 use crate::planner::Planner;
 use crate::reader::StreamReader;
 use mpeg_scan::{Piece, Scan, Scanner};
+use packet_frame::{FORMAT, Format};
 use pet_base::{MAX_SESSION, NoMemory};
 use priority_file::Priority;
 use sha2::{Digest, Sha256};
@@ -121,6 +124,7 @@ impl Pass {
     /// # Errors
     ///
     /// The refusal of the stream, or else that of its plan.
+    #[tactic(auto, using(crate::specs::laws::FormatLaws::today_is))]
     pub fn finish_within(self, limit: u64) -> Result<SessionPlan, StreamFault>
         requires { limit ≤ MAX_SESSION }
         ensures plan { IfOk result (λ plan. (priority : Priorities) (file stream : List ℕ) → HasPassed self priority file stream
@@ -128,13 +132,25 @@ impl Pass {
         ensures refused { IfErr result (λ fault. (priority : Priorities) (file stream : List ℕ) → HasPassed self priority file stream
             → IsStreamFaultWithin limit priority stream fault) }
     {
+        self.finish_in(&FORMAT, limit)
+    }
+
+    /// The same in a format.
+    pub(crate) fn finish_in(self, format: &Format, limit: u64) -> Result<SessionPlan, StreamFault>
+        requires format { IsSessionFormat format.now }
+        requires limit { limit ≤ MAX_SESSION }
+        ensures plan { IfOk result (λ plan. (priority : Priorities) (file stream : List ℕ) → HasPassed self priority file stream
+            → IsPlanIn format.now limit plan priority file stream) }
+        ensures refused { IfErr result (λ fault. (priority : Priorities) (file stream : List ℕ) → HasPassed self priority file stream
+            → IsStreamFaultIn format.now limit priority stream fault) }
+    {
         if let Some(scan) = self.refused {
             return Err(StreamFault::Stream(scan));
         }
         let mut scanner = self.scanner;
         let mut pieces = self.pieces;
         match scanner.finish(&mut pieces) {
-            Ok(()) => plan_of(self.planner, self.hasher, &pieces, limit),
+            Ok(()) => plan_of(self.planner, self.hasher, &pieces, format, limit),
             Err(scan) => Err(scan_fault(scan)),
         }
     }
@@ -147,7 +163,7 @@ impl StreamReader for Pass {
 
     ghost has_read = { HasPassed };
 
-    ghost answers = { IsPlanOf };
+    ghost answers = { λ t plan. IsPlanIn t MAX_SESSION plan };
 
     fn begin(alloc: Global, priority: &Priority, file: &[u8]) -> Result<Pass, NoMemory> {
         Pass::new(alloc, priority, file)
@@ -157,15 +173,15 @@ impl StreamReader for Pass {
         self.add(portion)
     }
 
-    fn end(self) -> Result<SessionPlan, StreamFault> {
-        self.finish()
+    fn end(self, format: &Format) -> Result<SessionPlan, StreamFault> {
+        self.finish_in(format, MAX_SESSION)
     }
 }
 
 /// The same refusal, as one against a session.
 fn scan_fault(scan: Scan) -> StreamFault
-    ensures { (limit : ℕ) (priority : Priorities) (stream : List ℕ) → (scan ≢ Scan.NoMemory → IsRefusal stream scan)
-        → IsStreamFaultWithin limit priority stream result }
+    ensures { (t : Format) (limit : ℕ) (priority : Priorities) (stream : List ℕ) → (scan ≢ Scan.NoMemory → IsRefusal stream scan)
+        → IsStreamFaultIn t limit priority stream result }
 {
     match scan {
         Scan::NoMemory => StreamFault::NoMemory,
@@ -179,16 +195,18 @@ fn plan_of(
     mut planner: Planner,
     hasher: Sha256,
     last: &[Piece],
+    format: &Format,
     limit: u64,
 ) -> Result<SessionPlan, StreamFault>
-    requires { limit ≤ MAX_SESSION }
+    requires format { IsSessionFormat format.now }
+    requires limit { limit ≤ MAX_SESSION }
     ensures plan { IfOk result (λ plan. (priority : Priorities) (given : List Piece) (message : List ℕ) → HasPlanned planner priority given
-        → Holds256 hasher message → IsPlanBy limit plan priority (given ++ last.now) message) }
+        → Holds256 hasher message → IsPlanBy format.now limit plan priority (given ++ last.now) message) }
     ensures refused { IfErr result (λ fault. (priority : Priorities) (given : List Piece) → HasPlanned planner priority given
-        → IsPlanFault limit priority (given ++ last.now) fault) }
+        → IsPlanFault format.now limit priority (given ++ last.now) fault) }
 {
     add_all(&mut planner, last)?;
-    match planner.finish_within(limit) {
+    match planner.finish_in(format, limit) {
         Ok(tables) => Ok(SessionPlan {
             number: first_eight(hasher.finalize()),
             tables,

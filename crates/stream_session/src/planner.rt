@@ -7,8 +7,8 @@ ghost use Rattle.layer_split.specs.Groups.{groups_of};
 ghost use Rattle.layer_split.specs.Layers.{Cut};
 ghost use Rattle.layer_split.specs.Splitting.{cuts_of, cuts_in};
 ghost use Rattle.stream_session.specs.declared.fault.SessionFault.{SessionFault};
-ghost use Rattle.stream_session.specs.Tables.{tables_of, IsFit};
-ghost use Rattle.stream_session.specs.Refusals.{session_fault, session_fault_within, fault_after, fault_of_cuts_within};
+ghost use Rattle.stream_session.specs.Tables.{tables_of_in, IsFit, IsSessionFormat};
+ghost use Rattle.stream_session.specs.Refusals.{session_fault_in, fault_after, fault_of_cuts_in};
 ghost use Rattle.stream_session.specs.Planning.{HasPlanned, HasTables};
 ghost use Rattle.stream_session.specs.inside.Planning.{HasRefused, KeepsRest};
 
@@ -16,6 +16,7 @@ use crate::fault::SessionFault;
 use crate::group_tables::GroupTables;
 use layer_split::{GroupCut, SplitFault, Splitter};
 use mpeg_scan::Piece;
+use packet_frame::Format;
 use pet_base::{MAX_SESSION, NoMemory};
 use priority_file::Priority;
 use std::alloc::Global;
@@ -60,43 +61,59 @@ impl Planner {
         }
     }
 
-    /// The tables of all groups in order, or the first cause that holds against them, where a session may have so many bytes,
-    /// at most `MAX_SESSION`.
-    pub(crate) fn finish_within(mut self, limit: u64) -> Result<Vec<Table>, SessionFault>
-        requires { limit ≤ MAX_SESSION }
+    /// The tables of all groups in a format, in order, or the first cause that holds against them, where a session may have so many
+    /// bytes, at most `MAX_SESSION`.
+    pub(crate) fn finish_in(
+        mut self,
+        format: &Format,
+        limit: u64,
+    ) -> Result<Vec<Table>, SessionFault>
+        requires format { IsSessionFormat format.now }
+        requires limit { limit ≤ MAX_SESSION }
         ensures tables { IfOk result (λ tables. (priority : Priorities) (pieces : List Piece) → HasPlanned self priority pieces
-            → (session_fault_within limit priority pieces ≡ None) × (tables.items ≡ tables_of priority (cuts_of priority (groups_of pieces)))) }
+            → (session_fault_in format.now limit priority pieces ≡ None)
+            × (tables.items ≡ tables_of_in format.now priority (cuts_of priority (groups_of pieces)))) }
         ensures refused { IfErr result (λ fault. fault ≢ SessionFault.NoMemory → (priority : Priorities) (pieces : List Piece) → HasPlanned self priority pieces
-            → session_fault_within limit priority pieces ≡ Some fault) }
+            → session_fault_in format.now limit priority pieces ≡ Some fault) }
     {
+        self.tables.allowed(format)?;
         if let Some(fault) = self.refused {
             return Err(fault);
         }
         match self.splitter.finish() {
-            Ok(cut) => self.end(cut, limit),
+            Ok(cut) => self.end(cut, format, limit),
             Err(fault) => Err(refusal_of(fault)),
         }
     }
 
     /// The tables with that of the last group, or the first cause that holds against the groups.
-    fn end(mut self, cut: Option<GroupCut>, limit: u64) -> Result<Vec<Table>, SessionFault>
-        requires { limit ≤ MAX_SESSION }
+    fn end(
+        mut self,
+        cut: Option<GroupCut>,
+        format: &Format,
+        limit: u64,
+    ) -> Result<Vec<Table>, SessionFault>
+        requires format { IsSessionFormat format.now }
+        requires few { self.tables.needs.packets ≤ format.now.bounds.packets }
+        requires limit { limit ≤ MAX_SESSION }
         ensures tables { IfOk result (λ tables. (priority : Priorities) (cuts : List Cut) → length cuts < MAX_GROUPS → All (IsFit priority) (cuts_in cut)
             → HasTables self.tables priority cuts
-            → (fault_of_cuts_within limit priority (cuts ++ cuts_in cut) ≡ None) × (tables.items ≡ tables_of priority (cuts ++ cuts_in cut))) }
+            → (fault_of_cuts_in format.now limit priority (cuts ++ cuts_in cut) ≡ None)
+            × (tables.items ≡ tables_of_in format.now priority (cuts ++ cuts_in cut))) }
         ensures refused { IfErr result (λ fault. fault ≢ SessionFault.NoMemory → (priority : Priorities) (cuts : List Cut) → length cuts < MAX_GROUPS
             → All (IsFit priority) (cuts_in cut) → HasTables self.tables priority cuts
-            → fault_of_cuts_within limit priority (cuts ++ cuts_in cut) ≡ Some fault) }
+            → fault_of_cuts_in format.now limit priority (cuts ++ cuts_in cut) ≡ Some fault) }
     {
         match self.keep(cut) {
-            Ok(()) => self.tables.judged(limit),
+            Ok(()) => self.tables.judged(format, limit),
             Err(NoMemory) => Err(SessionFault::NoMemory),
         }
     }
 
     /// Keeps why the splitter has refused.
     fn refuse(&mut self, fault: SplitFault) -> Result<(), NoMemory>
-        ensures { OnOk result (HasRefused self.new fault) }
+        ensures refused { OnOk result (HasRefused self.new fault) }
+        ensures needs { self.new.tables.needs ≡ self.old.tables.needs }
     {
         if fault == SplitFault::NoMemory {
             return Err(NoMemory);
@@ -110,6 +127,7 @@ impl Planner {
         ensures kept { OnOk result ((priority : Priorities) (cuts : List Cut) → length cuts < MAX_GROUPS → All (IsFit priority) (cuts_in cut)
             → HasTables self.old.tables priority cuts → HasTables self.new.tables priority (cuts ++ cuts_in cut)) }
         ensures rest { KeepsRest self.old self.new }
+        ensures needs { self.new.tables.needs ≡ self.old.tables.needs }
     {
         match cut {
             Some(cut) => self.tables.keep(&cut),

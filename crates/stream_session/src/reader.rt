@@ -2,9 +2,12 @@
 ghost use Rattle.std.specs.Prelude.{◌<◌, ◌^◌, ◌++◌, ℕ, List, [], length, OnOk, IfOk, IfErr};
 ghost use Rattle.mpeg_scan.specs.Refusals.{IsAccepted};
 ghost use Rattle.priority_file.specs.Priority.{Priorities};
-ghost use Rattle.stream_session.specs.Passing.{IsStreamFaultWithin};
+ghost use Rattle.stream_session.specs.Passing.{IsStreamFaultIn};
+ghost use Rattle.stream_session.specs.Tables.{IsSessionFormat};
+ghost use Rattle.packet_frame.specs.declared.format.Format.{Format};
 
 use crate::pass::StreamFault;
+use packet_frame::Format;
 use pet_base::NoMemory;
 use priority_file::Priority;
 use std::alloc::Global;
@@ -20,8 +23,8 @@ pub(crate) trait StreamReader: Drop {
     /// Under this priority, of a priority file of these bytes, it has read this stream.
     ghost has_read: { Self → Priorities → List ℕ → List ℕ → Type 0 };
 
-    /// This is what it answers of an accepted stream, under this priority, of a priority file of these bytes.
-    ghost answers: { Self.Answer → Priorities → List ℕ → List ℕ → Type 0 };
+    /// This is what it answers in a format of an accepted stream, under this priority, of a priority file of these bytes.
+    ghost answers: { Format → Self.Answer → Priorities → List ℕ → List ℕ → Type 0 };
 
     /// A reader that has read nothing. `file` has the bytes of the priority file.
     fn begin(alloc: Global, priority: &Priority, file: &[u8]) -> Result<Self, NoMemory>
@@ -33,14 +36,15 @@ pub(crate) trait StreamReader: Drop {
         ensures { OnOk result ((priority : Priorities) (file stream : List ℕ) → has_read self.old priority file stream
             → has_read self.new priority file (stream ++ portion.now)) };
 
-    /// Ends the stream.
+    /// Ends the stream, and answers of it in a format.
     ///
     /// # Errors
     ///
     /// The refusal of the stream, or else that of its plan.
-    fn end(self) -> Result<Self::Answer, StreamFault>
+    fn end(self, format: &Format) -> Result<Self::Answer, StreamFault>
+        requires { IsSessionFormat format.now }
         ensures answer { IfOk result (λ answer. (priority : Priorities) (file stream : List ℕ) → has_read self priority file stream
-            → IsAccepted stream × answers answer priority file stream) }
+            → IsAccepted stream × answers format.now answer priority file stream) }
         ensures refused { IfErr result (λ fault. (priority : Priorities) (file stream : List ℕ) → has_read self priority file stream
-            → IsStreamFaultWithin limit priority stream fault) };
+            → IsStreamFaultIn format.now limit priority stream fault) };
 }

@@ -8,6 +8,7 @@ use crate::both::read_both;
 use crate::fault::SessionFault;
 use crate::pass::{Pass, SessionPlan, StreamFault};
 use mpeg_scan::Scan;
+use packet_frame::FORMAT;
 use pet_base::{Place, Stop};
 use priority_file::{Priority, PriorityFault};
 use std::alloc::Global;
@@ -99,6 +100,7 @@ impl From<StreamFault> for SourceFault {
 ///
 /// The first that comes of a failure of the place, want of memory, the refusal of the priority file, that of the stream,
 /// and that of its plan.
+#[tactic(auto, using(crate::specs::laws::FormatLaws::today_is))]
 pub fn read_source<P: Place>(
     alloc: Global,
     stream: &str,
@@ -112,6 +114,6 @@ pub fn read_source<P: Place>(
         priority.now) }
     ensures once { PlaceStops (stops has_failed result) (P.seen place.old) (P.seen place.new) }
 {
-    let (rules, plan) = read_both::<P, Pass>(alloc, stream, priority, place)?;
+    let (rules, plan) = read_both::<P, Pass>(alloc, &FORMAT, stream, priority, place)?;
     Ok(Source::of(rules, plan))
 }

@@ -10,6 +10,7 @@ use crate::both::read_both;
 use crate::pass::{Pass, SessionPlan, StreamFault};
 use crate::reader::StreamReader;
 use crate::source::{Source, SourceFault};
+use packet_frame::{FORMAT, Format};
 use pet_base::{MAX_REPLAY_SESSION, NoMemory, Place};
 use priority_file::Priority;
 use std::alloc::Global;
@@ -57,9 +58,9 @@ impl StreamReader for HeldPass {
         Ok(())
     }
 
-    fn end(self) -> Result<HeldPlan, StreamFault> {
+    fn end(self, format: &Format) -> Result<HeldPlan, StreamFault> {
         let bytes = self.bytes;
-        let plan = self.pass.finish_within(MAX_REPLAY_SESSION)?;
+        let plan = self.pass.finish_in(format, MAX_REPLAY_SESSION)?;
         Ok(HeldPlan { plan, bytes })
     }
 }
@@ -70,6 +71,7 @@ impl StreamReader for HeldPass {
 /// # Errors
 ///
 /// Those of `read_source`.
+#[tactic(auto, using(crate::specs::laws::FormatLaws::today_is))]
 pub fn read_whole<P: Place>(
     alloc: Global,
     stream: &str,
@@ -84,7 +86,7 @@ pub fn read_whole<P: Place>(
         stream.now priority.now) }
     ensures once { PlaceStops (stops has_failed result) (P.seen place.old) (P.seen place.new) }
 {
-    let (rules, held) = read_both::<P, HeldPass>(alloc, stream, priority, place)?;
+    let (rules, held) = read_both::<P, HeldPass>(alloc, &FORMAT, stream, priority, place)?;
     Ok(WholeSource {
         source: Source::of(rules, held.plan),
         bytes: held.bytes,

@@ -80,8 +80,10 @@ priority_text priority.NoMemory = codes "NoMemory"
 
 -- the kind of a plan's refusal
 abbrev pub plan_kind_text : PlanKind → List ℕ
+plan_kind_text plan.ManyPackets = codes "ManyPackets"
 plan_kind_text plan.GroupTooLong = codes "GroupTooLong"
 plan_kind_text plan.TooManyGroups = codes "TooManyGroups"
+plan_kind_text plan.ByteLong = codes "ByteLong"
 plan_kind_text plan.TooWide = codes "TooWide"
 plan_kind_text plan.TooLarge = codes "TooLarge"
 plan_kind_text plan.PlanLong = codes "PlanLong"

@@ -16,10 +16,14 @@ use text_pieces::{append_byte, append_number, append_text, number_line};
 /// Why a stream has no plan, or a plan file is refused. Each kind comes with a number.
 #[derive(Clone, Copy, Debug, PartialEq, Eq)]
 pub enum PlanKind {
+    /// The priority has so many packets, more than 255, in the byte profile.
+    ManyPackets,
     /// The layers of the group of this number have more than 4,194,304 bytes.
     GroupTooLong,
     /// There are more than 65,535 groups; the number is 65,535.
     TooManyGroups,
+    /// The layers of the group of this number have more than 2,097,152 bytes, in the byte profile.
+    ByteLong,
     /// The datagrams of the group of this number would be longer than 65,000 bytes.
     TooWide,
     /// With the group of this number the session passes 536,870,912 bytes.
@@ -39,8 +43,10 @@ impl PlanKind {
         ensures len { length result.now ≤ 13 }
     {
         match self {
+            PlanKind::ManyPackets => "ManyPackets",
             PlanKind::GroupTooLong => "GroupTooLong",
             PlanKind::TooManyGroups => "TooManyGroups",
+            PlanKind::ByteLong => "ByteLong",
             PlanKind::TooWide => "TooWide",
             PlanKind::TooLarge => "TooLarge",
             PlanKind::PlanLong => "PlanLong",
@@ -101,7 +107,7 @@ pub enum Status {
 }
 
 impl Status {
-    /// The exit status of the program, from 0 to 19, and 24.
+    /// The exit status of the program, from 0 to 20, and 24.
     pub fn code(&self) -> u8
         ensures { result ≡ code_of self.now }
     {

@@ -26,7 +26,9 @@ use Rattle.packet_session.specs.Session.{SessionGroup}
 use Rattle.stream_sample.specs.SampleStream.{sample_text}
 use Rattle.stream_session.specs.Accepted.{IsAcceptedSession, group_of, session_of}
 use Rattle.stream_session.specs.Refusals.{session_fault_within, is_wide, cost_in, first_above, fault_after, size_fault}
-use Rattle.stream_session.specs.Refusals.{fault_of_cuts_within, large_fault}
+use Rattle.stream_session.specs.Refusals.{large_fault}
+use Rattle.stream_session.specs.laws.FitLaws.{fault_today}
+use Rattle.stream_session.specs.laws.SessionOfLaws.{accepted_lawful}
 use Rattle.stream_session.specs.declared.fault.SessionFault.{SessionFault}
 use Rattle.stream_session.specs.Tables.{sizes_of, cuts_of_stream}
 use Rattle.command_sample.specs.SamplePriority.{sample_priority}
@@ -127,11 +129,16 @@ none_above before from (suc groups) room =
     (le-ltb MAX_SESSION (before + group_cost) (omega (arith, room, short)))
     ∙ ap (option_map (λ n. n + 1)) (none_above (before + group_cost) (from + 71961) groups (omega (arith, room, short)))
 
+-- what refuses these cuts
+abbrev sizes_fault : Priorities → List Cut → Option SessionFault
+sizes_fault priority cuts =
+    size_fault (position (is_wide priority) cuts) (first_above MAX_SESSION 0 (map (cost_in priority) cuts))
+
 no_fault : (from groups : ℕ) → groups ≤ MAX_SAMPLE_GROUPS
     → fault_after (fault_of layer_by 3 (groups_on from groups))
-    (fault_of_cuts_within MAX_SESSION sample_rules (cuts_on from groups)) ≡ None
+    (sizes_fault sample_rules (cuts_on from groups)) ≡ None
 no_fault from groups few =
-    ap (λ o. fault_after o (fault_of_cuts_within MAX_SESSION sample_rules (cuts_on from groups)))
+    ap (λ o. fault_after o (sizes_fault sample_rules (cuts_on from groups)))
     (no_split_fault from groups (omega (arith, few)))
     ∙ ap (λ (o : Option ℕ). size_fault o (first_above MAX_SESSION 0 (map (cost_in sample_rules) (cuts_on from groups))))
     (no_position (is_wide sample_rules) (cuts_on from groups) (narrow_all from groups))
@@ -140,13 +147,14 @@ no_fault from groups few =
 abbrev fault_with : Priorities → List (List Piece) → Option SessionFault
 fault_with priority groups =
     fault_after (fault_of (layer_of priority) (length priority.layers) groups)
-    (fault_of_cuts_within MAX_SESSION priority (cuts_of priority groups))
+    (sizes_fault priority (cuts_of priority groups))
 
 sample_fits : (x groups : ℕ) → groups < MAX_SAMPLE_GROUPS
     → session_fault_within MAX_SESSION (priorities_of sample_priority) (pieces_of (sample_text x (suc groups))) ≡ None
-unfolding session_fault_within
 sample_fits x groups few =
-    ap (λ (p : Priorities). fault_with p (groups_of (pieces_of (sample_text x (suc groups))))) priorities_are
+    fault_today MAX_SESSION (priorities_of sample_priority) (pieces_of (sample_text x (suc groups)))
+    (accepted_lawful sample_priority priority_accepted)
+    ∙ ap (λ (p : Priorities). fault_with p (groups_of (pieces_of (sample_text x (suc groups))))) priorities_are
     ∙ ap (fault_with sample_rules) (sample_groups x groups) ∙ no_fault 0 (suc groups) (omega (arith, few))
 
 -- for callers: of one group more

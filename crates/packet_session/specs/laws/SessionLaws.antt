@@ -6,11 +6,15 @@ use Rattle.std.proofs.lemmas.List.Elements.{Contains-append_cases, Contains-appe
 use Rattle.std.proofs.lemmas.List.FromFn.{length-map-range_with_len, get_or-map-range_with_len}
 use Rattle.pet_base.specs.declared.limits.TheConstants.{MAX_PACKETS}
 use Rattle.field_elements.specs.Field.{Coding, IsCoding}
-use Rattle.packet_frame.specs.Frame.{Fields, IsFrame}
+use Rattle.packet_frame.specs.declared.format.Format.{Format}
+use Rattle.packet_frame.specs.declared.format.TheConstants.{FORMAT}
+use Rattle.packet_frame.specs.Frame.{Fields, IsFrame, IsFrameBy}
+use Rattle.packet_frame.specs.Planned.{IsPlannedFrame}
+use Rattle.packet_frame.specs.laws.PlannedLaws.{planned_frame}
 use Rattle.packet_session.specs.Encoding.{Encoding, IsGroupOf, frame_of}
-use Rattle.stripe_plan.specs.Layers.{plan_ends}
+use Rattle.stripe_plan.specs.Layers.{needs_of, plan_ends}
 use Rattle.packet_session.specs.laws.PayloadLaws.{length-payload}
-use Rattle.packet_session.specs.Session.{SessionGroup, Session, IsSession, IsSessionGroup, IsPacketOf, packet_of}
+use Rattle.packet_session.specs.Session.{SessionGroup, Session, IsSession, IsSessionIn, IsSessionGroupIn, IsPacketOf, packet_of}
 use Rattle.packet_session.specs.Session.{packets_of_group, packets_from, packets_of}
 
 -- the element at a place, by the place
@@ -132,23 +136,26 @@ module _ {E : Type 0} (c : Coding E) (s : Session) where
     made = rw (g.number, g.groups) refl;
   }
 
--- the packets of a session are frames
+-- the packets of a session of a format are frames of it
+pub packets_are_frames_in : {E : Type 0} (P : E → Type 0) (count : ℕ) (c : Coding E) → IsCoding P count c → (t : Format)
+    → t.word ≡ c.width → t.bounds.packets ≤ count
+    → (s : Session) (f : Fields) → IsSessionIn t s → IsPacketOf c s f → IsPlannedFrame t f
+packets_are_frames_in P count c laws t width enough s f session p =
+    let at = at_place (IsSessionGroupIn t) s.groups f.group p.source p.group session.groups in
+    let table = at.1.table in
+    let x = laws.points.point_is f.number (omega (arith, p.number, table.few_packets)) in
+    let whole = at.1.message.whole ∙ ap (λ k. length (needs_of p.source.layers) * k) width in
+    subst (IsPlannedFrame t) (sym p.made)
+    (planned_frame t (packet_of c s f.group p.source f.number) (record { table = table; whole = at.1.whole })
+    session.number session.some session.few at.0 p.number
+    (length-payload P count c laws p.source.layers p.source.message
+    (c.point_of f.number) whole at.1.message.bytes x
+    ∙ ap (λ k. k * length (plan_ends p.source.layers)) (sym width)))
+
+-- so are those of a session of today
 pub packets_are_frames : {E : Type 0} (P : E → Type 0) (count : ℕ) (c : Coding E) → IsCoding P count c → c.width ≡ 2
     → MAX_PACKETS ≤ count
     → (s : Session) (f : Fields) → IsSession c.width s → IsPacketOf c s f → IsFrame f
 packets_are_frames P count c laws two enough s f session p =
-    let at = at_place (IsSessionGroup c.width) s.groups f.group p.source p.group session.groups in
-    let table = at.1.table in
-    let x = laws.points.point_is f.number (omega (arith, p.number, table.few_packets)) in
-    subst IsFrame (sym p.made) (record {
-      session = session.number;
-      some_groups = session.some;
-      few_groups = session.few;
-      group = at.0;
-      number = p.number;
-      table = table;
-      payload =
-          length-payload P count c laws p.source.layers p.source.message
-          (c.point_of f.number) at.1.message.whole at.1.message.bytes x
-          ∙ ap (λ k. k * length (plan_ends p.source.layers)) two;
-    })
+    subst (λ width. IsFrameBy width f) two
+    (packets_are_frames_in P count c laws (record FORMAT { word = c.width }) refl enough s f session p).frame

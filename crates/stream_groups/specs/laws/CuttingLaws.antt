@@ -13,8 +13,8 @@ use Rattle.priority_file.specs.Priority.{Priorities, layer_of}
 use Rattle.layer_split.specs.declared.cut.Run.{Run}
 use Rattle.layer_split.specs.Groups.{groups_of}
 use Rattle.layer_split.specs.Runs.{runs_of}
-use Rattle.layer_split.specs.Layers.{Cut, cut_of, run_table, run_entry, runs_in, bytes_of_run, layer_bytes, padded}
-use Rattle.layer_split.specs.Layers.{message}
+use Rattle.layer_split.specs.Layers.{Cut, cut_of, run_table, run_entry, runs_in, bytes_of_run, layer_bytes, padded_by}
+use Rattle.layer_split.specs.Layers.{message, message_by}
 use Rattle.layer_split.specs.Splitting.{rebased, cuts_of}
 use Rattle.stream_groups.specs.CutGroups.{CutGroup}
 use Rattle.stream_groups.specs.declared.groups.GroupCutter.{GroupCutter}
@@ -80,44 +80,57 @@ layer_rebased s a b layer runs lie =
     ++ flat_map (bytes_of_run (take (b - a) (drop a s))) (runs_in layer (map (rebased a) runs))) (table_stays a runs)
     ∙ ap (λ l. (if layer == 0 then run_table runs else []) ++ l) (runs_bytes s a b layer runs lie)
 
-layers_same : (f g : ℕ → List ℕ) → ((k : ℕ) → f k ≡ g k) → (xs : List ℕ)
-    → flat_map (λ k. padded (f k)) xs ≡ flat_map (λ k. padded (g k)) xs
-layers_same f g e [] = refl
-layers_same f g e (x ∷ xs) =
-    ap (λ l. padded l ++ flat_map (λ k. padded (f k)) xs) (e x) ∙ ap (λ l. padded (g x) ++ l) (layers_same f g e xs)
+layers_same : (word : ℕ) (f g : ℕ → List ℕ) → ((k : ℕ) → f k ≡ g k) → (xs : List ℕ)
+    → flat_map (λ k. padded_by word (f k)) xs ≡ flat_map (λ k. padded_by word (g k)) xs
+layers_same word f g e [] = refl
+layers_same word f g e (x ∷ xs) =
+    ap (λ l. padded_by word l ++ flat_map (λ k. padded_by word (f k)) xs) (e x)
+    ∙ ap (λ l. padded_by word (g x) ++ l) (layers_same word f g e xs)
 
--- the message of a group's own bytes is that of the stream
+-- the message of a group's own bytes is that of the stream, in words of any length
+pub message_rebased_by : (word : ℕ) (priority : Priorities) (s : List ℕ) (n a b : ℕ) (group : List Piece) → StandOnEnd a group b
+    → b ≤ length s
+    → message_by word (cut_group priority s group).bytes (cut_group priority s group).cut.runs n
+    ≡ message_by word s (runs_of (layer_of priority) group) n
+message_rebased_by word priority s n a b [] h le = refl
+message_rebased_by word priority s n a b (p ∷ ps) h le =
+    let runs : List Run = runs_of (layer_of priority) (p ∷ ps) in
+    let bytes : bytes_of_pieces s (p ∷ ps) ≡ take (b - a) (drop a s) =
+    ap (λ w. bytes_of_pieces w (p ∷ ps)) (sym (append-nil s)) ∙ stand_bytes s [] a b (p ∷ ps) h le in
+    ap (λ bs. message_by word bs (map (rebased p.at) runs) n) bytes
+    ∙ (ap (λ k. message_by word (take (b - a) (drop a s)) (map (rebased k) runs) n) h.0
+    ∙ layers_same word (layer_bytes (take (b - a) (drop a s)) (map (rebased a) runs)) (layer_bytes s runs)
+    (λ layer. layer_rebased s a b layer runs (runs_lie (layer_of priority) a b (p ∷ ps) h)) (range_with_len 0 n))
+
+each_rebased_by : (word : ℕ) (priority : Priorities) (s : List ℕ) (n : ℕ) (groups : List (List Piece))
+    → All (StandsIn (length s)) groups
+    → map (λ (g : CutGroup). message_by word g.bytes g.cut.runs n) (map (cut_group priority s) groups)
+    ≡ map (λ (c : Cut). message_by word s c.runs n) (cuts_of priority groups)
+each_rebased_by word priority s n [] stand = refl
+each_rebased_by word priority s n (g ∷ gs) stand =
+    let here = stand 0 g (omega arith) in
+    ap (λ l. l ∷ map (λ (k : CutGroup). message_by word k.bytes k.cut.runs n) (map (cut_group priority s) gs))
+    (message_rebased_by word priority s n here.from here.to g here.stand here.within)
+    ∙ ap (λ ls. message_by word s (runs_of (layer_of priority) g) n ∷ ls)
+    (each_rebased_by word priority s n gs (λ k d lt. stand (suc k) d (omega arith)))
+
+-- the messages of all groups of a stream
+pub messages_rebased_by : (word : ℕ) (priority : Priorities) (s : List ℕ) (n : ℕ)
+    → map (λ (g : CutGroup). message_by word g.bytes g.cut.runs n) (cut_groups priority s)
+    ≡ map (λ (c : Cut). message_by word s c.runs n) (cuts_of priority (groups_of (pieces_of s)))
+messages_rebased_by word priority s n = each_rebased_by word priority s n (groups_of (pieces_of s)) (groups_stand s)
+
+-- the same in words of two bytes
 pub message_rebased : (priority : Priorities) (s : List ℕ) (n a b : ℕ) (group : List Piece) → StandOnEnd a group b
     → b ≤ length s
     → message (cut_group priority s group).bytes (cut_group priority s group).cut.runs n
     ≡ message s (runs_of (layer_of priority) group) n
-message_rebased priority s n a b [] h le = refl
-message_rebased priority s n a b (p ∷ ps) h le =
-    let runs : List Run = runs_of (layer_of priority) (p ∷ ps) in
-    let bytes : bytes_of_pieces s (p ∷ ps) ≡ take (b - a) (drop a s) =
-    ap (λ w. bytes_of_pieces w (p ∷ ps)) (sym (append-nil s)) ∙ stand_bytes s [] a b (p ∷ ps) h le in
-    ap (λ bs. message bs (map (rebased p.at) runs) n) bytes
-    ∙ (ap (λ k. message (take (b - a) (drop a s)) (map (rebased k) runs) n) h.0
-    ∙ layers_same (layer_bytes (take (b - a) (drop a s)) (map (rebased a) runs)) (layer_bytes s runs)
-    (λ layer. layer_rebased s a b layer runs (runs_lie (layer_of priority) a b (p ∷ ps) h)) (range_with_len 0 n))
+message_rebased priority s n a b group h le = message_rebased_by 2 priority s n a b group h le
 
-each_rebased : (priority : Priorities) (s : List ℕ) (n : ℕ) (groups : List (List Piece))
-    → All (StandsIn (length s)) groups
-    → map (λ (g : CutGroup). message g.bytes g.cut.runs n) (map (cut_group priority s) groups)
-    ≡ map (λ (c : Cut). message s c.runs n) (cuts_of priority groups)
-each_rebased priority s n [] stand = refl
-each_rebased priority s n (g ∷ gs) stand =
-    let here = stand 0 g (omega arith) in
-    ap (λ l. l ∷ map (λ (k : CutGroup). message k.bytes k.cut.runs n) (map (cut_group priority s) gs))
-    (message_rebased priority s n here.from here.to g here.stand here.within)
-    ∙ ap (λ ls. message s (runs_of (layer_of priority) g) n ∷ ls)
-    (each_rebased priority s n gs (λ k d lt. stand (suc k) d (omega arith)))
-
--- the messages of all groups of a stream
 pub messages_rebased : (priority : Priorities) (s : List ℕ) (n : ℕ)
     → map (λ (g : CutGroup). message g.bytes g.cut.runs n) (cut_groups priority s)
     ≡ map (λ (c : Cut). message s c.runs n) (cuts_of priority (groups_of (pieces_of s)))
-messages_rebased priority s n = each_rebased priority s n (groups_of (pieces_of s)) (groups_stand s)
+messages_rebased priority s n = messages_rebased_by 2 priority s n
 
 lengths_in : (priority : Priorities) (s : List ℕ) (groups : List (List Piece))
     → map (λ (g : CutGroup). g.cut.lengths) (map (cut_group priority s) groups)

@@ -2,7 +2,8 @@
 use Rattle.std.specs.Prelude.{◌≡◌, ℕ, List}
 use Rattle.pet_base.specs.declared.limits.TheConstants.{MAX_REPLAY_SESSION}
 use Rattle.priority_file.specs.Priority.{Priorities}
-use Rattle.stream_session.specs.Passing.{HasPassed, IsPlanWithin}
+use Rattle.packet_frame.specs.declared.format.Format.{Format}
+use Rattle.stream_session.specs.Passing.{HasPassed, IsPlanIn}
 use Rattle.stream_session.specs.declared.whole.HeldPass.{HeldPass}
 use Rattle.stream_session.specs.declared.whole.HeldPlan.{HeldPlan}
 
@@ -11,7 +12,7 @@ pub record HasHeld (held : HeldPass) (priority : Priorities) (file stream : List
   pub passed : HasPassed held.pass priority file stream
   pub bytes : held.bytes.items ≡ stream
 
--- the session that the stream is, and its bytes
-pub record IsHeldPlanOf (held : HeldPlan) (priority : Priorities) (file stream : List ℕ) : Type 0 where
-  pub plan : IsPlanWithin MAX_REPLAY_SESSION held.plan priority file stream
+-- the session that the stream is in a format, and its bytes
+pub record IsHeldPlanOf (t : Format) (held : HeldPlan) (priority : Priorities) (file stream : List ℕ) : Type 0 where
+  pub plan : IsPlanIn t MAX_REPLAY_SESSION held.plan priority file stream
   pub bytes : held.bytes.items ≡ stream

@@ -3,6 +3,8 @@
 use Rattle.std.specs.Prelude.{◌≡◌, ℕ, List, map}
 use Rattle.sha2.specs.Hashers.{Holds256}
 use Rattle.priority_file.specs.Priority.{Priorities}
+use Rattle.packet_frame.specs.declared.format.Format.{Format}
+use Rattle.pet_base.specs.declared.limits.TheConstants.{MAX_SESSION}
 use Rattle.layer_split.specs.Layers.{Cut}
 use Rattle.stream_groups.specs.declared.groups.GroupCutter.{GroupCutter}
 use Rattle.stream_groups.specs.CutGroups.{CutGroup}
@@ -12,7 +14,7 @@ use Rattle.stream_session.specs.declared.marking.MarkedPass.{MarkedPass}
 use Rattle.stream_session.specs.declared.marking.MarkedPlan.{MarkedPlan}
 use Rattle.stream_session.specs.Marks.{group_marks, marks_of}
 use Rattle.stream_session.specs.Number.{hashed}
-use Rattle.stream_session.specs.Passing.{IsPlanOf}
+use Rattle.stream_session.specs.Passing.{IsPlanIn}
 use Rattle.stream_session.specs.Planning.{HasTables}
 
 -- the cuts of these groups
@@ -37,7 +39,7 @@ pub record HasMarked (marked : MarkedPass) (priority : Priorities) (file stream 
   pub has_kept : HasKept marked.cutter marked.kept priority stream
   pub has_hashed : Holds256 marked.hasher (hashed file stream)
 
--- the session that the stream is, and the marks of all its groups
-pub record IsMarkedPlanOf (marked : MarkedPlan) (priority : Priorities) (file stream : List ℕ) : Type 0 where
-  pub plan : IsPlanOf marked.plan priority file stream
+-- the session that the stream is in a format, and the marks of all its groups
+pub record IsMarkedPlanOf (t : Format) (marked : MarkedPlan) (priority : Priorities) (file stream : List ℕ) : Type 0 where
+  pub plan : IsPlanIn t MAX_SESSION marked.plan priority file stream
   pub marks : marked.marks.items ≡ marks_of priority stream

@@ -12,7 +12,9 @@ use Rattle.std.proofs.lemmas.List.Sums.{sum_by-cons}
 use Rattle.std.proofs.lemmas.List.Elements.{All-cons, All-nil}
 use Rattle.pet_base.specs.declared.limits.TheConstants.{MAX_GROUPS, MAX_LAYERS, MAX_SESSION}
 use Rattle.mpeg_scan.specs.declared.piece.Piece.{Piece}
-use Rattle.stripe_plan.specs.Sizes.{Sizes, IsTable}
+use Rattle.stripe_plan.specs.Sizes.{Sizes, IsTable, IsTableIn}
+use Rattle.packet_frame.specs.declared.format.Format.{Format}
+use Rattle.packet_frame.specs.declared.format.TheConstants.{FORMAT}
 use Rattle.priority_file.specs.Priority.{Priorities, layer_of, is_priority}
 use Rattle.layer_split.specs.declared.fault.SplitFault.{SplitFault}
 use Rattle.layer_split.specs.declared.fault.SplitFault.TheVariants as split
@@ -21,10 +23,13 @@ use Rattle.layer_split.specs.Layers.{Cut, cut_of}
 use Rattle.layer_split.specs.Faults.{is_too_long, fault_of, fault_by}
 use Rattle.layer_split.specs.Splitting.{cuts_of}
 use Rattle.stream_session.specs.declared.fault.SessionFault.{SessionFault}
-use Rattle.stream_session.specs.Tables.{table_of, tables_of, IsFit}
-use Rattle.stream_session.specs.Refusals.{is_wide, cost_in, first_above, size_fault, fault_after}
-use Rattle.stream_session.specs.Refusals.{fault_of_cuts, fault_of_cuts_within, session_fault, session_fault_within}
-use Rattle.stream_session.specs.laws.TableLaws.{cut_fits, is_table}
+use Rattle.stream_session.specs.declared.fault.SessionFault.TheVariants.{ManyPackets}
+use Rattle.stream_session.specs.Tables.{table_of, tables_of, sizes_of, IsFit}
+use Rattle.stream_session.specs.Refusals.{is_wide, is_wide_in, is_long_in, cost_in, group_cost_in, first_above}
+use Rattle.stream_session.specs.Refusals.{size_fault, long_fault, fault_after, many_fault}
+use Rattle.stream_session.specs.Refusals.{fault_of_cuts, fault_of_cuts_in, fault_of_cuts_within, session_fault}
+use Rattle.stream_session.specs.Refusals.{session_fault_in, session_fault_within}
+use Rattle.stream_session.specs.laws.TableLaws.{cut_fits, is_table, is_table_in, packets_allowed, never_long}
 
 some_not_none : {A : Type 0} (x : A) → Some x ≡ None → ⊥
 some_not_none x e = cc
@@ -86,20 +91,74 @@ size_none (Some group) large e = absurd cc
 size_none None (Some group) e = absurd cc
 size_none None None e = (refl, refl)
 
+long_none : (long : Option ℕ) (later : Option SessionFault) → long_fault long later ≡ None
+    → (long ≡ None) × (later ≡ None)
+long_none (Some group) later e = absurd cc
+long_none None later e = (refl, e)
+
+-- more packets than a format allows come before all, and else nothing does
+pub many_on : (t : Format) (priority : Priorities) (later : Option SessionFault)
+    → nat_lt t.bounds.packets priority.packets ≡ true
+    → many_fault t priority later ≡ Some (ManyPackets priority.packets)
+many_on t priority later e =
+    cond-true (nat_lt t.bounds.packets priority.packets) (Some (ManyPackets priority.packets)) later e
+
+pub many_off : (t : Format) (priority : Priorities) (later : Option SessionFault)
+    → nat_lt t.bounds.packets priority.packets ≡ false → many_fault t priority later ≡ later
+many_off t priority later e =
+    cond-false (nat_lt t.bounds.packets priority.packets) (Some (ManyPackets priority.packets)) later e
+
+many_none : (t : Format) (priority : Priorities) (later : Option SessionFault) → many_fault t priority later ≡ None
+    → (nat_lt t.bounds.packets priority.packets ≡ false) × (later ≡ None)
+many_none t priority later e = elim (cases_Bool (nat_lt t.bounds.packets priority.packets)) [
+  | inl on ↦ absurd (some_not_none (ManyPackets priority.packets) (sym (many_on t priority later on) ∙ e))
+  | inr off ↦ (off, sym (many_off t priority later off) ∙ e)
+]
+
+-- no cause of any sort, in a format
+pub no_cause_in : (t : Format) (limit : ℕ) (priority : Priorities) (pieces : List Piece)
+    → session_fault_in t limit priority pieces ≡ None
+    → (nat_lt t.bounds.packets priority.packets ≡ false)
+    × (fault_of (layer_of priority) (length priority.layers) (groups_of pieces) ≡ None)
+    × (fault_of_cuts_in t limit priority (cuts_of priority (groups_of pieces)) ≡ None)
+unfolding session_fault_in
+no_cause_in t limit priority pieces e =
+    let (few, rest) = many_none t priority
+    (fault_after (fault_of (layer_of priority) (length priority.layers) (groups_of pieces))
+    (fault_of_cuts_in t limit priority (cuts_of priority (groups_of pieces)))) e in
+    let both = after_none (fault_of (layer_of priority) (length priority.layers) (groups_of pieces))
+    (fault_of_cuts_in t limit priority (cuts_of priority (groups_of pieces))) rest in
+    (few, both.0, both.1)
+
 pub no_cause_within : (limit : ℕ) (priority : Priorities) (pieces : List Piece)
     → session_fault_within limit priority pieces ≡ None
     → (fault_of (layer_of priority) (length priority.layers) (groups_of pieces) ≡ None)
     × (fault_of_cuts_within limit priority (cuts_of priority (groups_of pieces)) ≡ None)
-unfolding session_fault_within
 no_cause_within limit priority pieces e =
-    after_none (fault_of (layer_of priority) (length priority.layers) (groups_of pieces))
-    (fault_of_cuts_within limit priority (cuts_of priority (groups_of pieces))) e
+    let none = no_cause_in FORMAT limit priority pieces e in (none.1, none.2)
+
+-- nothing against the cuts: none is too long, none too wide, and they are not too large together
+pub cuts_none : (t : Format) (limit : ℕ) (priority : Priorities) (cuts : List Cut)
+    → fault_of_cuts_in t limit priority cuts ≡ None
+    → (position (is_long_in t priority) cuts ≡ None) × (position (is_wide_in t priority) cuts ≡ None)
+    × (first_above limit 0 (map (group_cost_in t priority) cuts) ≡ None)
+cuts_none t limit priority cuts e =
+    let wide = position (is_wide_in t priority) cuts in
+    let large = first_above limit 0 (map (group_cost_in t priority) cuts) in
+    let (long, rest) = long_none (position (is_long_in t priority) cuts) (size_fault wide large) e in
+    let both = size_none wide large rest in
+    (long, both.0, both.1)
+
+pub few_groups_in : (t : Format) (limit : ℕ) (priority : Priorities) (pieces : List Piece)
+    → session_fault_in t limit priority pieces ≡ None
+    → length (groups_of pieces) ≤ MAX_GROUPS
+few_groups_in t limit priority pieces e =
+    groups_few priority (groups_of pieces) (no_cause_in t limit priority pieces e).1
 
 pub few_groups_within : (limit : ℕ) (priority : Priorities) (pieces : List Piece)
     → session_fault_within limit priority pieces ≡ None
     → length (groups_of pieces) ≤ MAX_GROUPS
-few_groups_within limit priority pieces e =
-    groups_few priority (groups_of pieces) (no_cause_within limit priority pieces e).0
+few_groups_within limit priority pieces e = few_groups_in FORMAT limit priority pieces e
 
 -- the same of a session of the most bytes that one may have
 pub no_cause : (priority : Priorities) (pieces : List Piece) → session_fault priority pieces ≡ None
@@ -131,8 +190,7 @@ pub tables_stand_within : (limit : ℕ) (priority : Priorities) (pieces : List P
 tables_stand_within limit priority pieces lawful few e =
     let cuts : List Cut = cuts_of priority (groups_of pieces) in
     let (groups, sizes) = no_cause_within limit priority pieces e in
-    let (wide, large) = size_none (position (is_wide priority) cuts)
-    (first_above limit 0 (map (cost_in priority) cuts)) sizes in
+    let wide = (cuts_none FORMAT limit priority cuts sizes).1 in
     all_stand priority cuts lawful few (all_fit priority (groups_of pieces)
     (all_short priority (groups_of pieces) groups)) (nowhere (is_wide priority) cuts wide)
 
@@ -162,12 +220,87 @@ none_above limit before (cost ∷ costs) le e = elim (cases_Bool (nat_lt limit (
       omega arith)
 ]
 
+pub costs_fit_in : (t : Format) {limit : ℕ} (priority : Priorities) (pieces : List Piece)
+    → session_fault_in t limit priority pieces ≡ None
+    → sum (map (group_cost_in t priority) (cuts_of priority (groups_of pieces))) ≤ limit
+costs_fit_in t {limit} priority pieces e =
+    let cuts : List Cut = cuts_of priority (groups_of pieces) in
+    let large = (cuts_none t limit priority cuts (no_cause_in t limit priority pieces e).2).2 in
+    let fits = none_above limit 0 (map (group_cost_in t priority) cuts) (omega arith) large in
+    omega arith
+
 pub costs_fit : {limit : ℕ} (priority : Priorities) (pieces : List Piece)
     → session_fault_within limit priority pieces ≡ None
     → sum (map (cost_in priority) (cuts_of priority (groups_of pieces))) ≤ limit
-costs_fit {limit} priority pieces e =
-    let costs : List ℕ = map (cost_in priority) (cuts_of priority (groups_of pieces)) in
-    let large = (size_none (position (is_wide priority) (cuts_of priority (groups_of pieces)))
-    (first_above limit 0 costs) (no_cause_within limit priority pieces e).1).1 in
-    let fits = none_above limit 0 costs (omega arith) large in
-    omega arith
+costs_fit priority pieces e = costs_fit_in FORMAT priority pieces e
+
+-- in a format each cut has a table
+all_stand_in : (t : Format) (priority : Priorities) (cuts : List Cut) → t.bounds.layers ≡ MAX_LAYERS
+    → is_priority priority ≡ true → length priority.layers ≤ MAX_LAYERS
+    → nat_lt t.bounds.packets priority.packets ≡ false → All (IsFit priority) cuts
+    → All (λ cut. is_long_in t priority cut ≡ false) cuts → All (λ cut. is_wide_in t priority cut ≡ false) cuts
+    → All (λ cut. IsTableIn t.bounds priority.packets (sizes_of priority cut)) cuts
+all_stand_in t priority [] most lawful few packets fit short narrow =
+    All-nil (λ (cut : Cut). IsTableIn t.bounds priority.packets (sizes_of priority cut))
+all_stand_in t priority (cut ∷ cuts) most lawful few packets fit short narrow =
+    All-cons (λ (c : Cut). IsTableIn t.bounds priority.packets (sizes_of priority c)) cut cuts
+    (is_table_in t priority cut most lawful few (fit 0 cut (omega arith)) packets (short 0 cut (omega arith))
+    (narrow 0 cut (omega arith)))
+    (all_stand_in t priority cuts most lawful few packets (λ k d lt. fit (suc k) d (omega arith))
+    (λ k d lt. short (suc k) d (omega arith)) (λ k d lt. narrow (suc k) d (omega arith)))
+
+pub tables_stand_in : (t : Format) (limit : ℕ) (priority : Priorities) (pieces : List Piece)
+    → t.bounds.layers ≡ MAX_LAYERS → is_priority priority ≡ true → length priority.layers ≤ MAX_LAYERS
+    → session_fault_in t limit priority pieces ≡ None
+    → All (λ cut. IsTableIn t.bounds priority.packets (sizes_of priority cut)) (cuts_of priority (groups_of pieces))
+tables_stand_in t limit priority pieces most lawful few e =
+    let cuts : List Cut = cuts_of priority (groups_of pieces) in
+    let none = no_cause_in t limit priority pieces e in
+    let sizes = cuts_none t limit priority cuts none.2 in
+    all_stand_in t priority cuts most lawful few none.0
+    (all_fit priority (groups_of pieces) (all_short priority (groups_of pieces) none.1))
+    (nowhere (is_long_in t priority) cuts sizes.0) (nowhere (is_wide_in t priority) cuts sizes.1)
+
+-- in the format that is written today no cut that is not too long is longer than it allows
+short_from : (priority : Priorities) (i : ℕ) (cuts : List Cut) → All (IsFit priority) cuts
+    → position_from (is_long_in FORMAT priority) i cuts ≡ None
+short_from priority i [] h = refl
+short_from priority i (cut ∷ cuts) h =
+    cond-false (is_long_in FORMAT priority cut) (Some i) (position_from (is_long_in FORMAT priority) (i + 1) cuts)
+    (never_long priority cut (h 0 cut (omega arith)))
+    ∙ short_from priority (i + 1) cuts (λ k d lt. h (suc k) d (omega arith))
+
+all_short_today : (priority : Priorities) (cuts : List Cut) → All (IsFit priority) cuts
+    → position (is_long_in FORMAT priority) cuts ≡ None
+all_short_today priority cuts fit =
+    position_from-zero (is_long_in FORMAT priority) cuts ∙ short_from priority 0 cuts fit
+
+-- what refuses the cuts there
+abbrev sizes_today : ℕ → Priorities → List Piece → Option SessionFault
+sizes_today limit priority pieces =
+    size_fault (position (is_wide priority) (cuts_of priority (groups_of pieces)))
+    (first_above limit 0 (map (cost_in priority) (cuts_of priority (groups_of pieces))))
+
+groups_today : (limit : ℕ) (priority : Priorities) (pieces : List Piece) (o : Option SplitFault)
+    → fault_of (layer_of priority) (length priority.layers) (groups_of pieces) ≡ o
+    → fault_after o (fault_of_cuts_in FORMAT limit priority (cuts_of priority (groups_of pieces)))
+    ≡ fault_after o (sizes_today limit priority pieces)
+groups_today limit priority pieces None e =
+    ap (λ long. long_fault long (sizes_today limit priority pieces))
+    (all_short_today priority (cuts_of priority (groups_of pieces))
+    (all_fit priority (groups_of pieces) (all_short priority (groups_of pieces) e)))
+groups_today limit priority pieces (Some (split.GroupTooLong group)) e = refl
+groups_today limit priority pieces (Some split.TooManyGroups) e = refl
+groups_today limit priority pieces (Some split.NoMemory) e = refl
+
+-- In the format that is written today no priority has more packets than it allows, and no group that is not too long is
+-- longer than it allows: a fault is one of the groups, a datagram that is too long, or a session that is too large.
+pub fault_today : (limit : ℕ) (priority : Priorities) (pieces : List Piece) → is_priority priority ≡ true
+    → session_fault_within limit priority pieces
+    ≡ fault_after (fault_of (layer_of priority) (length priority.layers) (groups_of pieces))
+    (size_fault (position (is_wide priority) (cuts_of priority (groups_of pieces)))
+    (first_above limit 0 (map (cost_in priority) (cuts_of priority (groups_of pieces)))))
+unfolding session_fault_in
+fault_today limit priority pieces lawful =
+    many_off FORMAT priority _ (packets_allowed priority lawful)
+    ∙ groups_today limit priority pieces (fault_of (layer_of priority) (length priority.layers) (groups_of pieces)) refl

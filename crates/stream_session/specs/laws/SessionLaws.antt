@@ -2,7 +2,7 @@
 -- priority and
 -- a word, and how the layers of an accepted priority file are named. This project's own.
 use Rattle.std.proofs.Common.{◌≡◌, ℕ, ◌<◌, ◌≤◌, Bool, true, false, not, ◌||◌, List, [], ◌∷◌, map, length, replicate}
-use Rattle.std.proofs.Common.{Option, Some, None, refl, arith, if◌then◌else◌}
+use Rattle.std.proofs.Common.{Option, Some, None, refl, ◌∙◌, arith, if◌then◌else◌}
 use Rattle.std.specs.Prelude.{All, bytes_eq}
 use Rattle.std.specs.List.{list_any, range_with_len}
 use Rattle.std.proofs.lemmas.Bool.{ltb-false}
@@ -27,17 +27,33 @@ use Rattle.layer_split.specs.Splitting.{cuts_of}
 use Rattle.stripe_plan.specs.declared.layer.LayerSize.{LayerSize}
 use Rattle.stripe_plan.specs.Layers.{words_of, needs_of}
 use Rattle.stripe_plan.specs.Sizes.{Sizes}
-use Rattle.stream_session.specs.laws.FitLaws.{few_groups_within}
+use Rattle.stripe_plan.specs.laws.ByteLaws.{length-planned}
+use Rattle.packet_frame.specs.declared.format.Format.{Format}
+use Rattle.stream_session.specs.laws.FitLaws.{few_groups_in, few_groups_within}
 use Rattle.stream_session.specs.Number.{hashed, session_number}
-use Rattle.stream_session.specs.Refusals.{session_fault, session_fault_within}
-use Rattle.stream_session.specs.Tables.{sizes_with, sizes_of, table_of, tables_of}
+use Rattle.stream_session.specs.Refusals.{session_fault, session_fault_in, session_fault_within}
+use Rattle.stream_session.specs.Tables.{sizes_with, sizes_of, table_of, tables_of, table_of_in, tables_of_in}
 
 -- a session number has no more than eight bytes
 pub number_short : (priority stream : List ℕ) → length (session_number priority stream) ≤ 8
 unfolding session_number
 number_short priority stream = omega (arith, length-take 8 (sha256 (hashed priority stream)))
 
--- as many tables as groups
+-- as many tables as groups, in a format
+pub length-tables_in : (t : Format) (priority : Priorities) (groups : List (List Piece))
+    → length (tables_of_in t priority (cuts_of priority groups)) ≡ length groups
+length-tables_in t priority groups =
+    let tables = length-map (cuts_of priority groups) (table_of_in t priority) in
+    let cuts = length-map groups (cut_of (layer_of priority) (length priority.layers)) in
+    omega (arith, tables, cuts)
+
+pub tables_few_in : (t : Format) (limit : ℕ) (priority : Priorities) (pieces : List Piece)
+    → session_fault_in t limit priority pieces ≡ None
+    → length (tables_of_in t priority (cuts_of priority (groups_of pieces))) ≤ MAX_GROUPS
+tables_few_in t limit priority pieces e =
+    omega (arith, length-tables_in t priority (groups_of pieces), few_groups_in t limit priority pieces e)
+
+-- and in the one that is written today
 pub length-tables : (priority : Priorities) (groups : List (List Piece))
     → length (tables_of priority (cuts_of priority groups)) ≡ length groups
 length-tables priority groups =
@@ -80,6 +96,17 @@ tables_layered priority (group ∷ groups) =
     (table_of priority (cut_of (layer_of priority) (length priority.layers) group))
     (tables_of priority (cuts_of priority groups))
     (length-sizes_of priority group) (tables_layered priority groups)
+
+pub tables_layered_in : (t : Format) (priority : Priorities) (groups : List (List Piece))
+    → All (λ table. length table.layers ≡ length priority.layers) (tables_of_in t priority (cuts_of priority groups))
+tables_layered_in t priority [] = All-nil (λ (table : Sizes). length table.layers ≡ length priority.layers)
+tables_layered_in t priority (group ∷ groups) =
+    let cut = cut_of (layer_of priority) (length priority.layers) group in
+    All-cons (λ (table : Sizes). length table.layers ≡ length priority.layers)
+    (table_of_in t priority cut)
+    (tables_of_in t priority (cuts_of priority groups))
+    (length-planned t.bounds (sizes_of priority cut) ∙ length-sizes_of priority group)
+    (tables_layered_in t priority groups)
 
 -- a first layer with bytes has a word
 first_word : (bytes : ℕ) (lengths : List ℕ) (rule : Rule) (rules : List Rule) → 0 < bytes

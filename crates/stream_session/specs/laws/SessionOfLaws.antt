@@ -21,7 +21,10 @@ use Rattle.mpeg_scan.specs.laws.OpenerLaws.{opener_within}
 use Rattle.mpeg_scan.specs.Pieces.{openers, pieces_of, pieces_from, pieces_at}
 use Rattle.mpeg_scan.specs.Refusals.{IsAccepted, zeros, has_head}
 use Rattle.mpeg_scan.specs.StartCodes.{is_start_code, is_opener, is_head_code, is_system_code, is_opener_code, code_at}
-use Rattle.stripe_plan.specs.Sizes.{Sizes, cost_of}
+use Rattle.stripe_plan.specs.Sizes.{IsTableIn, cost_by, planned}
+use Rattle.packet_frame.specs.declared.format.Format.{Format}
+use Rattle.packet_frame.specs.declared.format.TheConstants.{FORMAT}
+use Rattle.packet_frame.specs.laws.PlannedLaws.{planned_back}
 use Rattle.priority_file.proofs.Accepted.{accepted}
 use Rattle.priority_file.specs.Draft.{text_in}
 use Rattle.priority_file.specs.Priority.{Priorities, layer_of, is_priority}
@@ -31,19 +34,20 @@ use Rattle.layer_split.specs.laws.CutLaws.{StandsIn, runs_lie}
 use Rattle.layer_split.specs.laws.RunLaws.{runs_layers}
 use Rattle.layer_split.specs.declared.cut.Run.{Run}
 use Rattle.layer_split.specs.Groups.{groups_of, groups_from, begins_group}
-use Rattle.layer_split.specs.Layers.{Cut, cut_of, lengths_of, layer_length, message}
+use Rattle.layer_split.specs.Layers.{Cut, cut_of, lengths_of, layer_length, message_by}
 use Rattle.layer_split.specs.Runs.{runs_of}
 use Rattle.layer_split.specs.Splitting.{cuts_of}
-use Rattle.packet_session.specs.Session.{SessionGroup, IsMessage, IsSession, IsSessionGroup, Fits}
-use Rattle.stream_session.specs.Accepted.{IsAcceptedWithin, group_of, session_of}
+use Rattle.packet_session.specs.Session.{SessionGroup, IsMessage, IsSession, IsSessionIn, IsSessionGroupIn, Fits, FitsIn}
+use Rattle.stream_session.specs.Accepted.{IsAcceptedIn, IsAcceptedWithin, group_of_in, session_of_in, session_of}
 use Rattle.stream_groups.specs.CutGroups.{CutGroup}
-use Rattle.stream_session.specs.laws.FitLaws.{IsWithinBounds, few_groups_within, tables_stand_within, costs_fit}
-use Rattle.stream_session.specs.laws.MessageLaws.{IsByte, word_bytes, message_words, message_bytes}
+use Rattle.stream_session.specs.laws.FitLaws.{few_groups_in, tables_stand_in, costs_fit_in}
+use Rattle.stream_session.specs.laws.FormatLaws.{today_is}
+use Rattle.stream_session.specs.laws.MessageLaws.{IsByte, word_bytes, message_words_in, message_bytes_by}
 use Rattle.stream_session.specs.Number.{hashed, session_number}
-use Rattle.stream_session.specs.Refusals.{cost_in}
+use Rattle.stream_session.specs.Refusals.{group_cost_in}
 use Rattle.stream_session.specs.laws.SessionLaws.{layers_named, none_here, from_not}
 use Rattle.stream_groups.specs.laws.StandingLaws.{groups_stand}
-use Rattle.stream_session.specs.Tables.{sizes_of, table_of, tables_of, cuts_of_stream}
+use Rattle.stream_session.specs.Tables.{sizes_of, cuts_of_stream, IsSessionFormat}
 
 -- the rows behind the first that do not hold
 behind : (n : ℕ) (tests : List Row) → first_of tests ≡ None → first_of (drop n tests) ≡ None
@@ -169,11 +173,12 @@ some_groups s is =
 -- ---- the groups
 
 -- the message of a group that stands in a stream of bytes
-is_message : (priority : Priorities) (s : List ℕ) → All (λ b. b < 256) s → is_priority priority ≡ true
+is_message : (t : Format) → IsSessionFormat t → (priority : Priorities) (s : List ℕ) → All (λ b. b < 256) s
+    → is_priority priority ≡ true
     → length priority.layers ≤ MAX_LAYERS → (group : List Piece) → StandsIn (length s) group
-    → IsMessage 2 (sizes_of priority (cut_of (layer_of priority) (length priority.layers) group))
-    (message s (runs_of (layer_of priority) group) (length priority.layers))
-is_message priority s small lawful few group stands =
+    → IsMessage t.word (planned t.bounds (sizes_of priority (cut_of (layer_of priority) (length priority.layers) group)))
+    (message_by t.word s (runs_of (layer_of priority) group) (length priority.layers))
+is_message t format priority s small lawful few group stands =
     let n : ℕ = length priority.layers in
     let runs : List Run = runs_of (layer_of priority) group in
     let cut : CutGroup = record { cut = cut_of (layer_of priority) n group; bytes = s } in
@@ -182,82 +187,96 @@ is_message priority s small lawful few group stands =
     let count : length (lengths_of runs n) ≡ n = length-map-range_with_len (layer_length runs) 0 n in
     let layers = runs_layers (layer_of priority) n (layer_of-within priority lawful) group in
     record {
-      whole = sym (ap (λ k. length (message s runs k)) count)
-          ∙ message_words priority cut (record {
+      whole = sym (ap (λ k. length (message_by t.word s runs k)) count)
+          ∙ message_words_in t format.word priority cut (record {
             inside = λ k d lt. (let here = lie k d lt in let to = here.1 in omega arith);
             lengths = ap (lengths_of runs) (sym count);
             count = count;
           });
-      bytes = message_bytes s runs n small (λ k d lt. (let here = layers k d lt in omega arith));
+      bytes = message_bytes_by t.word s runs n small (λ k d lt. (let here = layers k d lt in omega arith));
     }
 
-all_groups : (priority : Priorities) (s : List ℕ) → All (λ b. b < 256) s → is_priority priority ≡ true
+all_groups : (t : Format) → IsSessionFormat t → (priority : Priorities) (s : List ℕ) → All (λ b. b < 256) s
+    → is_priority priority ≡ true
     → length priority.layers ≤ MAX_LAYERS → (groups : List (List Piece)) → All (StandsIn (length s)) groups
-    → All IsWithinBounds (tables_of priority (cuts_of priority groups))
-    → All (IsSessionGroup 2) (map (group_of priority s) (cuts_of priority groups))
-all_groups priority s small lawful few [] stand tables = All-nil (IsSessionGroup 2)
-all_groups priority s small lawful few (group ∷ groups) stand tables =
+    → All (λ cut. IsTableIn t.bounds priority.packets (sizes_of priority cut)) (cuts_of priority groups)
+    → All (IsSessionGroupIn t) (map (group_of_in t priority s) (cuts_of priority groups))
+all_groups t format priority s small lawful few [] stand tables = All-nil (IsSessionGroupIn t)
+all_groups t format priority s small lawful few (group ∷ groups) stand tables =
     let cut : Cut = cut_of (layer_of priority) (length priority.layers) group in
-    let later : List Sizes = tables_of priority (cuts_of priority groups) in
-    All-cons (IsSessionGroup 2) (group_of priority s cut) (map (group_of priority s) (cuts_of priority groups))
+    let later : List Cut = cuts_of priority groups in
+    let HasTable : Cut → Type 0 = λ c. IsTableIn t.bounds priority.packets (sizes_of priority c) in
+    let back = planned_back t.bounds (sizes_of priority cut) in
+    All-cons (IsSessionGroupIn t) (group_of_in t priority s cut) (map (group_of_in t priority s) (cuts_of priority groups))
     (record {
-      table = All-head IsWithinBounds (table_of priority cut) later tables;
-      message = is_message priority s small lawful few group (All-head (StandsIn (length s)) group groups stand);
+      table = subst (IsTableIn t.bounds priority.packets) (sym back) (All-head HasTable cut later tables);
+      whole = ap (planned t.bounds) back;
+      message = is_message t format priority s small lawful few group (All-head (StandsIn (length s)) group groups stand);
     })
-    (all_groups priority s small lawful few groups (All-tail (StandsIn (length s)) group groups stand)
-    (All-tail IsWithinBounds (table_of priority cut) later tables))
+    (all_groups t format priority s small lawful few groups (All-tail (StandsIn (length s)) group groups stand)
+    (All-tail HasTable cut later tables))
 
 -- ---- the session
 
 -- as many groups as the stream has
-groups_count : (priority stream : List ℕ)
-    → length (session_of priority stream).groups ≡ length (groups_of (pieces_of stream))
-groups_count priority stream =
+groups_count : (t : Format) (priority stream : List ℕ)
+    → length (session_of_in t priority stream).groups ≡ length (groups_of (pieces_of stream))
+groups_count t priority stream =
     let p : Priorities = priorities_of priority in
-    length-map (cuts_of_stream p stream) (group_of p stream)
+    length-map (cuts_of_stream p stream) (group_of_in t p stream)
     ∙ length-map (groups_of (pieces_of stream)) (cut_of (layer_of p) (length p.layers))
 
--- an accepted session of a stream of bytes is a session
-pub is_session : {limit : ℕ} (priority stream : List ℕ) → All (λ b. b < 256) stream
-    → IsAcceptedWithin limit priority stream
-    → IsSession 2 (session_of priority stream)
-is_session {limit} priority stream small is =
+-- an accepted session of a stream of bytes in a format is a session of that format
+pub is_session_in : (t : Format) → IsSessionFormat t → {limit : ℕ} (priority stream : List ℕ)
+    → All (λ b. b < 256) stream → IsAcceptedIn t limit priority stream
+    → IsSessionIn t (session_of_in t priority stream)
+is_session_in t format {limit} priority stream small is =
     let p : Priorities = priorities_of priority in
     let lawful = accepted_lawful priority is.priority_read in
     let named = layers_named priority is.priority_read in
-    let count = groups_count priority stream in
+    let count = groups_count t priority stream in
     let some = some_groups stream is.stream_read in
-    let few = few_groups_within limit p (pieces_of stream) is.fits in
+    let few = few_groups_in t limit p (pieces_of stream) is.fits in
     record {
       number = number_length priority stream;
       bytes = number_bytes priority stream;
       some = omega arith;
       few = omega arith;
       groups =
-          all_groups p stream small lawful named.few (groups_of (pieces_of stream)) (groups_stand stream)
-          (tables_stand_within limit p (pieces_of stream) lawful named.few is.fits);
+          all_groups t format p stream small lawful named.few (groups_of (pieces_of stream)) (groups_stand stream)
+          (tables_stand_in t limit p (pieces_of stream) format.layers lawful named.few is.fits);
     }
 
-abbrev cost : SessionGroup → ℕ
-cost g = cost_of g.packets g.layers
+abbrev cost : Format → SessionGroup → ℕ
+cost t g = cost_by t.word g.packets g.layers
 
-costs_are : (priority : Priorities) (s : List ℕ) (cuts : List Cut)
-    → sum_by cost (map (group_of priority s) cuts) ≡ sum (map (cost_in priority) cuts)
-costs_are priority s [] = refl
-costs_are priority s (cut ∷ cuts) =
-    let later = costs_are priority s cuts in
-    let groups : sum_by cost (group_of priority s cut ∷ map (group_of priority s) cuts)
-    ≡ cost_in priority cut + sum_by cost (map (group_of priority s) cuts) =
-    sum_by-cons cost (group_of priority s cut) (map (group_of priority s) cuts) in
-    let costs : sum (cost_in priority cut ∷ map (cost_in priority) cuts)
-    ≡ cost_in priority cut + sum (map (cost_in priority) cuts) =
-    sum_by-cons (λ (n : ℕ). n) (cost_in priority cut) (map (cost_in priority) cuts) in
-    groups ∙ ap (λ n. cost_in priority cut + n) later ∙ sym costs
+costs_are : (t : Format) (priority : Priorities) (s : List ℕ) (cuts : List Cut)
+    → sum_by (cost t) (map (group_of_in t priority s) cuts) ≡ sum (map (group_cost_in t priority) cuts)
+costs_are t priority s [] = refl
+costs_are t priority s (cut ∷ cuts) =
+    let later = costs_are t priority s cuts in
+    let groups : sum_by (cost t) (group_of_in t priority s cut ∷ map (group_of_in t priority s) cuts)
+    ≡ group_cost_in t priority cut + sum_by (cost t) (map (group_of_in t priority s) cuts) =
+    sum_by-cons (cost t) (group_of_in t priority s cut) (map (group_of_in t priority s) cuts) in
+    let costs : sum (group_cost_in t priority cut ∷ map (group_cost_in t priority) cuts)
+    ≡ group_cost_in t priority cut + sum (map (group_cost_in t priority) cuts) =
+    sum_by-cons (λ (n : ℕ). n) (group_cost_in t priority cut) (map (group_cost_in t priority) cuts) in
+    groups ∙ ap (λ n. group_cost_in t priority cut + n) later ∙ sym costs
 
 -- its packets have at most the bytes of a session
+pub session_fits_in : (t : Format) {limit : ℕ} (priority stream : List ℕ) → IsAcceptedIn t limit priority stream
+    → FitsIn t (session_of_in t priority stream) limit
+session_fits_in t {limit} priority stream is =
+    let p : Priorities = priorities_of priority in
+    subst (λ n. n ≤ limit) (sym (costs_are t p stream (cuts_of_stream p stream)))
+    (costs_fit_in t p (pieces_of stream) is.fits)
+
+-- so it is in the format that is written today
+pub is_session : {limit : ℕ} (priority stream : List ℕ) → All (λ b. b < 256) stream
+    → IsAcceptedWithin limit priority stream
+    → IsSession 2 (session_of priority stream)
+is_session priority stream small is = is_session_in FORMAT today_is priority stream small is
+
 pub session_fits : {limit : ℕ} (priority stream : List ℕ) → IsAcceptedWithin limit priority stream
     → Fits (session_of priority stream) limit
-session_fits {limit} priority stream is =
-    let p : Priorities = priorities_of priority in
-    subst (λ n. n ≤ limit) (sym (costs_are p stream (cuts_of_stream p stream)))
-    (costs_fit p (pieces_of stream) is.fits)
+session_fits priority stream is = session_fits_in FORMAT priority stream is

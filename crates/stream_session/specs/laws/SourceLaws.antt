@@ -4,7 +4,7 @@
 use Rattle.std.proofs.Common.{◌≡◌, ◌≢◌, ◌⊎◌, ℕ, ◌≤◌, Bool, false, List, [], ◌∷◌, Option, None, Some, refl, sym, subst}
 use Rattle.std.proofs.Common.{◌∙◌, arith, inl, inr}
 use Rattle.std.specs.Prelude.{All, length, IsTrue}
-use Rattle.pet_base.specs.declared.limits.TheConstants.{MAX_GROUPS}
+use Rattle.pet_base.specs.declared.limits.TheConstants.{MAX_GROUPS, MAX_SESSION}
 use Rattle.pet_base.specs.Seen.{Seen, Files, Blame, HadFault}
 use Rattle.pet_base.specs.laws.SeenLaws.{HadFault-since}
 use Rattle.outside_files.specs.Inputs.{IsFile, IsRead}
@@ -15,13 +15,15 @@ use Rattle.mpeg_scan.specs.Pieces.{pieces_of}
 use Rattle.mpeg_scan.specs.Refusals.{Refuses, holds}
 use Rattle.layer_split.specs.Groups.{groups_of}
 use Rattle.stripe_plan.specs.Sizes.{Sizes}
-use Rattle.stream_session.specs.Refusals.{session_fault_within}
-use Rattle.stream_session.specs.laws.SessionLaws.{tables_few, tables_layered}
-use Rattle.stream_session.specs.Sources.{IsOfSource, IsSource, IsSourceFaultWithin}
+use Rattle.packet_frame.specs.declared.format.Format.{Format}
+use Rattle.stream_session.specs.Tables.{tables_of_in, cuts_of_stream}
+use Rattle.stream_session.specs.Refusals.{session_fault_in}
+use Rattle.stream_session.specs.laws.SessionLaws.{tables_few_in, tables_layered_in}
+use Rattle.stream_session.specs.Sources.{IsOfSource, IsSourceIn, IsSourceFaultIn}
 use Rattle.stream_session.specs.declared.source.Source.{Source}
 use Rattle.stream_session.specs.declared.source.SourceFault.{SourceFault}
 use Rattle.stream_session.specs.declared.source.SourceFault.TheVariants as source
-use Rattle.stream_session.specs.Sessions.{HasSession, IsGivenWithin, tables_in}
+use Rattle.stream_session.specs.Sessions.{HasSessionIn, IsGivenIn}
 
 pub either_file : (files : Option Files) (stream priority : List ℕ) (blame : Blame)
     → IsOfSource files stream priority blame → IsRead stream blame ⊎ IsRead priority blame
@@ -43,8 +45,8 @@ file_is files f name bytes told e there is =
     same_bytes x y e = cc
 
 -- where both files are told and a session
-module _ {limit : ℕ} (old new : Seen) (stream priority p b : List ℕ)
-    (given : IsGivenWithin limit old stream priority p b) where
+module _ {t : Format} {limit : ℕ} (old new : Seen) (stream priority p b : List ℕ)
+    (given : IsGivenIn t limit old stream priority p b) where
   pub priority_is : (bytes : List ℕ) → IsFile old.files priority bytes → bytes ≡ p
   priority_is bytes is = file_is old.files given.files priority bytes p given.told given.priority_there is
 
@@ -59,7 +61,7 @@ module _ {limit : ℕ} (old new : Seen) (stream priority p b : List ℕ)
 
   -- neither file is refused, nor the plan
   pub none_refused : (fault : SourceFault) → fault ≢ source.NoMemory → fault ≢ source.Failed
-      → IsSourceFaultWithin limit old new stream priority fault → ⊥
+      → IsSourceFaultIn t limit old new stream priority fault → ⊥
   none_refused source.NoMemory memory place is = memory refl
   none_refused source.Failed memory place is = place refl
   none_refused (source.Priority fault) memory place is =
@@ -70,16 +72,16 @@ module _ {limit : ℕ} (old new : Seen) (stream priority p b : List ℕ)
       (stream_is is.bytes is.stream_is) is.holds in
       false_holds (holds b scan) refused.holding (given.session.stream_read scan)
   none_refused (source.Plan fault) memory place is =
-      let at_file = subst (λ (f : List ℕ). session_fault_within limit (priorities_of f) (pieces_of is.bytes) ≡ Some fault)
+      let at_file = subst (λ (f : List ℕ). session_fault_in t limit (priorities_of f) (pieces_of is.bytes) ≡ Some fault)
       (priority_is is.file is.priority_is) is.holds.2 in
-      let at_both : session_fault_within limit (priorities_of p) (pieces_of b) ≡ Some fault =
-      subst (λ (s : List ℕ). session_fault_within limit (priorities_of p) (pieces_of s) ≡ Some fault)
+      let at_both : session_fault_in t limit (priorities_of p) (pieces_of b) ≡ Some fault =
+      subst (λ (s : List ℕ). session_fault_in t limit (priorities_of p) (pieces_of s) ≡ Some fault)
       (stream_is is.bytes is.stream_is) at_file in
-      none_some (session_fault_within limit (priorities_of p) (pieces_of b)) fault given.session.fits at_both
+      none_some (session_fault_in t limit (priorities_of p) (pieces_of b)) fault given.session.fits at_both
 
   -- no fault of a session holds of them, but that the place had one
   pub no_fault : (fault : SourceFault) → fault ≢ source.NoMemory
-      → (Failed (reading stream ∷ reading priority ∷ []) old new → ⊥) → IsSourceFaultWithin limit old new stream priority fault → ⊥
+      → (Failed (reading stream ∷ reading priority ∷ []) old new → ⊥) → IsSourceFaultIn t limit old new stream priority fault → ⊥
   no_fault source.NoMemory memory well is = memory refl
   no_fault source.Failed memory well is = well (failed_at_either old.files stream priority old new is)
   no_fault (source.Priority fault) memory well is = none_refused (source.Priority fault) memory (λ failed. cc) is
@@ -87,8 +89,8 @@ module _ {limit : ℕ} (old new : Seen) (stream priority p b : List ℕ)
   no_fault (source.Plan fault) memory well is = none_refused (source.Plan fault) memory (λ failed. cc) is
 
 -- a session that was read
-abbrev pub session_in : (old : Seen) (stream priority : List ℕ) (source : Source)
-    → IsSource old.files stream priority source → HasSession old stream priority
+abbrev pub session_in : {t : Format} (old : Seen) (stream priority : List ℕ) (source : Source)
+    → IsSourceIn t MAX_SESSION old.files stream priority source → HasSessionIn t old stream priority
 session_in old stream priority source is = record {
   priority_bytes = is.file;
   stream_bytes = is.bytes;
@@ -97,16 +99,17 @@ session_in old stream priority source is = record {
   session = is.accepted;
 }
 
-pub source_few : (files : Option Files) (stream priority : List ℕ) (source : Source)
-    → IsSource files stream priority source → length source.tables.items ≤ MAX_GROUPS
-source_few files stream priority source is =
+pub source_few : {t : Format} (files : Option Files) (stream priority : List ℕ) (source : Source)
+    → IsSourceIn t MAX_SESSION files stream priority source → length source.tables.items ≤ MAX_GROUPS
+source_few {t} files stream priority source is =
     subst (λ (ts : List Sizes). length ts ≤ MAX_GROUPS) (sym is.tables)
-    (tables_few (priorities_of is.file) (pieces_of is.bytes) is.accepted.fits)
+    (tables_few_in t MAX_SESSION (priorities_of is.file) (pieces_of is.bytes) is.accepted.fits)
 
-pub source_layered : (files : Option Files) (stream priority : List ℕ) (source : Source)
-    → IsSource files stream priority source
-    → All (λ t. length t.layers ≡ length source.priority.layers) source.tables.items
-source_layered files stream priority source is =
-    subst (λ (ts : List Sizes). All (λ t. length t.layers ≡ length source.priority.layers) ts) (sym is.tables)
-    (subst (λ (r : Priorities). All (λ t. length t.layers ≡ length r.layers) (tables_in is.file is.bytes))
-    (sym is.rules) (tables_layered (priorities_of is.file) (groups_of (pieces_of is.bytes))))
+pub source_layered : {t : Format} (files : Option Files) (stream priority : List ℕ) (source : Source)
+    → IsSourceIn t MAX_SESSION files stream priority source
+    → All (λ table. length table.layers ≡ length source.priority.layers) source.tables.items
+source_layered {t} files stream priority source is =
+    subst (λ (ts : List Sizes). All (λ table. length table.layers ≡ length source.priority.layers) ts) (sym is.tables)
+    (subst (λ (r : Priorities). All (λ table. length table.layers ≡ length r.layers)
+    (tables_of_in t (priorities_of is.file) (cuts_of_stream (priorities_of is.file) is.bytes)))
+    (sym is.rules) (tables_layered_in t (priorities_of is.file) (groups_of (pieces_of is.bytes))))

@@ -32,7 +32,7 @@ returns c =
     ∙ there_at source.tables.items c.args.number _ _ c.requires.there in
     let many : c.len.result ≡ length source.tables.items = search rules in
     encoder_is c.new.result source c.args.number g
-    (head source.number c.len.result c.args.number c.in_ok-clone.field-0) c.deref.result.now c.new.ensures.header
+    (head source.number c.len.result c.args.number c.in_ok-clone.field-0) c.deref.result.now c.new.ensures.format c.new.ensures.header
     c.new.ensures.message
     (header_is source.number c.len.result (length source.tables.items) c.args.number c.in_ok-clone.field-0
     (table_of source.priority g.cut) many table)

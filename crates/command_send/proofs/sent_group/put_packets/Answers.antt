@@ -1,8 +1,12 @@
-use Rattle.std.proofs.Common.{refl, subst}
+use Rattle.std.proofs.Common.{◌≡◌, refl, subst, sym}
 use Rattle.pet_base.specs.laws.Through.{on_any_err}
 use Rattle.std.specs.Prelude.{OnErr}
-use Rattle.packet_session.specs.Encoding.{Encoding}
-use Rattle.packet_session.specs.Datagrams.{group_datagrams}
+use Rattle.field_elements.specs.Gf16.{gf16_coding}
+use Rattle.stripe_plan.specs.declared.bounds.TheConstants.{BOUNDS}
+use Rattle.packet_frame.specs.Format.{IsFormat}
+use Rattle.packet_frame.specs.laws.Formats.{format_is}
+use Rattle.packet_encoder.specs.CodedGroup.{CodedGroup}
+use Rattle.packet_session.specs.Datagrams.{group_datagrams, group_datagrams_in}
 use Rattle.command_send.specs.Sending.{encoding_of}
 use Rattle.outside_routes.specs.Sending.{SendsPart}
 use Rattle.outside_routes.specs.laws.SendingLaws.{part_nothing}
@@ -20,8 +24,16 @@ returns-in_err-encoder-clause-part g c =
 
 pub returns-clause-part : goal.returns-clause-part
 returns-clause-part g c =
-    subst (λ (e : Encoding). OnErr c.put_group.result
-    (SendsPart (way_of c.args.job.now.to) (group_datagrams e)
+    subst (λ (e : CodedGroup). OnErr c.put_group.result
+    (SendsPart (way_of c.args.job.now.to) (group_datagrams_in e.format gf16_coding e.encoding)
     (lent c.args.outside.now)
     (routes g.P.Place g.K.Link c.put_group.new.place c.put_group.new.link))) c.in_ok-encoder.ensures
     c.put_group.ensures.part
+
+pub put_group-requires-clause-format : goal.put_group-requires-clause-format
+put_group-requires-clause-format g c =
+    subst (λ (e : CodedGroup). IsFormat e.format) (sym c.in_ok-encoder.ensures) format_is
+
+pub put_group-requires-clause-bare : goal.put_group-requires-clause-bare
+put_group-requires-clause-bare g c =
+    subst (λ (e : CodedGroup). e.format.bounds.bare ≡ BOUNDS.bare) (sym c.in_ok-encoder.ensures) refl

@@ -11,13 +11,13 @@ returns-in_ok-push-clause-ok c =
     ∙ (ap (λ l. l ++ 0 ∷ []) c.in_ok-append_layer.ensures.ok
     ∙ (append_assoc c.args.into.now.items bytes (0 ∷ [])
     ∙ ap (λ l. c.args.into.now.items ++ l) (sym
-    (padded_odd bytes c.args.len (c.requires.len
-    ∙ sym (layer_size c.args.stream.now c.args.runs.now c.args.layer c.requires.inside)) c.if-len-eq1.true))))
+    (padded_odd c.args.word bytes c.args.len (c.requires.len
+    ∙ sym (layer_size c.args.stream.now c.args.runs.now c.args.layer c.requires.inside)) c.if-len-word-eq1.true))))
 
-pub returns-else-len-eq1-clause-ok : goal.returns-else-len-eq1-clause-ok
-returns-else-len-eq1-clause-ok c =
+pub returns-else-len-word-eq1-clause-ok : goal.returns-else-len-word-eq1-clause-ok
+returns-else-len-word-eq1-clause-ok c =
     let bytes = layer_bytes c.args.stream.now c.args.runs.now c.args.layer in
     c.in_ok-append_layer.ensures.ok
     ∙ ap (λ l. c.args.into.now.items ++ l) (sym
-    (padded_even bytes c.args.len (c.requires.len
-    ∙ sym (layer_size c.args.stream.now c.args.runs.now c.args.layer c.requires.inside)) c.if-len-eq1.false))
+    (padded_even c.args.word bytes c.args.len (c.requires.len
+    ∙ sym (layer_size c.args.stream.now c.args.runs.now c.args.layer c.requires.inside)) c.if-len-word-eq1.false))

@@ -23,13 +23,13 @@ loop-first-init g c =
 
 pub returns-in_err-put_range-clause-part : goal.returns-in_err-put_range-clause-part
 returns-in_err-put_range-clause-part g c =
-    let e = c.args.encoder.now in
+    let e = c.args.encoder.now.encoding in
     let packets : c.packets-packets.result ≡ e.header.table.packets =
     c.packets-packets.ensures.value ∙ ap (λ (h : Header). h.table.packets) c.header.ensures.value in
     let within : c.loop-first.first + c.min-count.result ≤ e.header.table.packets =
     omega (arith, c.min-count.ensures, c.from.ensures, c.loop-first.invariant.within, packets) in
     on_any_err c.from_residual.result
-    (part_range (way_of c.args.to) e c.loop-first.first c.min-count.result e.header.table.packets
+    (part_range c.args.encoder.now.format g.F.Field.coding (way_of c.args.to) e c.loop-first.first c.min-count.result e.header.table.packets
     (routes g.P.Place g.K.Link c.args.place.now c.args.link.now)
     (routes g.P.Place g.K.Link c.loop-first.place c.loop-first.link)
     (routes g.P.Place g.K.Link c.put_range.new.place c.put_range.new.link)
@@ -37,7 +37,7 @@ returns-in_err-put_range-clause-part g c =
 
 pub returns-in_err-put_range-clause-cost : goal.returns-in_err-put_range-clause-cost
 returns-in_err-put_range-clause-cost g c =
-    let e = c.args.encoder.now in
+    let e = c.args.encoder.now.encoding in
     let words = length (needs_of e.header.table.layers) in
     let packets : c.packets-packets.result ≡ e.header.table.packets =
     c.packets-packets.ensures.value ∙ ap (λ (h : Header). h.table.packets) c.header.ensures.value in
@@ -53,14 +53,14 @@ returns-in_err-put_range-clause-cost g c =
 
 pub loop-first-preserved : goal.loop-first-preserved
 loop-first-preserved g c =
-    let e = c.args.encoder.now in
+    let e = c.args.encoder.now.encoding in
     let first = routes g.P.Place g.K.Link c.args.place.now c.args.link.now in
     let before = routes g.P.Place g.K.Link c.loop-first.place c.loop-first.link in
     let after = routes g.P.Place g.K.Link c.put_range.new.place c.put_range.new.link in
     record {
       within = omega (arith, c.min-count.ensures, c.from.ensures, c.loop-first.invariant.within);
       sends =
-          sends_range (way_of c.args.to) e c.loop-first.first c.min-count.result first before after
+          sends_range c.args.encoder.now.format g.F.Field.coding (way_of c.args.to) e c.loop-first.first c.min-count.result first before after
           c.loop-first.invariant.others.place.target c.loop-first.invariant.sends c.in_ok-put_range.ensures.sends;
       others = grows_then first before after c.loop-first.invariant.others c.put_range.ensures.others;
       calm_place = c.in_ok-put_range.ensures.once_place ∙ c.loop-first.invariant.calm_place;

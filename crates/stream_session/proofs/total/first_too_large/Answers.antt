@@ -7,8 +7,9 @@ use Rattle.stream_session.proofs.total.first_too_large.Goals as goal
 pub loop-group-init : goal.loop-group-init
 loop-group-init c =
     record {
-      rest = above_from_start c.args.limit (map table_cost c.args.tables.now);
+      rest = above_from_start c.args.limit (map (table_cost c.args.word) c.args.tables.now);
       fits = omega arith;
-      most = c.requires;
+      most = c.requires.limit;
       each = omega arith;
+      word = c.requires.word;
     }

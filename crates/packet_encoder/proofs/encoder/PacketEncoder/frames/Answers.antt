@@ -3,7 +3,7 @@ use Rattle.std.proofs.lemmas.List.{append-nil}
 use Rattle.stripe_plan.specs.Layers.{plan_stripes}
 use Rattle.packet_frame.specs.declared.frame.Header.{Header}
 use Rattle.packet_session.specs.Encoding.{values_at}
-use Rattle.packet_encoder.specs.CodedGroup.{frames_by}
+use Rattle.packet_session.specs.Encoding.{frames_text_in}
 use Rattle.packet_encoder.proofs.Ranges.{row_at, row_room, text_more, ranges_more}
 use Rattle.packet_encoder.proofs.encoder.PacketEncoder.frames.Goals as goal
 
@@ -99,7 +99,7 @@ pub returns-clause-ok : goal.returns-clause-ok
 returns-clause-ok g c =
     let all : c.loop-p.p ≡ c.args.count = omega arith in
     c.loop-p.invariant.so_far
-    ∙ ap₂ (λ t n. t ++ frames_by c.args.self.now.format g.F.Field.coding c.args.self.now.encoding c.args.first n)
+    ∙ ap₂ (λ t n. t ++ frames_text_in c.args.self.now.format g.F.Field.coding c.args.self.now.encoding c.args.first n)
     c.reserve.ensures.items all
 
 pub returns-clause-ranges : goal.returns-clause-ranges

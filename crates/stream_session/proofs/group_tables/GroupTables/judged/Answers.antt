@@ -1,19 +1,27 @@
--- No group is too wide.
+-- No group is too long, and none too wide.
 use Rattle.std.proofs.Common.{◌∙◌, Some, None, ap, map}
+use Rattle.std.proofs.lemmas.Result.{err_from_is_err_and}
 use Rattle.stream_session.specs.Refusals.{first_above}
 use Rattle.stream_session.specs.inside.Planning.{table_cost}
-use Rattle.stream_session.proofs.Planned.{judged_large, no_fault}
+use Rattle.stream_session.proofs.Planned.{judged_large}
 use Rattle.stream_session.proofs.group_tables.GroupTables.judged.Goals as goal
 
-pub returns-in-Some-first_too_large-clause-refused : goal.returns-in-Some-first_too_large-clause-refused
-returns-in-Some-first_too_large-clause-refused c priority cuts h =
-    let is = c.in-Some-first_too_large.ensures
-    ∙ ap (λ ts. first_above c.args.limit 0 (map table_cost ts)) c.deref.ensures.value in
-    judged_large c.args.limit c.args.self priority cuts (Some c.in-Some-first_too_large.group)
-    (no_fault c.args.self.wide c.in_default.not-Some) is h
+pub returns-in_err-tables-clause-refused : goal.returns-in_err-tables-clause-refused
+returns-in_err-tables-clause-refused c =
+    let r = err_from_is_err_and c.from_residual.result c.from_residual.ensures.1 in
+    rw (r.1, r.2) (λ ne priority cuts h. c.in_err-tables.ensures.refused ne c.args.limit priority cuts h)
 
-pub returns-in-None-clause-tables : goal.returns-in-None-clause-tables
-returns-in-None-clause-tables c priority cuts h =
-    let none = no_fault c.args.self.wide c.in_default.not-Some in
-    let is = c.in-None.ensures ∙ ap (λ ts. first_above c.args.limit 0 (map table_cost ts)) c.deref.ensures.value in
-    (judged_large c.args.limit c.args.self priority cuts None none is h, h.tables none)
+pub returns-in-Some-clause-refused : goal.returns-in-Some-clause-refused
+returns-in-Some-clause-refused c ne priority cuts h =
+    let made = c.in_ok-tables.ensures.tables priority cuts h in
+    judged_large c.args.format.now c.args.limit priority cuts _ (Some c.in-Some.group) made.0 made.1 made.2
+    (c.in-Some.ensures ∙ ap (λ ts. first_above c.args.limit 0 (map (table_cost c.args.format.now.word) ts)) c.deref.ensures.value)
+
+pub returns-clause-tables : goal.returns-clause-tables
+returns-clause-tables c priority cuts h =
+    let made = c.in_ok-tables.ensures.tables priority cuts h in (
+      judged_large c.args.format.now c.args.limit priority cuts _ None made.0 made.1 made.2
+          (c.in-None.ensures
+          ∙ ap (λ ts. first_above c.args.limit 0 (map (table_cost c.args.format.now.word) ts)) c.deref.ensures.value),
+      made.2,
+    )

@@ -9,5 +9,5 @@ returns c =
     sym c.group.view_is in
     keeps_group c.args.self.now _ c.args.group.now
     (record { cut = c.group.inside.cut; bytes = c.group.inside.bytes.items }) is
-    c.in_ok-keep.ensures (pushed c.args.self.now.marks.items _ c.of.result c.deref.result.now
+    c.in_ok-keep.ensures.kept (pushed c.args.self.now.marks.items _ c.of.result c.deref.result.now
     c.group.inside.bytes.items c.of.ensures c.deref.ensures.value c.in_ok-push.ensures.items)

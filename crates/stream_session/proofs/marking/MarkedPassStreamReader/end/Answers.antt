@@ -27,5 +27,5 @@ returns-in-Ok-clause-refused c =
 
 pub returns-in-Err-clause-refused : goal.returns-in-Err-clause-refused
 returns-in-Err-clause-refused c priority file stream held =
-    c.stream_fault.ensures priority stream
+    c.stream_fault.ensures priority stream held.has_kept.are_kept.has_tables.needs
     (c.in-Err.ensures.refused priority stream held.has_kept.given held.has_kept.cut)

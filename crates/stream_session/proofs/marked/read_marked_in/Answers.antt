@@ -1,5 +1,5 @@
 use Rattle.stream_session.proofs.Sourced.{source_by}
-use Rattle.stream_session.proofs.marked.read_marked.Goals as goal
+use Rattle.stream_session.proofs.marked.read_marked_in.Goals as goal
 
 pub returns-clause-source : goal.returns-clause-source
 unfolding source_by
