@@ -1,0 +1,20 @@
+use Rattle.outside_disk.proofs.MemoryCalls.{same_torn, done_torn, kept_torn}
+use Rattle.outside_disk.proofs.memory.MemoryDiskDisk.write_at.Goals as goal
+
+pub returns-then-count-clause-images : goal.returns-then-count-clause-images
+returns-then-count-clause-images c = same_torn _ _ c.args.self.now
+
+pub returns-in-Ok-clause-images : goal.returns-in-Ok-clause-images
+returns-in-Ok-clause-images c = let d = c.in-Ok.ensures.done in
+    done_torn _ _ d.0 c.args.self.now c.write.new.self d.1 (record { first = d.2.first; events = d.2.events })
+
+pub returns-in-Err-clause-images : goal.returns-in-Err-clause-images
+returns-in-Err-clause-images c =
+    kept_torn _ _ c.args.self.now c.write.new.self
+    (record {
+      first = c.in-Err.ensures.err.first;
+      current = c.in-Err.ensures.err.current;
+      synced =
+          c.in-Err.ensures.err.synced;
+      events = c.in-Err.ensures.err.events;
+    })

@@ -1,0 +1,6 @@
+pub mod Text
+pub mod AtRest
+pub mod Receives
+pub mod Opening
+pub mod inside
+pub mod laws
