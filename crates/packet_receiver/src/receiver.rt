@@ -228,10 +228,12 @@ impl<'f, F: Rows> PacketReceiver<'f, F> {
         }
     }
 
-    /// How many groups the session has, where a packet is kept. It takes no memory.
+    /// How many groups the session has, where a packet is kept. Whatever a receiver holds is a kept set, and stands for an order
+    /// of arrival. It takes no memory.
     pub fn groups(&self) -> Option<u32>
         ensures value { result ≡ told_by (kept_set self.now) }
         ensures sound { IsKeptSetBy F.coding.width (kept_set self.now) }
+        ensures stands { (order : Order) × HasKept F.is_element F.coding self.now order }
     {
         self.told
     }

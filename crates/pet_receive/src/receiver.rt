@@ -153,10 +153,12 @@ impl<'f, F: Rows> Receiver<'f, F> {
         self.core.header(group)
     }
 
-    /// How many groups the session has, where a packet is kept. It takes no memory.
+    /// How many groups the session has, where a packet is kept. Whatever a receiver holds is a kept set, and stands for an order
+    /// of arrival. It takes no memory.
     pub fn groups(&self) -> Option<u32>
         ensures value { result ≡ told_by (kept_set self.now) }
         ensures sound { IsKeptSet (kept_set self.now) }
+        ensures stands { (order : Order) × HasKept F.is_element F.coding self.now order }
     {
         self.core.groups()
     }

@@ -3,9 +3,10 @@ ghost use Rattle.std.specs.Prelude.{◌≡◌, ◌<◌};
 
 use crate::group_fixtures::{MESSAGE, header_of};
 use outside_routes::{Route, RouteStop, open_route};
+use packet_encoder::PacketEncoder;
+use packet_frame::FORMAT;
 use packet_sending::put_group;
 use pet_base::{MemoryLink, MemoryPlace, Steps};
-use pet_encode::Encoder;
 use pet_field::Gf16Tables;
 use std::alloc::{AllocError, Global};
 use std::marker::Brand;
@@ -43,12 +44,13 @@ fn send_example<L: Ledger>(
     to: Route<'_>,
     place: &mut MemoryPlace,
     link: &mut MemoryLink,
-    encoder: &Encoder<'_, Gf16Tables>,
+    encoder: &PacketEncoder<'_, Gf16Tables>,
     blank: Blank,
 ) -> Result<(), RouteStop>
     requires name { blank.name ≡ L.name }
     requires parts { blank.parts ≡ L.parts }
     requires some { 0 < blank.parts }
+    requires format { encoder.now.format ≡ FORMAT }
 {
     let mut steps = Steps::<L>::new(blank);
     open_route(to, place, link)?;
@@ -73,7 +75,13 @@ fn are_first(sent: &[Vec<u8>], many: usize) -> bool {
 }
 
 /// Whether the packets of the group are sent as this row says.
-fn sends(alloc: Global, encoder: &Encoder<'_, Gf16Tables>, row: &Row) -> Result<bool, AllocError> {
+fn sends(
+    alloc: Global,
+    encoder: &PacketEncoder<'_, Gf16Tables>,
+    row: &Row,
+) -> Result<bool, AllocError>
+    requires { encoder.now.format ≡ FORMAT }
+{
     let mut place = MemoryPlace::new(alloc, Vec::from_slice(alloc, row.1[0])?);
     let mut link = MemoryLink::new(alloc, Vec::new(alloc), Vec::from_slice(alloc, row.1[1])?);
     let blank = Blank::new(1);
@@ -89,7 +97,7 @@ fn first_other(alloc: Global, rows: &[Row]) -> Result<Option<usize>, Fail> {
     if header.table.words() != 35 {
         return Ok(Some(rows.len()));
     }
-    let encoder = Encoder::new(alloc, &field, header, &MESSAGE)?;
+    let encoder = PacketEncoder::new(alloc, &field, FORMAT, header, &MESSAGE)?;
     for row in 0..rows.len() {
         if !sends(alloc, &encoder, &rows[row]).unwrap_or(false) {
             return Ok(Some(row));

@@ -1,0 +1,5 @@
+pub mod Message
+pub mod Making
+pub mod Repairs
+pub mod Rebuilding
+pub mod laws

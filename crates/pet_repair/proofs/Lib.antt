@@ -1,0 +1,4 @@
+pub mod HandedOn
+pub mod SentGroups
+pub mod RepairEnds
+pub mod WholeSent

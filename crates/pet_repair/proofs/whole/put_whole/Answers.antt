@@ -1,0 +1,68 @@
+use Rattle.std.proofs.Common.{◌≡◌, ◌+◌, ◌≤◌, refl, ap, arith, ◌∙◌}
+use Rattle.pet_base.specs.laws.Through.{on_any_err}
+use Rattle.packet_frame.specs.declared.frame.Header.{Header}
+use Rattle.outside_routes.specs.Sending.{routes}
+use Rattle.outside_routes.specs.Way.{way_of}
+use Rattle.outside_routes.specs.laws.SendingLaws.{sends_nothing, part_nothing, grows_same, grows_then, grows_open}
+use Rattle.pet_repair.specs.inside.Groups.{range_datagrams}
+use Rattle.pet_repair.proofs.WholeSent.{sends_range, part_range}
+use Rattle.pet_repair.proofs.whole.put_whole.Goals as goal
+
+pub loop-first-init : goal.loop-first-init
+loop-first-init g c =
+    let r = routes g.P.Place g.K.Link c.args.place.now c.args.link.now in
+    record {
+      within = omega arith;
+      sends = sends_nothing (way_of c.args.to) r r refl refl;
+      others = grows_same r;
+      calm_place = refl;
+      calm_link = refl;
+    }
+
+pub returns-in_err-make_range-clause-part : goal.returns-in_err-make_range-clause-part
+returns-in_err-make_range-clause-part g c =
+    let e = c.args.encoder.now in
+    let packets : c.packets-packets.result ≡ e.header.table.packets =
+    c.packets-packets.ensures.value ∙ ap (λ (h : Header). h.table.packets) c.header.ensures.value in
+    let before = routes g.P.Place g.K.Link c.loop-first.place c.loop-first.link in
+    on_any_err c.from_residual.result
+    (part_range (way_of c.args.to) e c.loop-first.first 0 e.header.table.packets
+    (routes g.P.Place g.K.Link c.args.place.now c.args.link.now) before before
+    (omega (arith, c.loop-first.invariant.within, packets)) c.loop-first.invariant.others.place.target
+    c.loop-first.invariant.sends
+    (part_nothing (way_of c.args.to) (range_datagrams e c.loop-first.first 0) before before refl refl))
+
+pub put_range-requires-clause-open : goal.put_range-requires-clause-open
+put_range-requires-clause-open g c =
+    grows_open (way_of c.args.to) (routes g.P.Place g.K.Link c.args.place.now c.args.link.now)
+    (routes g.P.Place g.K.Link c.loop-first.place c.loop-first.link) c.loop-first.invariant.others c.requires.open
+
+pub returns-in_err-put_range-clause-part : goal.returns-in_err-put_range-clause-part
+returns-in_err-put_range-clause-part g c =
+    let e = c.args.encoder.now in
+    let packets : c.packets-packets.result ≡ e.header.table.packets =
+    c.packets-packets.ensures.value ∙ ap (λ (h : Header). h.table.packets) c.header.ensures.value in
+    let within : c.loop-first.first + c.min-count.result ≤ e.header.table.packets =
+    omega (arith, c.min-count.ensures, c.from.ensures, c.loop-first.invariant.within, packets) in
+    on_any_err c.from_residual-in_err-put_range.result
+    (part_range (way_of c.args.to) e c.loop-first.first c.min-count.result e.header.table.packets
+    (routes g.P.Place g.K.Link c.args.place.now c.args.link.now)
+    (routes g.P.Place g.K.Link c.loop-first.place c.loop-first.link)
+    (routes g.P.Place g.K.Link c.put_range.new.place c.put_range.new.link)
+    within c.loop-first.invariant.others.place.target c.loop-first.invariant.sends c.in_err-put_range.ensures.part)
+
+pub loop-first-preserved : goal.loop-first-preserved
+loop-first-preserved g c =
+    let e = c.args.encoder.now in
+    let first = routes g.P.Place g.K.Link c.args.place.now c.args.link.now in
+    let before = routes g.P.Place g.K.Link c.loop-first.place c.loop-first.link in
+    let after = routes g.P.Place g.K.Link c.put_range.new.place c.put_range.new.link in
+    record {
+      within = omega (arith, c.min-count.ensures, c.from.ensures, c.loop-first.invariant.within);
+      sends =
+          sends_range (way_of c.args.to) e c.loop-first.first c.min-count.result first before after
+          c.loop-first.invariant.others.place.target c.loop-first.invariant.sends c.in_ok-put_range.ensures.sends;
+      others = grows_then first before after c.loop-first.invariant.others c.put_range.ensures.others;
+      calm_place = c.in_ok-put_range.ensures.once_place ∙ c.loop-first.invariant.calm_place;
+      calm_link = c.in_ok-put_range.ensures.once_link ∙ c.loop-first.invariant.calm_link;
+    }

@@ -1,0 +1,3 @@
+pub mod SessionRelay
+pub mod RepairLaws
+pub mod SessionRepaired

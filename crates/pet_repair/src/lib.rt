@@ -1,0 +1,15 @@
+//! The command `repair`: a complete group gives back every packet.
+//!
+//! It reads a store and sends, of each group all of whose layers are shown, all its packets. What it leaves at each of its ends stands
+//! in `specs/Repairs.antt`; over packets of one session that is all packets of the session's complete groups. The encoder of a kept
+//! group, and the check of what is kept against it, are those of `packet_rebuild`.
+#![tactic(auto)]
+
+mod repair;
+mod repairing;
+mod route;
+mod sending;
+mod whole;
+
+pub use packet_rebuild::{RepairFault, encoder_of, first_unlike};
+pub use repair::{RepairEnd, repair_loop};
