@@ -1,5 +1,5 @@
 -- The command words, this project's own.
-use Rattle.std.specs.Prelude.{ℕ, ◌+◌, ◌-◌, ◌*◌, ◌&&◌, ◌==◌, not, nat_le, nat_lt, nat_eq, Bool, List, [], ◌∷◌, length}
+use Rattle.std.specs.Prelude.{ℕ, ◌+◌, ◌-◌, ◌*◌, ◌&&◌, ◌==◌, not, nat_le, nat_lt, nat_eq, Bool, true, List, [], ◌∷◌, length}
 use Rattle.std.specs.Prelude.{drop, map, Option, None, Some, option_map, codes, String, string_bytes, if◌then◌else◌}
 use Rattle.std.specs.List.{starts_with}
 use Rattle.std.specs.Str.{bytes_eq}
@@ -66,75 +66,10 @@ bytes_of (c ∷ d ∷ word) = byte_before (byte_of (digit_of c) (digit_of d)) (b
 abbrev pub session_of : List ℕ → Option (List ℕ)
 session_of word = if length word == 16 then bytes_of word else None
 
--- `plan STREAM PRIORITY`: two files that are read
-abbrev pub plan_of : List ℕ → List ℕ → Option Command
-plan_of stream priority = if is_name stream && is_name priority then Some (Plan stream priority) else None
-
--- `check STREAM PRIORITY PLAN`: three files that are read
-abbrev pub check_of : List ℕ → List ℕ → List ℕ → Option Command
-check_of stream priority plan =
-    if is_name stream && (is_name priority && is_name plan) then Some (Check stream priority plan) else None
-
--- two files that are read, and another file that is written, or an address
-abbrev pub send_files : List ℕ → List ℕ → End → Bool
-send_files stream priority (File to) =
-    is_name stream && (is_name priority && (not (bytes_eq to stream) && not (bytes_eq to priority)))
-send_files stream priority (Udp address) = is_name stream && is_name priority
-
--- `send STREAM PRIORITY TO`: two files that are read, and where the datagrams go to
-abbrev pub send_of : List ℕ → List ℕ → Option End → Option Command
-send_of stream priority None = None
-send_of stream priority (Some to) = if send_files stream priority to then Some (Send stream priority to) else None
-
--- two files that are written, each another than the other, and than a file that is read
-abbrev pub receive_files : End → List ℕ → List ℕ → Bool
-receive_files (File from) layers store =
-    is_name layers
-    && (is_name store && (not (bytes_eq from layers) && (not (bytes_eq from store) && not (bytes_eq layers store))))
-receive_files (Udp address) layers store = is_name layers && (is_name store && not (bytes_eq layers store))
-
--- `receive FROM SESSION LAYERS STORE`: where the datagrams come from, a session number, and two files that are written
-abbrev pub receive_of : Option End → Option (List ℕ) → List ℕ → List ℕ → Option Command
-receive_of None session layers store = None
-receive_of (Some from) None layers store = None
-receive_of (Some from) (Some session) layers store =
-    if receive_files from layers store then Some (Receive from session layers store) else None
-
--- `merge STORE STORE OUT`: two files that are read, maybe one and the same, and another file that is written
-abbrev pub merge_of : List ℕ → List ℕ → List ℕ → Option Command
-merge_of first second out =
-    if is_name first && (is_name second && (is_name out && (not (bytes_eq out first) && not (bytes_eq out second))))
-    then Some (Merge first second out)
-    else None
-
--- `video STORE OUT`: a file that is read, and another file that is written
-abbrev pub video_of : List ℕ → List ℕ → Option Command
-video_of store out = if is_name store && (is_name out && not (bytes_eq out store)) then Some (Video store out) else None
-
 -- the id of a video: `e0` to `ef`
 abbrev pub id_of : List ℕ → Option ℕ
 id_of (c ∷ d ∷ []) = if c == 101 then option_map (λ low. 0xE0 + low) (digit_of d) else None
 id_of _ = None
-
--- `unwrap FILE ID OUT`: a file that is read, the id of a video in it, and another file that is written
-abbrev pub unwrap_of : List ℕ → Option ℕ → List ℕ → Option Command
-unwrap_of file None out = None
-unwrap_of file (Some id) out =
-    if is_name file && (is_name out && not (bytes_eq out file)) then Some (Unwrap file id out) else None
-
--- `wrap FILE OUT`: a file that is read, and another file that is written
-abbrev pub wrap_of : List ℕ → List ℕ → Option Command
-wrap_of file out = if is_name file && (is_name out && not (bytes_eq out file)) then Some (Wrap file out) else None
-
--- `migrate STORE OUT`: a store of the first version that is read, and another file that is written
-abbrev pub migrate_of : List ℕ → List ℕ → Option Command
-migrate_of store out =
-    if is_name store && (is_name out && not (bytes_eq out store)) then Some (Migrate store out) else None
-
--- `replay STREAM PRIORITY SCRIPT`: three files that are read
-abbrev pub replay_of : List ℕ → List ℕ → List ℕ → Option Command
-replay_of stream priority script =
-    if is_name stream && (is_name priority && is_name script) then Some (Replay stream priority script) else None
 
 -- a decimal number below 2^64, without leading zeros
 abbrev pub plain_number : List ℕ → Option ℕ
@@ -148,29 +83,88 @@ some_groups (Some groups) = if nat_le 1 groups && nat_le groups MAX_SAMPLE_GROUP
 abbrev pub groups_of : List ℕ → Option ℕ
 groups_of word = some_groups (plain_number word)
 
--- `sample SEED GROUPS`: a seed, and how many groups
+-- a file that is read, and another that is written
+abbrev pub other_files : List ℕ → List ℕ → Bool
+other_files file out = is_name file && (is_name out && not (bytes_eq out file))
+
+-- three files that are read
+abbrev pub three_files : List ℕ → List ℕ → List ℕ → Bool
+three_files first second third = is_name first && (is_name second && is_name third)
+
+-- two files that are read, and another file that is written, or an address
+abbrev pub send_files : List ℕ → List ℕ → End → Bool
+send_files stream priority (File to) =
+    is_name stream && (is_name priority && (not (bytes_eq to stream) && not (bytes_eq to priority)))
+send_files stream priority (Udp address) = is_name stream && is_name priority
+
+-- two files that are written, each another than the other, and than a file that is read
+abbrev pub receive_files : End → List ℕ → List ℕ → Bool
+receive_files (File from) layers store =
+    is_name layers
+    && (is_name store && (not (bytes_eq from layers) && (not (bytes_eq from store) && not (bytes_eq layers store))))
+receive_files (Udp address) layers store = is_name layers && (is_name store && not (bytes_eq layers store))
+
+-- two files that are read, maybe one and the same, and another file that is written
+abbrev pub merge_files : List ℕ → List ℕ → List ℕ → Bool
+merge_files first second out =
+    is_name first && (is_name second && (is_name out && (not (bytes_eq out first) && not (bytes_eq out second))))
+
+-- the files of a command have names, and a file that is written has another name than each other file of it
+abbrev pub names_files : Command → Bool
+names_files (Plan stream priority) = is_name stream && is_name priority
+names_files (Check stream priority plan) = three_files stream priority plan
+names_files (Send stream priority to) = send_files stream priority to
+names_files (Receive from session layers store) = receive_files from layers store
+names_files (Merge first second out) = merge_files first second out
+names_files (Video store out) = other_files store out
+names_files (Unwrap file id out) = other_files file out
+names_files (Wrap file out) = other_files file out
+names_files (Migrate store out) = other_files store out
+names_files (Replay stream priority script) = three_files stream priority script
+names_files (Sample seed groups) = true
+
+-- the command, where it so names its files
+abbrev pub if_named : Command → Option Command
+if_named command = if names_files command then Some command else None
+
+-- `send STREAM PRIORITY TO`
+abbrev pub send_of : List ℕ → List ℕ → Option End → Option Command
+send_of stream priority None = None
+send_of stream priority (Some to) = if_named (Send stream priority to)
+
+-- `receive FROM SESSION LAYERS STORE`
+abbrev pub receive_of : Option End → Option (List ℕ) → List ℕ → List ℕ → Option Command
+receive_of None session layers store = None
+receive_of (Some from) None layers store = None
+receive_of (Some from) (Some session) layers store = if_named (Receive from session layers store)
+
+-- `unwrap FILE ID OUT`
+abbrev pub unwrap_of : List ℕ → Option ℕ → List ℕ → Option Command
+unwrap_of file None out = None
+unwrap_of file (Some id) out = if_named (Unwrap file id out)
+
+-- `sample SEED GROUPS`
 abbrev pub sample_of : Option ℕ → Option ℕ → Option Command
 sample_of None groups = None
 sample_of (Some seed) None = None
-sample_of (Some seed) (Some groups) = Some (Sample seed groups)
+sample_of (Some seed) (Some groups) = if_named (Sample seed groups)
 
--- The command of the words, where they have the form of one. Datagrams are received at any port, also at one that is to
--- be
+-- The command of the words, where they have the form of one. Datagrams are received at any port, also at one that is to be
 -- found, which is port 0; they are sent to a port of another number.
 abbrev pub command_of : List (List ℕ) → Option Command
 command_of (word ∷ first ∷ second ∷ []) =
-    if bytes_eq word (codes "plan") then plan_of first second
-    else if bytes_eq word (codes "video") then video_of first second
-    else if bytes_eq word (codes "wrap") then wrap_of first second
-    else if bytes_eq word (codes "migrate") then migrate_of first second
+    if bytes_eq word (codes "plan") then if_named (Plan first second)
+    else if bytes_eq word (codes "video") then if_named (Video first second)
+    else if bytes_eq word (codes "wrap") then if_named (Wrap first second)
+    else if bytes_eq word (codes "migrate") then if_named (Migrate first second)
     else if bytes_eq word (codes "sample") then sample_of (plain_number first) (groups_of second)
     else None
 command_of (word ∷ first ∷ second ∷ third ∷ []) =
-    if bytes_eq word (codes "check") then check_of first second third
+    if bytes_eq word (codes "check") then if_named (Check first second third)
     else if bytes_eq word (codes "send") then send_of first second (end_of 1 third)
-    else if bytes_eq word (codes "merge") then merge_of first second third
+    else if bytes_eq word (codes "merge") then if_named (Merge first second third)
     else if bytes_eq word (codes "unwrap") then unwrap_of first (id_of second) third
-    else if bytes_eq word (codes "replay") then replay_of first second third
+    else if bytes_eq word (codes "replay") then if_named (Replay first second third)
     else None
 command_of (word ∷ first ∷ second ∷ third ∷ fourth ∷ []) =
     if bytes_eq word (codes "receive") then receive_of (end_of 0 first) (session_of second) third fourth else None

@@ -1,3 +1,1 @@
 pub mod WordLaws
-pub mod WrittenFileLaws
-pub mod NumberLaws

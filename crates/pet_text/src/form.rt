@@ -1,7 +1,8 @@
 //! What the words of a command give, before their texts are copied.
-ghost use Rattle.std.specs.Prelude.{◌≡◌, ◌&&◌, not, [], ◌∷◌, option_map};
+ghost use Rattle.std.specs.Prelude.{◌≡◌, [], ◌∷◌, option_map};
 ghost use Rattle.std.specs.Str.{bytes_eq};
-ghost use Rattle.pet_text.specs.Words.{is_name, texts_of, end_of, session_of, plan_of, check_of, send_files, send_of, receive_files, receive_of, merge_of, video_of, id_of, unwrap_of, wrap_of, migrate_of, replay_of, plain_number, groups_of, sample_of, command_of};
+ghost use Rattle.pet_text.specs.Words.{texts_of, end_of, session_of, id_of, plain_number, groups_of, send_files, receive_files, merge_files, if_named, send_of, receive_of, unwrap_of, sample_of, command_of};
+ghost use Rattle.pet_text.specs.declared.words.Command.TheVariants.{Plan, Check, Merge, Video, Wrap, Migrate, Replay};
 ghost use Rattle.pet_text.specs.inside.Forms.{command_in};
 ghost use Rattle.pet_text.specs.Ends.{end_in};
 
@@ -148,7 +149,7 @@ fn four_words<'a>(
 
 /// The words behind `plan`.
 fn plan_words<'a>(stream: &'a str, priority: &'a str) -> Option<Form<'a>>
-    ensures { option_map command_in result ≡ plan_of stream.now priority.now }
+    ensures { option_map command_in result ≡ if_named (Plan stream.now priority.now) }
 {
     if stream.is_empty() || priority.is_empty() {
         return None;
@@ -158,7 +159,7 @@ fn plan_words<'a>(stream: &'a str, priority: &'a str) -> Option<Form<'a>>
 
 /// The words behind `check`.
 fn check_words<'a>(stream: &'a str, priority: &'a str, plan: &'a str) -> Option<Form<'a>>
-    ensures { option_map command_in result ≡ check_of stream.now priority.now plan.now }
+    ensures { option_map command_in result ≡ if_named (Check stream.now priority.now plan.now) }
 {
     if stream.is_empty() || priority.is_empty() || plan.is_empty() {
         return None;
@@ -236,7 +237,7 @@ fn are_receive_files(from: Route<'_>, layers: &str, store: &str) -> bool
 
 /// The words behind `merge`.
 fn merge_words<'a>(first: &'a str, second: &'a str, out: &'a str) -> Option<Form<'a>>
-    ensures { option_map command_in result ≡ merge_of first.now second.now out.now }
+    ensures { option_map command_in result ≡ if_named (Merge first.now second.now out.now) }
 {
     if !are_merge_files(first, second, out) {
         return None;
@@ -246,8 +247,7 @@ fn merge_words<'a>(first: &'a str, second: &'a str, out: &'a str) -> Option<Form
 
 /// Whether the three files have names, and the file that is written another than both that are read.
 fn are_merge_files(first: &str, second: &str, out: &str) -> bool
-    ensures { result ≡ (is_name first.now && (is_name second.now
-        && (is_name out.now && (not (bytes_eq out.now first.now) && not (bytes_eq out.now second.now))))) }
+    ensures { result ≡ merge_files first.now second.now out.now }
 {
     if first.is_empty() || second.is_empty() || out.is_empty() {
         return false;
@@ -257,7 +257,7 @@ fn are_merge_files(first: &str, second: &str, out: &str) -> bool
 
 /// The words behind `video`.
 fn video_words<'a>(store: &'a str, out: &'a str) -> Option<Form<'a>>
-    ensures { option_map command_in result ≡ video_of store.now out.now }
+    ensures { option_map command_in result ≡ if_named (Video store.now out.now) }
 {
     if store.is_empty() || out.is_empty() || same(out, store) {
         return None;
@@ -278,7 +278,7 @@ fn unwrap_words<'a>(file: &'a str, id: &str, out: &'a str) -> Option<Form<'a>>
 
 /// The words behind `wrap`.
 fn wrap_words<'a>(file: &'a str, out: &'a str) -> Option<Form<'a>>
-    ensures { option_map command_in result ≡ wrap_of file.now out.now }
+    ensures { option_map command_in result ≡ if_named (Wrap file.now out.now) }
 {
     if file.is_empty() || out.is_empty() || same(out, file) {
         return None;
@@ -288,7 +288,7 @@ fn wrap_words<'a>(file: &'a str, out: &'a str) -> Option<Form<'a>>
 
 /// The words behind `migrate`.
 fn migrate_words<'a>(store: &'a str, out: &'a str) -> Option<Form<'a>>
-    ensures { option_map command_in result ≡ migrate_of store.now out.now }
+    ensures { option_map command_in result ≡ if_named (Migrate store.now out.now) }
 {
     if store.is_empty() || out.is_empty() || same(out, store) {
         return None;
@@ -298,7 +298,7 @@ fn migrate_words<'a>(store: &'a str, out: &'a str) -> Option<Form<'a>>
 
 /// The words behind `replay`.
 fn replay_words<'a>(stream: &'a str, priority: &'a str, script: &'a str) -> Option<Form<'a>>
-    ensures { option_map command_in result ≡ replay_of stream.now priority.now script.now }
+    ensures { option_map command_in result ≡ if_named (Replay stream.now priority.now script.now) }
 {
     if stream.is_empty() || priority.is_empty() || script.is_empty() {
         return None;

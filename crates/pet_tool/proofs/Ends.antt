@@ -68,8 +68,10 @@ unlined : {failed_place failed_link : Bool} {status : Status} → of_place statu
 unlined place link = record { place = place; link = link; lined = λ some. absurd (some refl) }
 
 of_session : (fault : SessionFault) → Agrees false false [] (status_of_session fault)
+of_session (session.ManyPackets packets) = unlined refl refl
 of_session (session.GroupTooLong group) = unlined refl refl
 of_session session.TooManyGroups = unlined refl refl
+of_session (session.ByteLong group) = unlined refl refl
 of_session (session.TooWide group) = unlined refl refl
 of_session (session.TooLarge group) = unlined refl refl
 of_session session.NoMemory = unlined refl refl

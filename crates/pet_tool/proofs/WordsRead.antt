@@ -12,8 +12,7 @@ use Rattle.pet_text.specs.declared.end.End.{End}
 use Rattle.pet_text.specs.declared.end.End.TheVariants.{File, Udp}
 use Rattle.pet_text.specs.Ends.{way_in}
 use Rattle.pet_text.specs.Words.{command_of}
-use Rattle.pet_text.specs.laws.NumberLaws.{HasNumbers, has_numbers}
-use Rattle.pet_text.specs.laws.WordLaws.{send_differs}
+use Rattle.pet_text.specs.laws.WordLaws.{HasNumbers, has_form, send_differs}
 
 other_file : (stream priority : List ℕ) (end : End) (words : List (List ℕ))
     → command_of words ≡ Some (Send stream priority end) → IsOther (way_in end) stream
@@ -41,7 +40,7 @@ pub video_id_in : (words : List (List ℕ)) (command : Command) (file out : List
     → command_of words ≡ Some command
     → command ≡ Unwrap file id out → (0xE0 ≤ id) × (id ≤ 0xEF)
 video_id_in words command file out id words_are is =
-    subst HasNumbers is (has_numbers command words words_are)
+    subst HasNumbers is (has_form command words words_are).1
 
 -- the command, by the words that are handed to `unwrap`
 pub unwrap_words : (command : Command) (file : List ℕ) (id : ℕ) (out f o : List ℕ) → command ≡ Unwrap file id out
@@ -52,7 +51,7 @@ unwrap_words command file id out f o is f_is o_is =
 -- the groups of `sample` are some, and not too many
 pub groups_in : (words : List (List ℕ)) (command : Command) (seed groups : ℕ) → command_of words ≡ Some command
     → command ≡ Sample seed groups → (0 < groups) × (groups ≤ MAX_SAMPLE_GROUPS)
-groups_in words command seed groups words_are is = subst HasNumbers is (has_numbers command words words_are)
+groups_in words command seed groups words_are is = subst HasNumbers is (has_form command words words_are).1
 
 -- what `replay` does of texts that are these names
 pub replays_named : (s p f stream priority script : List ℕ) (old new : Seen) (end : ReplayEnd) → s ≡ stream

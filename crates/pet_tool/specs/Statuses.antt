@@ -36,8 +36,10 @@ use Rattle.text_status.specs.declared.status.Status.TheVariants.{Changed, Full, 
 
 -- of a session's refusal
 abbrev pub status_of_session : SessionFault → Status
+status_of_session (session.ManyPackets packets) = BadPlan kind.ManyPackets packets
 status_of_session (session.GroupTooLong group) = BadPlan kind.GroupTooLong group
 status_of_session session.TooManyGroups = BadPlan kind.TooManyGroups MAX_GROUPS
+status_of_session (session.ByteLong group) = BadPlan kind.ByteLong group
 status_of_session (session.TooWide group) = BadPlan kind.TooWide group
 status_of_session (session.TooLarge group) = BadPlan kind.TooLarge group
 status_of_session session.NoMemory = NoMemory

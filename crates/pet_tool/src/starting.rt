@@ -56,7 +56,8 @@ fn no_words(kind: ErrorKind) -> NoWords {
 
 /// Runs the command that the program's words give, over this machine and this output, and gives the output back. Words that are
 /// no text have the form of no command. What is closed of the standard streams is held meanwhile, so that no file takes its number.
-pub fn start_words<R: Env + Alloc<A = Global> + Files + Net, W: Printer + Drop>(
+/// Which file or address failed, and why, is said on standard error.
+pub fn start_words<R: Env + Alloc<A = Global> + Files + Net + Eprint, W: Printer + Drop>(
     machine: &R,
     out: W,
 ) -> (Status, W)
@@ -84,8 +85,9 @@ fn tell_no_memory<W: Printer + Drop>(out: W) -> (Status, W)
     (Status::NoMemory, out.into_writer())
 }
 
-/// Runs the command that the words give, over this machine and this output, and gives the output back.
-pub fn start<R: Files + Net, W: Printer + Drop>(
+/// Runs the command that the words give, over this machine and this output, and gives the output back. Which file or address
+/// failed, and why, is said on standard error.
+pub fn start<R: Files + Net + Eprint, W: Printer + Drop>(
     alloc: Global,
     words: &[String],
     machine: &R,
@@ -98,7 +100,7 @@ pub fn start<R: Files + Net, W: Printer + Drop>(
 }
 
 /// Runs the command, and counts its steps by this blank.
-fn run_counted<R: Files + Net, W: Printer + Drop, L: Ledger>(
+fn run_counted<R: Files + Net + Eprint, W: Printer + Drop, L: Ledger>(
     alloc: Global,
     words: &[String],
     machine: &R,
@@ -111,8 +113,8 @@ fn run_counted<R: Files + Net, W: Printer + Drop, L: Ledger>(
     ensures usage { (result.0 ≡ Status.Usage) ↔ (command_of (texts_of words.now) ≡ None) }
     ensures starts { Starts (texts_of words.now) (W.contents out) (W.contents result.1) result.0 }
 {
-    let mut place = FilePlace::new(machine);
-    let mut link = UdpLink::new(alloc, machine);
+    let mut place = FilePlace::new(machine, machine);
+    let mut link = UdpLink::new(alloc, machine, machine);
     let mut out = StandardOut::new(out);
     let mut steps = Steps::<L>::new(blank);
     let status = run(alloc, words, &mut place, &mut link, &mut out, &mut steps);

@@ -188,12 +188,16 @@ fn session_status(fault: &SessionFault) -> Status
     ensures known { result ≢ Status.Usage }
 {
     match fault {
+        SessionFault::ManyPackets(packets) => {
+            Status::BadPlan(PlanKind::ManyPackets, u64::from(*packets))
+        }
         SessionFault::GroupTooLong(group) => {
             Status::BadPlan(PlanKind::GroupTooLong, u64::from(*group))
         }
         SessionFault::TooManyGroups => {
             Status::BadPlan(PlanKind::TooManyGroups, u64::from(MAX_GROUPS))
         }
+        SessionFault::ByteLong(group) => Status::BadPlan(PlanKind::ByteLong, u64::from(*group)),
         SessionFault::TooWide(group) => Status::BadPlan(PlanKind::TooWide, u64::from(*group)),
         SessionFault::TooLarge(group) => Status::BadPlan(PlanKind::TooLarge, u64::from(*group)),
         SessionFault::NoMemory => Status::NoMemory,

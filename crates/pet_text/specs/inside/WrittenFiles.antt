@@ -3,15 +3,11 @@ use Rattle.std.specs.Prelude.{Bool, true, not, ◌&&◌}
 use Rattle.std.specs.Str.{bytes_eq}
 use Rattle.pet_text.specs.declared.end.End.TheVariants.{File, Udp}
 use Rattle.pet_text.specs.declared.words.Command.{Command}
-use Rattle.pet_text.specs.declared.words.Command.TheVariants.{Plan, Check, Send, Receive, Merge, Video, Unwrap, Wrap}
-use Rattle.pet_text.specs.declared.words.Command.TheVariants.{Migrate, Replay, Sample}
+use Rattle.pet_text.specs.declared.words.Command.TheVariants.{Send, Receive, Merge, Video, Unwrap, Wrap, Migrate}
 
 -- the name of each file that a command writes differs, as a text, from every other file name of the command
 abbrev pub writes_others : Command → Bool
-writes_others (Plan stream priority) = true
-writes_others (Check stream priority plan) = true
 writes_others (Send stream priority (File to)) = not (bytes_eq to stream) && not (bytes_eq to priority)
-writes_others (Send stream priority (Udp address)) = true
 writes_others (Receive (File from) session layers store) =
     not (bytes_eq from layers) && (not (bytes_eq from store) && not (bytes_eq layers store))
 writes_others (Receive (Udp address) session layers store) = not (bytes_eq layers store)
@@ -20,5 +16,4 @@ writes_others (Video store out) = not (bytes_eq out store)
 writes_others (Unwrap file id out) = not (bytes_eq out file)
 writes_others (Wrap file out) = not (bytes_eq out file)
 writes_others (Migrate store out) = not (bytes_eq out store)
-writes_others (Replay stream priority script) = true
-writes_others (Sample seed groups) = true
+writes_others _ = true

@@ -1,206 +1,178 @@
--- What callers know of the words of `send`: the file that is written is another than the stream.
-use Rattle.std.proofs.Common.{◌≡◌, ℕ, Bool, true, false, cond, List, [], ◌∷◌, Option, None, Some, refl, subst}
-use Rattle.std.specs.Prelude.{codes, not, ◌&&◌}
+-- What callers know of a command that words give: how it names its files, and that its numbers are in their ranges.
+use Rattle.std.proofs.Common.{◌≡◌, ℕ, ◌+◌, ◌-◌, ◌<◌, ◌≤◌, Bool, true, false, cond, List, [], ◌∷◌, Option, None, Some, refl}
+use Rattle.std.proofs.Common.{subst, arith}
+use Rattle.std.specs.Prelude.{codes, not, ◌&&◌, ◌==◌, nat_le, option_map}
 use Rattle.std.specs.Str.{bytes_eq}
-use Rattle.std.proofs.lemmas.Bool.{and_parts}
+use Rattle.std.proofs.lemmas.Bool.{and_parts, leb-true}
+use Rattle.pet_base.specs.declared.limits.TheConstants.{MAX_SAMPLE_GROUPS}
 use Rattle.pet_text.specs.declared.end.End.{End}
 use Rattle.pet_text.specs.declared.end.End.TheVariants.{File, Udp}
+use Rattle.pet_text.specs.declared.words.Command.{Command}
 use Rattle.pet_text.specs.declared.words.Command.TheVariants.{Plan, Check, Send, Receive, Merge, Video, Unwrap, Wrap}
-use Rattle.pet_text.specs.declared.words.Command.TheVariants.{Migrate, Replay}
-use Rattle.pet_text.specs.Words.{is_name, plan_of, check_of, send_of, send_files, receive_files, receive_of, merge_of}
-use Rattle.pet_text.specs.Words.{video_of, unwrap_of, wrap_of, migrate_of, id_of, end_of, session_of, replay_of}
-use Rattle.pet_text.specs.Words.{plain_number, groups_of, sample_of, command_of}
+use Rattle.pet_text.specs.declared.words.Command.TheVariants.{Migrate, Replay, Sample}
+use Rattle.pet_text.specs.Words.{is_name, digit_of, end_of, session_of, id_of, some_groups, plain_number, groups_of}
+use Rattle.pet_text.specs.Words.{names_files, if_named, send_of, receive_of, unwrap_of, sample_of, command_of}
+use Rattle.pet_text.specs.inside.WrittenFiles.{writes_others}
+
+-- the id of `unwrap` is that of a video, from E0 to EF, and the groups of `sample` are from 1 to 100
+abbrev pub HasNumbers : Command → Type 0
+HasNumbers (Unwrap file id out) = (0xE0 ≤ id) × (id ≤ 0xEF)
+HasNumbers (Sample seed groups) = (0 < groups) × (groups ≤ MAX_SAMPLE_GROUPS)
+HasNumbers _ = Unit {0}
+
+-- the command has what its form asks
+abbrev pub HasForm : Command → Type 0
+HasForm command = (names_files command ≡ true) × HasNumbers command
 
 -- an answer that a test lets through
-pub if_some : {A : Type 0} (t : Bool) (x y : A) → cond t (Some x) None ≡ Some y → (t ≡ true) × (x ≡ y)
+if_some : {A : Type 0} (t : Bool) (x y : A) → cond t (Some x) None ≡ Some y → (t ≡ true) × (x ≡ y)
 if_some true x y e = (refl, cc)
 if_some false x y e = absurd (cc)
 
-module _ (stream priority to : List ℕ) where
-  not_plan : (first second : List ℕ) → plan_of first second ≡ Some (Send stream priority (File to)) → ⊥
-  not_plan first second e =
-      let both = if_some (is_name first && is_name second) (Plan first second) (Send stream priority (File to)) e in
-      absurd (cc)
+small_digit : (c n : ℕ) → digit_of c ≡ Some n → n ≤ 15
+small_digit c n e = decimal (nat_le 48 c && nat_le c 57) refl e
+  where
+    letter : (t : Bool) → (nat_le 97 c && nat_le c 102) ≡ t → cond t (Some (c - 87)) None ≡ Some n → n ≤ 15
+    letter false is e = absurd (cc)
+    letter true is e =
+        let parts = and_parts (nat_le 97 c) (nat_le c 102) is in let le = leb-true c 102 parts.1 in
+        let same : c - 87 ≡ n = cc in omega arith
 
-  not_check : (first second third : List ℕ) → check_of first second third ≡ Some (Send stream priority (File to)) → ⊥
-  not_check first second third e =
-      let both = if_some (is_name first && (is_name second && is_name third)) (Check first second third)
-      (Send stream priority (File to)) e in absurd (cc)
+    decimal : (t : Bool) → (nat_le 48 c && nat_le c 57) ≡ t
+        → cond t (Some (c - 48)) (cond (nat_le 97 c && nat_le c 102) (Some (c - 87)) None) ≡ Some n → n ≤ 15
+    decimal false is e = letter (nat_le 97 c && nat_le c 102) refl e
+    decimal true is e =
+        let parts = and_parts (nat_le 48 c) (nat_le c 57) is in let le = leb-true c 57 parts.1 in
+        let same : c - 48 ≡ n = cc in omega arith
 
-  not_receive : (from : Option End) (session : Option (List ℕ)) (layers store : List ℕ)
-      → receive_of from session layers store ≡ Some (Send stream priority (File to)) → ⊥
-  not_receive None session layers store e = absurd (cc)
-  not_receive (Some from) None layers store e = absurd (cc)
-  not_receive (Some from) (Some session) layers store e =
-      let both = if_some (receive_files from layers store) (Receive from session layers store)
-      (Send stream priority (File to)) e in absurd (cc)
+video_id_of : (word : List ℕ) (id : ℕ) → id_of word ≡ Some id → (0xE0 ≤ id) × (id ≤ 0xEF)
+video_id_of [] id e = absurd (cc)
+video_id_of (c ∷ []) id e = absurd (cc)
+video_id_of (c ∷ d ∷ []) id e = by_first (c == 101) e
+  where
+    by_digit : (digit : Option ℕ) → digit_of d ≡ digit → option_map (λ low. 0xE0 + low) digit ≡ Some id
+        → (0xE0 ≤ id) × (id ≤ 0xEF)
+    by_digit None is e = absurd (cc)
+    by_digit (Some n) is e =
+        let small = small_digit d n is in
+        let same : 0xE0 + n ≡ id = cc in (omega (arith, same), omega (arith, same, small))
 
-  not_merge : (first second out : List ℕ) → merge_of first second out ≡ Some (Send stream priority (File to)) → ⊥
-  not_merge first second out e =
-      let both = if_some (is_name first
-      && (is_name second && (is_name out && (not (bytes_eq out first) && not (bytes_eq out second)))))
-      (Merge first second out) (Send stream priority (File to)) e in absurd (cc)
+    by_first : (t : Bool) → cond t (option_map (λ low. 0xE0 + low) (digit_of d)) None ≡ Some id
+        → (0xE0 ≤ id) × (id ≤ 0xEF)
+    by_first true e = by_digit (digit_of d) refl e
+    by_first false e = absurd (cc)
+video_id_of (c ∷ d ∷ x ∷ word) id e = absurd (cc)
 
-  not_video : (store out : List ℕ) → video_of store out ≡ Some (Send stream priority (File to)) → ⊥
-  not_video store out e =
-      let both = if_some (is_name store && (is_name out && not (bytes_eq out store))) (Video store out)
-      (Send stream priority (File to)) e in absurd (cc)
+groups_in : (word : List ℕ) (groups : ℕ) → groups_of word ≡ Some groups → (0 < groups) × (groups ≤ MAX_SAMPLE_GROUPS)
+groups_in word groups e = by_number (plain_number word) e
+  where
+    by_test : (n : ℕ) (t : Bool) → (nat_le 1 n && nat_le n MAX_SAMPLE_GROUPS) ≡ t → cond t (Some n) None ≡ Some groups
+        → (0 < groups) × (groups ≤ MAX_SAMPLE_GROUPS)
+    by_test n false is e = absurd (cc)
+    by_test n true is e =
+        let parts = and_parts (nat_le 1 n) (nat_le n MAX_SAMPLE_GROUPS) is in
+        let some = leb-true 1 n parts.0 in
+        let few = leb-true n MAX_SAMPLE_GROUPS parts.1 in
+        let same : n ≡ groups = cc in (omega (arith, same, some), omega (arith, same, few))
 
-  not_unwrap : (file : List ℕ) (id : Option ℕ) (out : List ℕ)
-      → unwrap_of file id out ≡ Some (Send stream priority (File to)) → ⊥
-  not_unwrap file None out e = absurd (cc)
-  not_unwrap file (Some id) out e =
-      let both = if_some (is_name file && (is_name out && not (bytes_eq out file))) (Unwrap file id out)
-      (Send stream priority (File to)) e in absurd (cc)
+    by_number : (number : Option ℕ) → some_groups number ≡ Some groups → (0 < groups) × (groups ≤ MAX_SAMPLE_GROUPS)
+    by_number None e = absurd (cc)
+    by_number (Some n) e = by_test n (nat_le 1 n && nat_le n MAX_SAMPLE_GROUPS) refl e
 
-  not_wrap : (file out : List ℕ) → wrap_of file out ≡ Some (Send stream priority (File to)) → ⊥
-  not_wrap file out e =
-      let both = if_some (is_name file && (is_name out && not (bytes_eq out file))) (Wrap file out)
-      (Send stream priority (File to)) e in absurd (cc)
+module _ (c : Command) where
+  by_none : None ≡ Some c → HasForm c
+  by_none e = absurd (cc)
 
-  not_migrate : (store out : List ℕ) → migrate_of store out ≡ Some (Send stream priority (File to)) → ⊥
-  not_migrate store out e =
-      let both = if_some (is_name store && (is_name out && not (bytes_eq out store))) (Migrate store out)
-      (Send stream priority (File to)) e in absurd (cc)
+  by_named : (command : Command) → HasNumbers command → if_named command ≡ Some c → HasForm c
+  by_named command has e =
+      let both = if_some (names_files command) command c e in subst HasForm both.1 (both.0, has)
 
-  not_replay : (first second third : List ℕ) → replay_of first second third ≡ Some (Send stream priority (File to)) → ⊥
-  not_replay first second third e =
-      let both = if_some (is_name first && (is_name second && is_name third)) (Replay first second third)
-      (Send stream priority (File to)) e in absurd (cc)
+  by_send : (first second : List ℕ) (end : Option End) → send_of first second end ≡ Some c → HasForm c
+  by_send first second None e = by_none e
+  by_send first second (Some to) e = by_named (Send first second to) tt e
 
-  not_sample : (seed groups : Option ℕ) → sample_of seed groups ≡ Some (Send stream priority (File to)) → ⊥
-  not_sample None groups e = absurd (cc)
-  not_sample (Some seed) None e = absurd (cc)
-  not_sample (Some seed) (Some groups) e = absurd (cc)
+  by_receive : (from : Option End) (session : Option (List ℕ)) (layers store : List ℕ)
+      → receive_of from session layers store ≡ Some c → HasForm c
+  by_receive None session layers store e = by_none e
+  by_receive (Some from) None layers store e = by_none e
+  by_receive (Some from) (Some session) layers store e = by_named (Receive from session layers store) tt e
 
-  not_true : (t : Bool) → not t ≡ true → t ≡ false
-  not_true true e = absurd (cc)
-  not_true false e = refl
+  by_unwrap : (file : List ℕ) (id : Option ℕ) (out : List ℕ) → ((n : ℕ) → id ≡ Some n → (0xE0 ≤ n) × (n ≤ 0xEF))
+      → unwrap_of file id out ≡ Some c → HasForm c
+  by_unwrap file None out is e = by_none e
+  by_unwrap file (Some id) out is e = by_named (Unwrap file id out) (is id refl) e
 
-  by_test : (first second third : List ℕ) → not (bytes_eq third first) ≡ true
-      → Send first second (File third) ≡ Send stream priority (File to) → bytes_eq to stream ≡ false
-  by_test first second third other same =
-      let stream_is : first ≡ stream = cc in
-      let to_is : third ≡ to = cc in
-      subst (λ (s : List ℕ). bytes_eq to s ≡ false) stream_is
-      (subst (λ (t : List ℕ). bytes_eq t first ≡ false) to_is (not_true (bytes_eq third first) other))
+  by_sample : (seed groups : Option ℕ) → ((n : ℕ) → groups ≡ Some n → (0 < n) × (n ≤ MAX_SAMPLE_GROUPS))
+      → sample_of seed groups ≡ Some c → HasForm c
+  by_sample None groups is e = by_none e
+  by_sample (Some seed) None is e = by_none e
+  by_sample (Some seed) (Some groups) is e = by_named (Sample seed groups) (is groups refl) e
 
-  of_end : (first second : List ℕ) (end : Option End)
-      → send_of first second end ≡ Some (Send stream priority (File to)) → bytes_eq to stream ≡ false
-  of_end first second None e = absurd (cc)
-  of_end first second (Some (File third)) e =
-      let both = if_some (send_files first second (File third)) (Send first second (File third))
-      (Send stream priority (File to)) e in
-      let names = and_parts (is_name first)
-      (is_name second && (not (bytes_eq third first) && not (bytes_eq third second))) both.0 in
-      let others = and_parts (is_name second) (not (bytes_eq third first) && not (bytes_eq third second)) names.1 in
-      let tests = and_parts (not (bytes_eq third first)) (not (bytes_eq third second)) others.1 in
-      by_test first second third tests.0 both.1
-  of_end first second (Some (Udp address)) e =
-      let both = if_some (send_files first second (Udp address)) (Send first second (Udp address))
-      (Send stream priority (File to)) e in
-      absurd (another both.1)
-    where
-      another : Send first second (Udp address) ≡ Send stream priority (File to) → ⊥
-      another is = cc
+  either : (t : Bool) (answer others : Option Command) → (answer ≡ Some c → HasForm c)
+      → (others ≡ Some c → HasForm c) → cond t answer others ≡ Some c → HasForm c
+  either true answer others met unmet e = met e
+  either false answer others met unmet e = unmet e
 
-  pub send_differs : (words : List (List ℕ)) → command_of words ≡ Some (Send stream priority (File to))
-      → bytes_eq to stream ≡ false
-  send_differs [] e = absurd (cc)
-  send_differs (word ∷ []) e = absurd (cc)
-  send_differs (word ∷ first ∷ []) e = absurd (cc)
-  send_differs (word ∷ first ∷ second ∷ []) e = by_plan (bytes_eq word (codes "plan")) e
-    where
-      none_sent : None ≡ Some (Send stream priority (File to)) → ⊥
-      none_sent e = cc
+  pub has_form : (words : List (List ℕ)) → command_of words ≡ Some c → HasForm c
+  has_form [] e = by_none e
+  has_form (word ∷ []) e = by_none e
+  has_form (word ∷ first ∷ []) e = by_none e
+  has_form (word ∷ first ∷ second ∷ []) e =
+      either (bytes_eq word (codes "plan")) _ _ (by_named (Plan first second) tt)
+      (either (bytes_eq word (codes "video")) _ _ (by_named (Video first second) tt)
+      (either (bytes_eq word (codes "wrap")) _ _ (by_named (Wrap first second) tt)
+      (either (bytes_eq word (codes "migrate")) _ _ (by_named (Migrate first second) tt)
+      (either (bytes_eq word (codes "sample")) _ _
+      (by_sample (plain_number first) (groups_of second) (groups_in second)) by_none))))
+      e
+  has_form (word ∷ first ∷ second ∷ third ∷ []) e =
+      either (bytes_eq word (codes "check")) _ _ (by_named (Check first second third) tt)
+      (either (bytes_eq word (codes "send")) _ _ (by_send first second (end_of 1 third))
+      (either (bytes_eq word (codes "merge")) _ _ (by_named (Merge first second third) tt)
+      (either (bytes_eq word (codes "unwrap")) _ _ (by_unwrap first (id_of second) third (video_id_of second))
+      (either (bytes_eq word (codes "replay")) _ _ (by_named (Replay first second third) tt) by_none))))
+      e
+  has_form (word ∷ first ∷ second ∷ third ∷ fourth ∷ []) e =
+      either (bytes_eq word (codes "receive")) _ _
+      (by_receive (end_of 0 first) (session_of second) third fourth) by_none e
+  has_form (word ∷ first ∷ second ∷ third ∷ fourth ∷ fifth ∷ words) e = by_none e
 
-      by_sample : (t : Bool)
-          → cond t (sample_of (plain_number first) (groups_of second)) None ≡ Some (Send stream priority (File to))
-          → bytes_eq to stream ≡ false
-      by_sample true e = absurd (not_sample (plain_number first) (groups_of second) e)
-      by_sample false e = absurd (none_sent e)
+-- the tests of two names, and what follows them
+behind : (first second : List ℕ) (rest : Bool) → (is_name first && (is_name second && rest)) ≡ true → rest ≡ true
+behind first second rest e =
+    (and_parts (is_name second) rest (and_parts (is_name first) (is_name second && rest) e).1).1
 
-      by_migrate : (t : Bool)
-          → cond t (migrate_of first second) (cond (bytes_eq word (codes "sample"))
-          (sample_of (plain_number first) (groups_of second)) None) ≡ Some (Send stream priority (File to))
-          → bytes_eq to stream ≡ false
-      by_migrate true e = absurd (not_migrate first second e)
-      by_migrate false e = by_sample (bytes_eq word (codes "sample")) e
+others : (c : Command) → names_files c ≡ true → writes_others c ≡ true
+others (Plan stream priority) e = refl
+others (Check stream priority plan) e = refl
+others (Send stream priority (Udp address)) e = refl
+others (Send stream priority (File to)) e =
+    behind stream priority (not (bytes_eq to stream) && not (bytes_eq to priority)) e
+others (Receive (File from) session layers store) e =
+    behind layers store (not (bytes_eq from layers) && (not (bytes_eq from store) && not (bytes_eq layers store))) e
+others (Receive (Udp address) session layers store) e = behind layers store (not (bytes_eq layers store)) e
+others (Merge first second out) e =
+    let differ : Bool = not (bytes_eq out first) && not (bytes_eq out second) in
+    (and_parts (is_name out) differ (behind first second (is_name out && differ) e)).1
+others (Video store out) e = behind store out (not (bytes_eq out store)) e
+others (Unwrap file id out) e = behind file out (not (bytes_eq out file)) e
+others (Wrap file out) e = behind file out (not (bytes_eq out file)) e
+others (Migrate store out) e = behind store out (not (bytes_eq out store)) e
+others (Replay stream priority script) e = refl
+others (Sample seed groups) e = refl
 
-      by_wrap : (t : Bool)
-          → cond t (wrap_of first second) (cond (bytes_eq word (codes "migrate")) (migrate_of first second)
-          (cond (bytes_eq word (codes "sample")) (sample_of (plain_number first) (groups_of second)) None))
-          ≡ Some (Send stream priority (File to)) → bytes_eq to stream ≡ false
-      by_wrap true e = absurd (not_wrap first second e)
-      by_wrap false e = by_migrate (bytes_eq word (codes "migrate")) e
+-- the words of a command name no file twice that it writes
+pub written_differ : (c : Command) (words : List (List ℕ)) → command_of words ≡ Some c → writes_others c ≡ true
+written_differ c words e = others c (has_form c words e).0
 
-      by_video : (t : Bool)
-          → cond t (video_of first second) (cond (bytes_eq word (codes "wrap")) (wrap_of first second)
-          (cond (bytes_eq word (codes "migrate")) (migrate_of first second)
-          (cond (bytes_eq word (codes "sample")) (sample_of (plain_number first) (groups_of second)) None)))
-          ≡ Some (Send stream priority (File to)) → bytes_eq to stream ≡ false
-      by_video true e = absurd (not_video first second e)
-      by_video false e = by_wrap (bytes_eq word (codes "wrap")) e
+not_true : (t : Bool) → not t ≡ true → t ≡ false
+not_true true e = absurd (cc)
+not_true false e = refl
 
-      by_plan : (t : Bool)
-          → cond t (plan_of first second) (cond (bytes_eq word (codes "video")) (video_of first second)
-          (cond (bytes_eq word (codes "wrap")) (wrap_of first second)
-          (cond (bytes_eq word (codes "migrate")) (migrate_of first second)
-          (cond (bytes_eq word (codes "sample")) (sample_of (plain_number first) (groups_of second)) None))))
-          ≡ Some (Send stream priority (File to)) → bytes_eq to stream ≡ false
-      by_plan true e = absurd (not_plan first second e)
-      by_plan false e = by_video (bytes_eq word (codes "video")) e
-  send_differs (word ∷ first ∷ second ∷ third ∷ []) e = by_check (bytes_eq word (codes "check")) e
-    where
-      none_sent : None ≡ Some (Send stream priority (File to)) → ⊥
-      none_sent e = cc
-
-      by_replay : (t : Bool) → cond t (replay_of first second third) None ≡ Some (Send stream priority (File to))
-          → bytes_eq to stream ≡ false
-      by_replay true e = absurd (not_replay first second third e)
-      by_replay false e = absurd (none_sent e)
-
-      by_unwrap : (t : Bool)
-          → cond t (unwrap_of first (id_of second) third) (cond (bytes_eq word (codes "replay"))
-          (replay_of first second third) None) ≡ Some (Send stream priority (File to))
-          → bytes_eq to stream ≡ false
-      by_unwrap true e = absurd (not_unwrap first (id_of second) third e)
-      by_unwrap false e = by_replay (bytes_eq word (codes "replay")) e
-
-      by_merge : (t : Bool)
-          → cond t (merge_of first second third) (cond (bytes_eq word (codes "unwrap"))
-          (unwrap_of first (id_of second) third)
-          (cond (bytes_eq word (codes "replay")) (replay_of first second third) None)) ≡ Some (Send stream priority (File to))
-          → bytes_eq to stream ≡ false
-      by_merge true e = absurd (not_merge first second third e)
-      by_merge false e = by_unwrap (bytes_eq word (codes "unwrap")) e
-
-      by_send : (t : Bool)
-          → cond t (send_of first second (end_of 1 third))
-          (cond (bytes_eq word (codes "merge")) (merge_of first second third)
-          (cond (bytes_eq word (codes "unwrap")) (unwrap_of first (id_of second) third)
-          (cond (bytes_eq word (codes "replay")) (replay_of first second third) None)))
-          ≡ Some (Send stream priority (File to)) → bytes_eq to stream ≡ false
-      by_send true e = of_end first second (end_of 1 third) e
-      by_send false e = by_merge (bytes_eq word (codes "merge")) e
-
-      by_check : (t : Bool)
-          → cond t (check_of first second third) (cond (bytes_eq word (codes "send"))
-          (send_of first second (end_of 1 third))
-          (cond (bytes_eq word (codes "merge")) (merge_of first second third)
-          (cond (bytes_eq word (codes "unwrap")) (unwrap_of first (id_of second) third)
-          (cond (bytes_eq word (codes "replay")) (replay_of first second third) None))))
-          ≡ Some (Send stream priority (File to)) → bytes_eq to stream ≡ false
-      by_check true e = absurd (not_check first second third e)
-      by_check false e = by_send (bytes_eq word (codes "send")) e
-  send_differs (word ∷ first ∷ second ∷ third ∷ fourth ∷ []) e = by_receive (bytes_eq word (codes "receive")) e
-    where
-      none_sent : None ≡ Some (Send stream priority (File to)) → ⊥
-      none_sent e = cc
-
-      by_receive : (t : Bool)
-          → cond t (receive_of (end_of 0 first) (session_of second) third fourth) None
-          ≡ Some (Send stream priority (File to)) → bytes_eq to stream ≡ false
-      by_receive true e = absurd (not_receive (end_of 0 first) (session_of second) third fourth e)
-      by_receive false e = absurd (none_sent e)
-  send_differs (word ∷ first ∷ second ∷ third ∷ fourth ∷ fifth ∷ words) e = absurd (cc)
+-- the file that `send` writes is another than the stream
+pub send_differs : (stream priority to : List ℕ) (words : List (List ℕ))
+    → command_of words ≡ Some (Send stream priority (File to)) → bytes_eq to stream ≡ false
+send_differs stream priority to words e =
+    not_true (bytes_eq to stream)
+    (and_parts (not (bytes_eq to stream)) (not (bytes_eq to priority))
+    (written_differ (Send stream priority (File to)) words e)).0
