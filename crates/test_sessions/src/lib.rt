@@ -10,6 +10,8 @@ mod runs;
 pub use runs::run;
 
 #[cfg(test)]
+mod byte_tests;
+#[cfg(test)]
 mod cutter_tests;
 #[cfg(test)]
 mod mark_tests;
