@@ -4,9 +4,9 @@ use Rattle.pet_base.specs.Seen.{Seen, Files}
 use Rattle.pet_base.specs.laws.SeenLaws.{HadFault-since}
 use Rattle.stripe_plan.specs.Sizes.{Sizes}
 use Rattle.outside_files.specs.Inputs.{IsFile}
-use Rattle.stream_session.specs.Sources.{IsSourceFault}
-use Rattle.stream_session.specs.declared.source.SourceFault.{SourceFault}
-use Rattle.stream_session.specs.declared.source.SourceFault.TheVariants as source
+use Rattle.session_source.specs.Sources.{IsSourceFault}
+use Rattle.session_source.specs.declared.source.SourceFault.{SourceFault}
+use Rattle.session_source.specs.declared.source.SourceFault.TheVariants as source
 use Rattle.text_plan.specs.declared.plan_file.Repeat.{Repeat}
 use Rattle.command_plan.specs.declared.checking.CheckEnd.{CheckEnd}
 use Rattle.command_plan.specs.declared.checking.CheckEnd.TheVariants.{Done, NoMemory, PlaceFault, BadPriority}

@@ -1,9 +1,9 @@
 -- What each fault of the two files is as an end of `plan`.
 use Rattle.std.proofs.Common.{◌≡◌, ℕ, List, refl}
 use Rattle.pet_base.specs.Seen.{Seen}
-use Rattle.stream_session.specs.Sources.{IsSourceFault, has_failed}
-use Rattle.stream_session.specs.declared.source.SourceFault.{SourceFault}
-use Rattle.stream_session.specs.declared.source.SourceFault.TheVariants as source
+use Rattle.session_source.specs.Sources.{IsSourceFault, has_failed}
+use Rattle.session_source.specs.declared.source.SourceFault.{SourceFault}
+use Rattle.session_source.specs.declared.source.SourceFault.TheVariants as source
 use Rattle.command_plan.specs.Ends.{plan_end, plan_failed}
 use Rattle.command_plan.specs.Plans.{PlanEnds}
 

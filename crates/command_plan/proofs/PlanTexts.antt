@@ -5,8 +5,8 @@ use Rattle.priority_file.specs.Refusals.{priorities_of}
 use Rattle.priority_file.specs.Priority.{Priorities}
 use Rattle.stripe_plan.specs.Sizes.{Sizes}
 use Rattle.stream_session.specs.Number.{session_number}
-use Rattle.stream_session.specs.Sources.{IsSource}
-use Rattle.stream_session.specs.declared.source.Source.{Source}
+use Rattle.session_source.specs.Sources.{IsSource}
+use Rattle.session_source.specs.declared.source.Source.{Source}
 use Rattle.text_plan.specs.PlanText.{plan_text}
 use Rattle.command_plan.specs.SessionPlan.{session_plan}
 

@@ -3,8 +3,8 @@ use Rattle.std.specs.Prelude.{◌≡◌, ◌≢◌, ◌⊎◌, ℕ, ◌<◌, ◌
 use Rattle.pet_base.specs.declared.limits.TheConstants.{MAX_PLAN_FILE}
 use Rattle.pet_base.specs.Seen.{Seen}
 use Rattle.outside_files.specs.Uses.{Failed, reading}
-use Rattle.stream_session.specs.Sources.{IsSourceFault}
-use Rattle.stream_session.specs.declared.source.SourceFault.TheVariants as source
+use Rattle.session_source.specs.Sources.{IsSourceFault}
+use Rattle.session_source.specs.declared.source.SourceFault.TheVariants as source
 use Rattle.text_plan.specs.declared.plan_file.Repeat.{Repeat}
 use Rattle.text_plan.specs.PlanFile.{lists_of}
 use Rattle.command_plan.specs.declared.checking.CheckEnd.{CheckEnd}

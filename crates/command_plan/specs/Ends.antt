@@ -1,7 +1,7 @@
 -- The end of each command that a fault of the session's two files makes. This project's own.
 use Rattle.std.specs.Prelude.{Bool, true, false}
-use Rattle.stream_session.specs.declared.source.SourceFault.{SourceFault}
-use Rattle.stream_session.specs.declared.source.SourceFault.TheVariants as source
+use Rattle.session_source.specs.declared.source.SourceFault.{SourceFault}
+use Rattle.session_source.specs.declared.source.SourceFault.TheVariants as source
 use Rattle.command_plan.specs.declared.checking.CheckEnd.{CheckEnd}
 use Rattle.command_plan.specs.declared.checking.CheckEnd.TheVariants as check
 use Rattle.command_plan.specs.declared.planning.PlanEnd.{PlanEnd}

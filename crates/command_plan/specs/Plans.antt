@@ -1,8 +1,8 @@
 -- What `plan` does, by its end. This project's own.
 use Rattle.std.specs.Prelude.{◌≡◌, ℕ, List}
 use Rattle.pet_base.specs.Seen.{Seen}
-use Rattle.stream_session.specs.Sources.{IsSourceFault}
-use Rattle.stream_session.specs.declared.source.SourceFault.TheVariants as source
+use Rattle.session_source.specs.Sources.{IsSourceFault}
+use Rattle.session_source.specs.declared.source.SourceFault.TheVariants as source
 use Rattle.command_plan.specs.declared.planning.PlanEnd.{PlanEnd}
 use Rattle.command_plan.specs.declared.planning.PlanEnd.TheVariants.{Done, NoMemory, PlaceFault, BadPriority, BadStream}
 use Rattle.command_plan.specs.declared.planning.PlanEnd.TheVariants.{BadPlan}

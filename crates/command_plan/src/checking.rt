@@ -15,8 +15,9 @@ use mpeg_scan::Scan;
 use outside_files::read_file;
 use pet_base::{MAX_PLAN_FILE, NoMemory, Place, Stop};
 use priority_file::PriorityFault;
+use session_source::{SourceFault, read_source};
 use std::alloc::Global;
-use stream_session::{SessionFault, SourceFault, read_source};
+use stream_session::SessionFault;
 use stripe_plan::Table;
 use text_plan::{PlanFault, Repeat, read_plan};
 

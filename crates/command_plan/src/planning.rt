@@ -3,7 +3,7 @@ ghost use Rattle.std.specs.Prelude.{◌≡◌, ◌≤◌, ℕ, List, All, length
 ghost use Rattle.pet_base.specs.declared.limits.TheConstants.{MAX_GROUPS};
 ghost use Rattle.pet_base.specs.Causes.{stops};
 ghost use Rattle.pet_base.specs.Seen.{Seen, PlaceStops};
-ghost use Rattle.stream_session.specs.Sources.{IsSourceFault, has_failed};
+ghost use Rattle.session_source.specs.Sources.{IsSourceFault, has_failed};
 ghost use Rattle.text_plan.specs.PlanText.{plan_text};
 ghost use Rattle.stream_session.specs.Sessions.{HasSession};
 ghost use Rattle.command_plan.specs.Ends.{plan_failed};
@@ -14,8 +14,9 @@ ghost use Rattle.command_plan.specs.Plans.{Plans};
 use mpeg_scan::Scan;
 use pet_base::{NoMemory, Place};
 use priority_file::PriorityFault;
+use session_source::{Source, SourceFault, read_source};
 use std::alloc::Global;
-use stream_session::{SessionFault, Source, SourceFault, read_source};
+use stream_session::SessionFault;
 use text_plan::plan_text;
 
 /// How `plan` ended.

@@ -20,7 +20,7 @@ use Rattle.stream_groups.specs.laws.FittingLaws.{IsWhole}
 use Rattle.stream_groups.specs.laws.StandingLaws.{groups_stand}
 use Rattle.stream_session.specs.Accepted.{group_of}
 use Rattle.stream_session.specs.Tables.{table_of, cuts_of_stream}
-use Rattle.stream_session.specs.declared.whole.WholeSource.{WholeSource}
+use Rattle.session_source.specs.declared.whole.WholeSource.{WholeSource}
 use Rattle.command_replay.proofs.HeldSession.{tables_are, many_groups}
 use Rattle.command_replay.specs.inside.Held.{IsHeld, IsEncoderAt, held_session}
 

@@ -15,9 +15,9 @@ use Rattle.layer_split.specs.Layers.{Cut}
 use Rattle.packet_session.specs.Session.{Session, SessionGroup, IsSession, Fits}
 use Rattle.stream_session.specs.Accepted.{IsAcceptedWithin, group_of, session_of}
 use Rattle.stream_session.specs.Number.{session_number}
-use Rattle.stream_session.specs.Sources.{IsSourceWithin}
+use Rattle.session_source.specs.Sources.{IsSourceWithin}
 use Rattle.stream_session.specs.Tables.{table_of, tables_of, cuts_of_stream}
-use Rattle.stream_session.specs.declared.whole.WholeSource.{WholeSource}
+use Rattle.session_source.specs.declared.whole.WholeSource.{WholeSource}
 use Rattle.stream_session.specs.laws.FitLaws.{no_cause_within}
 use Rattle.stream_session.specs.laws.SessionLaws.{tables_few_within}
 use Rattle.stream_session.specs.laws.SessionOfLaws.{is_session, session_fits}

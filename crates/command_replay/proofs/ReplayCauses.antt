@@ -10,10 +10,10 @@ use Rattle.outside_files.specs.Inputs.{IsFile}
 use Rattle.packet_session.specs.Session.{Session}
 use Rattle.priority_file.specs.Priority.{Priorities}
 use Rattle.stream_session.specs.Accepted.{session_of}
-use Rattle.stream_session.specs.Sources.{IsSourceWithin, has_failed}
-use Rattle.stream_session.specs.declared.source.SourceFault.{SourceFault}
-use Rattle.stream_session.specs.declared.source.SourceFault.TheVariants as source
-use Rattle.stream_session.specs.declared.whole.WholeSource.{WholeSource}
+use Rattle.session_source.specs.Sources.{IsSourceWithin, has_failed}
+use Rattle.session_source.specs.declared.source.SourceFault.{SourceFault}
+use Rattle.session_source.specs.declared.source.SourceFault.TheVariants as source
+use Rattle.session_source.specs.declared.whole.WholeSource.{WholeSource}
 use Rattle.command_replay.specs.declared.command.ReplayEnd.{ReplayEnd}
 use Rattle.command_replay.specs.declared.command.ReplayEnd.TheVariants.{Done, NoMemory, PlaceFault, BadPriority}
 use Rattle.command_replay.specs.declared.command.ReplayEnd.TheVariants.{BadStream, BadPlan, BadScript}

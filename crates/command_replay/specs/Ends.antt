@@ -1,7 +1,7 @@
 -- The end of `replay` that a fault of the session's two files makes, and which ends tell of a failure. This project's own.
 use Rattle.std.specs.Prelude.{Bool, true, false}
-use Rattle.stream_session.specs.declared.source.SourceFault.{SourceFault}
-use Rattle.stream_session.specs.declared.source.SourceFault.TheVariants as source
+use Rattle.session_source.specs.declared.source.SourceFault.{SourceFault}
+use Rattle.session_source.specs.declared.source.SourceFault.TheVariants as source
 use Rattle.command_replay.specs.declared.command.ReplayEnd.{ReplayEnd}
 use Rattle.command_replay.specs.declared.command.ReplayEnd.TheVariants as replay
 

@@ -7,9 +7,9 @@ use Rattle.outside_files.specs.Inputs.{IsFile}
 use Rattle.outside_files.specs.Uses.{Failed, reading}
 use Rattle.priority_file.specs.Refusals.{priorities_of}
 use Rattle.stream_session.specs.Accepted.{IsAcceptedWithin, session_of}
-use Rattle.stream_session.specs.Sources.{IsSourceFaultWithin}
-use Rattle.stream_session.specs.declared.source.SourceFault.{SourceFault}
-use Rattle.stream_session.specs.declared.source.SourceFault.TheVariants as source
+use Rattle.session_source.specs.Sources.{IsSourceFaultWithin}
+use Rattle.session_source.specs.declared.source.SourceFault.{SourceFault}
+use Rattle.session_source.specs.declared.source.SourceFault.TheVariants as source
 use Rattle.command_replay.specs.declared.command.ReplayEnd.{ReplayEnd}
 use Rattle.command_replay.specs.declared.command.ReplayEnd.TheVariants.{Done, NoMemory, PlaceFault, BadPriority}
 use Rattle.command_replay.specs.declared.command.ReplayEnd.TheVariants.{BadStream, BadPlan, BadScript}

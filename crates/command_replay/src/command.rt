@@ -13,9 +13,10 @@ use crate::script::read_events;
 use mpeg_scan::Scan;
 use pet_base::{NoMemory, Place, Steps};
 use priority_file::PriorityFault;
+use session_source::{SourceFault, read_whole};
 use std::alloc::Global;
 use std::sync::ledger::Ledger;
-use stream_session::{SessionFault, SourceFault, read_whole};
+use stream_session::SessionFault;
 
 /// How `replay` ended.
 #[derive(Debug, PartialEq, Eq, Drop)]

@@ -12,8 +12,8 @@ use packet_frame::Header;
 use pet_base::NoMemory;
 use pet_encode::Encoder;
 use pet_field::Gf16Tables;
+use session_source::WholeSource;
 use std::alloc::Global;
-use stream_session::WholeSource;
 
 /// The encoders of the session's groups, in order.
 pub(crate) fn session_encoders<'f>(

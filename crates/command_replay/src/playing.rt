@@ -13,9 +13,9 @@ use crate::lines::{append_layers, append_stores};
 use pet_base::{Event, MAX_REPLAY_SESSION, NoMemory, Steps};
 use pet_field::Gf16Tables;
 use pet_world::{MAX_RECEIVERS, World, WorldFault};
+use session_source::WholeSource;
 use std::alloc::Global;
 use std::sync::ledger::Ledger;
-use stream_session::WholeSource;
 
 /// The text of the events of a script of the session.
 pub(crate) fn play<L: Ledger>(

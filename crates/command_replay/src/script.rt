@@ -10,8 +10,8 @@ ghost use Rattle.command_replay.specs.inside.Reading.{HasEvents, HasNoEvents, Ha
 use crate::command::ReplayEnd;
 use outside_files::read_file;
 use pet_base::{Event, MAX_SCRIPT, Place, Stop};
+use session_source::Source;
 use std::alloc::Global;
-use stream_session::Source;
 use text_script::{ScriptFault, read_script};
 
 /// The events of the script of this name, which is read whole.

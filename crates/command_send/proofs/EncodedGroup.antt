@@ -9,7 +9,7 @@ use Rattle.packet_frame.specs.declared.format.Format.{Format}
 use Rattle.packet_frame.specs.declared.format.TheConstants.{FORMAT}
 use Rattle.packet_encoder.specs.CodedGroup.{CodedGroup}
 use Rattle.packet_session.specs.Encoding.{Encoding}
-use Rattle.stream_session.specs.declared.source.Source.{Source}
+use Rattle.session_source.specs.declared.source.Source.{Source}
 use Rattle.stream_groups.specs.CutGroups.{CutGroup}
 use Rattle.stream_session.specs.Tables.{table_of}
 use Rattle.command_send.specs.Sending.{encoding_of}

@@ -7,9 +7,9 @@ use Rattle.outside_routes.specs.Way.{Way, OnFile, OnLink}
 use Rattle.pet_base.specs.Seen.{Blame, Files}
 use Rattle.pet_base.specs.laws.SeenLaws.{HadFault-since}
 use Rattle.pet_base.specs.OutsideSeen.{OutsideSeen}
-use Rattle.stream_session.specs.Sources.{IsOfSource, IsSourceFault}
-use Rattle.stream_session.specs.declared.source.SourceFault.{SourceFault}
-use Rattle.stream_session.specs.declared.source.SourceFault.TheVariants as source
+use Rattle.session_source.specs.Sources.{IsOfSource, IsSourceFault}
+use Rattle.session_source.specs.declared.source.SourceFault.{SourceFault}
+use Rattle.session_source.specs.declared.source.SourceFault.TheVariants as source
 use Rattle.outside_files.specs.Wrote.{with_files}
 use Rattle.command_send.specs.declared.command.SendEnd.{SendEnd}
 use Rattle.command_send.specs.declared.command.SendEnd.TheVariants.{NoMemory, PlaceFault, LinkFault, Changed}

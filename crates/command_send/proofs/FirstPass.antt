@@ -5,11 +5,11 @@ use Rattle.pet_base.specs.Seen.{Files}
 use Rattle.mpeg_scan.specs.Pieces.{pieces_of}
 use Rattle.priority_file.specs.Refusals.{priorities_of}
 use Rattle.stream_session.specs.declared.mark.GroupMark.{GroupMark}
-use Rattle.stream_session.specs.declared.source.Source.{Source}
+use Rattle.session_source.specs.declared.source.Source.{Source}
 use Rattle.stream_session.specs.Marks.{marks_of}
 use Rattle.stream_session.specs.laws.MarkLaws.{length-marks}
 use Rattle.stream_session.specs.laws.SessionLaws.{tables_few}
-use Rattle.stream_session.specs.Sources.{IsSource}
+use Rattle.session_source.specs.Sources.{IsSource}
 use Rattle.command_send.specs.Sending.{IsFirstPass}
 
 -- as many marks as tables

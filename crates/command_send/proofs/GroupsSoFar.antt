@@ -13,7 +13,7 @@ use Rattle.stripe_plan.specs.Sizes.{Sizes}
 use Rattle.priority_file.specs.Priority.{Priorities}
 use Rattle.packet_session.specs.Encoding.{Encoding}
 use Rattle.stream_session.specs.declared.mark.GroupMark.{GroupMark}
-use Rattle.stream_session.specs.declared.source.Source.{Source}
+use Rattle.session_source.specs.declared.source.Source.{Source}
 use Rattle.stream_groups.specs.CutGroups.{CutGroup}
 use Rattle.stream_groups.specs.Cutting.{HasCut, HaveEnded, AreAll, cut_groups, pieces_left}
 use Rattle.stream_groups.specs.laws.EndedLaws.{given_ended, ended_longer, ended_before}

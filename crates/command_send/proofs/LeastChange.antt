@@ -7,7 +7,7 @@ use Rattle.std.proofs.lemmas.Option.{slice_get_within}
 use Rattle.outside_routes.specs.Sending.{Routes}
 use Rattle.outside_routes.specs.Way.{Way}
 use Rattle.stream_session.specs.declared.mark.GroupMark.{GroupMark}
-use Rattle.stream_session.specs.declared.source.Source.{Source}
+use Rattle.session_source.specs.declared.source.Source.{Source}
 use Rattle.stream_groups.specs.CutGroups.{CutGroup}
 use Rattle.stream_groups.specs.Cutting.{HasCut, HaveEnded, AreAll}
 use Rattle.stream_groups.specs.laws.EndedLaws.{given_ended, ended_longer, ended_before}

@@ -8,8 +8,8 @@ use Rattle.pet_base.specs.declared.limits.TheConstants.{MAX_STREAM}
 use Rattle.pet_base.specs.Seen.{Seen, OnlyReads}
 use Rattle.pet_base.proofs.Filled.{prepend-prepend}
 use Rattle.stream_session.specs.declared.mark.GroupMark.{GroupMark}
-use Rattle.stream_session.specs.declared.source.Source.{Source}
-use Rattle.stream_session.proofs.Sourced.{short_stream}
+use Rattle.session_source.specs.declared.source.Source.{Source}
+use Rattle.session_source.proofs.Sourced.{short_stream}
 use Rattle.priority_file.specs.Priority.{Priorities}
 use Rattle.stream_groups.specs.CutGroups.{CutGroup}
 use Rattle.stream_groups.specs.Cutting.{HasCut, HaveEnded, cut_groups}

@@ -26,7 +26,7 @@ use Rattle.packet_sending.specs.laws.DatagramLaws.{entries_are_text}
 use Rattle.stream_session.specs.Accepted.{session_of}
 use Rattle.stream_session.specs.Marks.{mark_at, group_marks}
 use Rattle.stream_session.specs.declared.mark.GroupMark.{GroupMark}
-use Rattle.stream_session.specs.declared.source.Source.{Source}
+use Rattle.session_source.specs.declared.source.Source.{Source}
 use Rattle.stream_groups.specs.CutGroups.{CutGroup}
 use Rattle.command_send.specs.inside.Job.{job}
 use Rattle.command_send.specs.declared.fault.SendFault.{SendFault}

@@ -19,7 +19,7 @@ use Rattle.layer_split.specs.Splitting.{cuts_of}
 use Rattle.packet_session.specs.Encoding.{Encoding, IsGroupOf}
 use Rattle.packet_session.specs.Session.{Session, SessionGroup}
 use Rattle.stream_session.specs.declared.mark.GroupMark.{GroupMark}
-use Rattle.stream_session.specs.declared.source.Source.{Source}
+use Rattle.session_source.specs.declared.source.Source.{Source}
 use Rattle.stream_groups.specs.CutGroups.{CutGroup}
 use Rattle.stream_groups.specs.Cutting.{IsCuttable, cut_group, cut_groups}
 use Rattle.stream_groups.specs.laws.CuttingLaws.{message_rebased}
@@ -29,7 +29,7 @@ use Rattle.stream_groups.specs.laws.StandingLaws.{groups_stand}
 use Rattle.stream_session.specs.Marks.{mark_of, no_mark, mark_at, group_marks, marks_of}
 use Rattle.stream_session.specs.Tables.{table_of, tables_of, sizes_of, cuts_of_stream}
 use Rattle.stream_session.specs.Accepted.{session_of, group_of}
-use Rattle.stream_session.proofs.Sourced.{short_stream}
+use Rattle.session_source.proofs.Sourced.{short_stream}
 use Rattle.command_send.specs.inside.Job.{job}
 use Rattle.command_send.specs.declared.fault.SendFault.{SendFault}
 use Rattle.command_send.specs.declared.fault.SendFault.TheVariants.{Stopped}

@@ -14,9 +14,9 @@ use Rattle.stripe_plan.specs.Sizes.{Sizes}
 use Rattle.priority_file.specs.Priority.{Priorities}
 use Rattle.priority_file.specs.Refusals.{priorities_of}
 use Rattle.stream_session.specs.declared.mark.GroupMark.{GroupMark}
-use Rattle.stream_session.specs.declared.source.Source.{Source}
+use Rattle.session_source.specs.declared.source.Source.{Source}
 use Rattle.stream_session.specs.Marks.{mark_at, marks_of}
-use Rattle.stream_session.specs.Sources.{IsSource}
+use Rattle.session_source.specs.Sources.{IsSource}
 use Rattle.outside_files.specs.Inputs.{IsFile}
 use Rattle.outside_files.specs.Wrote.{File, Wrote, with_files}
 use Rattle.outside_files.specs.laws.WroteLaws.{Wrote-nothing}

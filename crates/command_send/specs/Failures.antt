@@ -1,7 +1,7 @@
 -- Which answers of `send` tell of a failure of the place, and which of one of the link. This project's own.
 use Rattle.std.specs.Prelude.{Bool, true, false}
 use Rattle.outside_routes.specs.RouteFaults.{stop_of_a_place, stop_of_a_link}
-use Rattle.stream_session.specs.Sources.{has_failed}
+use Rattle.session_source.specs.Sources.{has_failed}
 use Rattle.command_send.specs.declared.fault.SendFault.{SendFault}
 use Rattle.command_send.specs.declared.fault.SendFault.TheVariants.{Stopped, Source, Changed}
 use Rattle.command_send.specs.declared.command.SendEnd.{SendEnd}

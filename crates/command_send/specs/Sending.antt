@@ -7,7 +7,7 @@ use Rattle.stripe_plan.specs.Layers.{needs_of}
 use Rattle.layer_split.specs.Layers.{message}
 use Rattle.packet_session.specs.Encoding.{Encoding}
 use Rattle.stream_session.specs.declared.mark.GroupMark.{GroupMark}
-use Rattle.stream_session.specs.declared.source.Source.{Source}
+use Rattle.session_source.specs.declared.source.Source.{Source}
 use Rattle.stream_groups.specs.CutGroups.{CutGroup}
 use Rattle.stream_groups.specs.Cutting.{HaveEnded, NoneFurther, IsCuttable, cut_groups}
 use Rattle.stream_session.specs.Marks.{mark_of, no_mark, mark_at, group_marks, marks_of}

@@ -11,9 +11,9 @@ use Rattle.stream_groups.specs.CutGroups.{CutGroup}
 use Rattle.stream_session.specs.Accepted.{session_of}
 use Rattle.stream_session.specs.Marks.{marks_of, mark_at, group_marks}
 use Rattle.stream_session.specs.Number.{session_number}
-use Rattle.stream_session.specs.Sources.{IsOfSource, IsSourceFault}
-use Rattle.stream_session.specs.declared.source.Source.{Source}
-use Rattle.stream_session.specs.declared.source.SourceFault.TheVariants as source
+use Rattle.session_source.specs.Sources.{IsOfSource, IsSourceFault}
+use Rattle.session_source.specs.declared.source.Source.{Source}
+use Rattle.session_source.specs.declared.source.SourceFault.TheVariants as source
 use Rattle.text_plan.specs.PlanLines.{send_text}
 use Rattle.outside_files.specs.Uses.{writing}
 use Rattle.outside_files.specs.Wrote.{File, Wrote}

@@ -6,7 +6,7 @@ use crate::command::SendEnd;
 use crate::sent_group::Change;
 use outside_routes::RouteStop;
 use pet_base::NoMemory;
-use stream_session::SourceFault;
+use session_source::SourceFault;
 
 /// Why `send` stops.
 #[derive(Clone, Copy, Debug, PartialEq, Eq)]

@@ -4,7 +4,7 @@ ghost use Rattle.pet_base.specs.declared.limits.TheConstants.{MAX_GROUPS};
 
 use outside_routes::Route;
 use pet_field::Gf16Tables;
-use stream_session::MarkedSource;
+use session_source::MarkedSource;
 
 /// The session that the first reading found, with a mark for each of its groups, the field in which they are coded, and where
 /// their packets go.

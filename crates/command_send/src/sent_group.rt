@@ -27,10 +27,11 @@ use packet_frame::{FORMAT, Header};
 use packet_sending::put_group;
 use pet_base::{Link, NoMemory, Outside, Place, Sink};
 use pet_field::Gf16Tables;
+use session_source::Source;
 use std::alloc::Global;
 use std::sync::ledger::Ledger;
 use stream_groups::Group;
-use stream_session::{GroupMark, Source, is_table_of};
+use stream_session::{GroupMark, is_table_of};
 
 /// The group at which two passes differ, and its marks in both.
 #[derive(Clone, Copy, Debug, PartialEq, Eq)]

@@ -2,12 +2,12 @@
 ghost use Rattle.std.specs.Prelude.{◌≡◌, ◌+◌, ◌≤◌, ◌*◌, ℕ, List, length, OnOk, OnErr, IfOk, IfErr};
 ghost use Rattle.std.specs.List.{sum_by};
 ghost use Rattle.pet_base.specs.Seen.{Seen, KeepsOutput, HadFault, PlaceStops};
-ghost use Rattle.stream_session.specs.Sources.{IsSourceFault};
+ghost use Rattle.session_source.specs.Sources.{IsSourceFault};
 ghost use Rattle.pet_base.specs.Causes.{stops};
 ghost use Rattle.pet_base.specs.LinkSeen.{LinkStops};
 ghost use Rattle.outside_routes.specs.RouteFaults.{IsStop, AimedFailed, stop_of_a_place, stop_of_a_link};
 ghost use Rattle.command_send.specs.Failures.{fault_of_place, fault_of_link};
-ghost use Rattle.stream_session.specs.Sources.{has_failed as source_failed};
+ghost use Rattle.session_source.specs.Sources.{has_failed as source_failed};
 ghost use Rattle.pet_base.specs.Lent.{AreSame};
 ghost use Rattle.command_send.specs.inside.Job.{job_of, lent};
 ghost use Rattle.outside_routes.specs.Way.{way_of};
@@ -23,9 +23,9 @@ use crate::second::send_groups;
 use outside_routes::{Route, RouteStop, open_route};
 use pet_base::{Link, Outside, Place, Sink};
 use pet_field::Gf16Tables;
+use session_source::{SourceFault, read_marked};
 use std::alloc::Global;
 use std::sync::ledger::Ledger;
-use stream_session::{SourceFault, read_marked};
 
 /// What was sent.
 #[derive(Clone, Copy, Debug, PartialEq, Eq)]

@@ -4,5 +4,4 @@ pub mod Tabled
 pub mod OneGroupMore
 pub mod Planned
 pub mod Passed
-pub mod Sourced
 pub mod KeptInOrder

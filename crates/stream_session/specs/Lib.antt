@@ -4,7 +4,6 @@ pub mod Number
 pub mod Accepted
 pub mod Planning
 pub mod Passing
-pub mod Sources
 pub mod Marks
 pub mod Sessions
 pub mod inside

@@ -1,3 +1,2 @@
 pub mod Marking
 pub mod Planning
-pub mod Holding

@@ -2,7 +2,6 @@ pub mod TableLaws
 pub mod FormatLaws
 pub mod FitLaws
 pub mod SessionLaws
-pub mod SourceLaws
 pub mod MarkLaws
 pub mod MessageLaws
 pub mod SessionOfLaws

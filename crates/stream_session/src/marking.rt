@@ -33,7 +33,7 @@ use stripe_plan::Table;
 
 /// The session of a stream, and the marks of its groups.
 #[derive(Drop)]
-pub(crate) struct MarkedPlan {
+pub struct MarkedPlan {
     pub plan: SessionPlan,
     /// One for each group, in order.
     pub marks: Vec<GroupMark>,
@@ -49,7 +49,7 @@ struct KeptGroups {
 /// A pass that scans the stream once: of each group it keeps the table and the mark as the group ends, and then lets it go.
 /// It holds the bytes of the group that has not ended.
 #[derive(Drop)]
-pub(crate) struct MarkedPass {
+pub struct MarkedPass {
     cutter: GroupCutter,
     kept: KeptGroups,
     hasher: Sha256,

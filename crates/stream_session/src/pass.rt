@@ -9,7 +9,7 @@ ghost use Rattle.sha2.specs.Hashers.{Holds256};
 ghost use Rattle.priority_file.specs.Priority.{Priorities};
 ghost use Rattle.stream_session.specs.Planning.{HasPlanned};
 ghost use Rattle.stream_session.specs.Number.{hashed};
-ghost use Rattle.stream_session.specs.Passing.{HasPassed, IsPlanOf, IsPlanIn, IsPlanWithin, IsStreamFault, IsStreamFaultIn, IsStreamFaultWithin, IsPlanBy, IsPlanFault};
+ghost use Rattle.stream_session.specs.Passing.{HasPassed, IsPlanOf, IsPlanIn, IsStreamFault, IsStreamFaultIn, IsPlanBy, IsPlanFault};
 ghost use Rattle.stream_session.specs.Tables.{IsSessionFormat};
 
 use crate::fault::SessionFault;
@@ -110,33 +110,22 @@ impl Pass {
     /// # Errors
     ///
     /// The refusal of the stream, or else that of its plan.
+    #[tactic(auto, using(crate::specs::laws::FormatLaws::today_is))]
     pub fn finish(self) -> Result<SessionPlan, StreamFault>
         ensures plan { IfOk result (λ plan. (priority : Priorities) (file stream : List ℕ) → HasPassed self priority file stream
             → IsPlanOf plan priority file stream) }
         ensures refused { IfErr result (λ fault. (priority : Priorities) (file stream : List ℕ) → HasPassed self priority file stream
             → IsStreamFault priority stream fault) }
     {
-        self.finish_within(MAX_SESSION)
+        self.finish_in(&FORMAT, MAX_SESSION)
     }
 
-    /// The same, where a session may have so many bytes, at most `MAX_SESSION`.
+    /// The same in a format, where a session may have so many bytes, at most `MAX_SESSION`.
     ///
     /// # Errors
     ///
     /// The refusal of the stream, or else that of its plan.
-    #[tactic(auto, using(crate::specs::laws::FormatLaws::today_is))]
-    pub fn finish_within(self, limit: u64) -> Result<SessionPlan, StreamFault>
-        requires { limit ≤ MAX_SESSION }
-        ensures plan { IfOk result (λ plan. (priority : Priorities) (file stream : List ℕ) → HasPassed self priority file stream
-            → IsPlanWithin limit plan priority file stream) }
-        ensures refused { IfErr result (λ fault. (priority : Priorities) (file stream : List ℕ) → HasPassed self priority file stream
-            → IsStreamFaultWithin limit priority stream fault) }
-    {
-        self.finish_in(&FORMAT, limit)
-    }
-
-    /// The same in a format.
-    pub(crate) fn finish_in(self, format: &Format, limit: u64) -> Result<SessionPlan, StreamFault>
+    pub fn finish_in(self, format: &Format, limit: u64) -> Result<SessionPlan, StreamFault>
         requires format { IsSessionFormat format.now }
         requires limit { limit ≤ MAX_SESSION }
         ensures plan { IfOk result (λ plan. (priority : Priorities) (file stream : List ℕ) → HasPassed self priority file stream

@@ -13,7 +13,7 @@ use priority_file::Priority;
 use std::alloc::Global;
 
 /// Reads a stream that comes in portions of any size, under a priority.
-pub(crate) trait StreamReader: Drop {
+pub trait StreamReader: Drop {
     /// What it answers of the stream.
     type Answer;
 

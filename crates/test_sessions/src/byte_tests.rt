@@ -3,8 +3,9 @@
 use crate::stream_fixtures::{ONE_LAYER, groups_of, place_of};
 use packet_frame::BYTE_FORMAT;
 use pet_base::NoMemory;
+use session_source::{MarkedSource, SourceFault, read_marked_in};
 use std::alloc::Global;
-use stream_session::{MarkedSource, SessionFault, SourceFault, read_marked_in};
+use stream_session::SessionFault;
 
 /// One packet, which shows all layers.
 const IN_ONE: &str =

@@ -1,4 +1,4 @@
-//! Tests over the public calls of `layer_split`, `stream_groups`, `stream_session` and `text_plan`, as a caller sees them.
+//! Tests over the public calls of `layer_split`, `stream_groups`, `stream_session`, `session_source` and `text_plan`, as a caller sees them.
 //!
 //! They stand apart because the gate proves a crate with tests twice, once alone and once with them: here the second time is
 //! the tests' own. Layers they share with `test_stripes`, pieces and priorities with `test_streams`. No program uses this

@@ -1,8 +1,9 @@
 //! The marks of a stream's groups.
 use mpeg_scan::Scan;
 use pet_base::{MemoryPlace, NoMemory};
+use session_source::{MarkedSource, SourceFault, read_marked};
 use std::alloc::{AllocError, Global};
-use stream_session::{GroupMark, MarkedSource, SessionFault, SourceFault, read_marked};
+use stream_session::{GroupMark, SessionFault};
 
 /// Priorities of two layers.
 const PRIORITIES: &str =

@@ -1,8 +1,9 @@
 //! The limits of a datagram, of a group and of a session.
 use crate::stream_fixtures::{ONE_LAYER, groups_of, place_of};
 use pet_base::NoMemory;
+use session_source::{SourceFault, read_source};
 use std::alloc::Global;
-use stream_session::{SessionFault, SourceFault, read_source};
+use stream_session::SessionFault;
 
 /// One packet, which shows all layers.
 const IN_ONE: &str =

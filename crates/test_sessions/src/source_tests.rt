@@ -2,8 +2,8 @@
 use mpeg_scan::Scan;
 use pet_base::{MemoryPlace, NoMemory};
 use priority_file::PriorityFault;
+use session_source::{Source, SourceFault, read_source};
 use std::alloc::{AllocError, Global};
-use stream_session::{Source, SourceFault, read_source};
 use test_example::{PRIORITIES, SESSION, STREAM};
 use test_stripes::is_example;
 

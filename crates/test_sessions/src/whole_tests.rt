@@ -1,8 +1,9 @@
 //! The session of a stream that is held, and the smaller limit by which it is judged.
 use crate::stream_fixtures::{ONE_LAYER, groups_of, place_of};
 use pet_base::NoMemory;
+use session_source::{SourceFault, WholeSource, read_source, read_whole};
 use std::alloc::Global;
-use stream_session::{SessionFault, SourceFault, WholeSource, read_source, read_whole};
+use stream_session::SessionFault;
 use test_example::{PRIORITIES, SESSION, STREAM};
 
 /// Whether two groups have a session of at most 67,108,864 bytes, and hold the stream. They have one in any case.

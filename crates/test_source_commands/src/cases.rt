@@ -5,10 +5,10 @@ use command_plan::{CheckEnd, PlanEnd, check, plan};
 use command_send::{SendEnd, send};
 use outside_routes::Route;
 use pet_base::{Link, MemoryLink, MemoryPlace, MemorySink, NoMemory, Outside, Place, Sink, Steps};
+use session_source::SourceFault;
 use std::alloc::{AllocError, Global};
 use std::marker::Brand;
 use std::sync::ledger::{Blank, Ledger};
-use stream_session::SourceFault;
 use test_example::packets;
 
 /// A stream: its front, and bytes that follow it so many times.

@@ -3,8 +3,9 @@ use crate::cases::{ALL_GO, Files, NO_TYPE, Run, Stream, is_so};
 use command_plan::CheckEnd;
 use mpeg_scan::Scan;
 use priority_file::PriorityFault;
+use session_source::SourceFault;
 use std::alloc::Global;
-use stream_session::{SessionFault, SourceFault};
+use stream_session::SessionFault;
 use test_example::{PLAN, PRIORITIES, STREAM};
 
 /// The example stream; a head and an I picture; heads in one piece of 64,931 and of 64,933 bytes; groups of ten bytes.

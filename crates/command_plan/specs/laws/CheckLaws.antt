@@ -7,9 +7,9 @@ use Rattle.pet_base.specs.Seen.{Seen}
 use Rattle.pet_base.specs.laws.SeenLaws.{HadFault-since}
 use Rattle.stripe_plan.specs.Sizes.{Sizes}
 use Rattle.outside_files.specs.Uses.{Failed, reading}
-use Rattle.stream_session.specs.Sources.{IsSourceFault}
-use Rattle.stream_session.specs.declared.source.SourceFault.{SourceFault}
-use Rattle.stream_session.specs.declared.source.SourceFault.TheVariants as source
+use Rattle.session_source.specs.Sources.{IsSourceFault}
+use Rattle.session_source.specs.declared.source.SourceFault.{SourceFault}
+use Rattle.session_source.specs.declared.source.SourceFault.TheVariants as source
 use Rattle.text_plan.specs.declared.plan_file.Repeat.{Repeat}
 use Rattle.text_plan.specs.PlanFile.{lists_of}
 use Rattle.text_plan.specs.PlanText.{plan_lists}
@@ -23,7 +23,7 @@ use Rattle.command_plan.specs.Checks.{Checks}
 use Rattle.command_plan.specs.SessionPlan.{session_plan}
 use Rattle.stream_session.specs.Sessions.{IsGiven, tables_in}
 use Rattle.command_plan.specs.laws.PlanFileLaws.{IsReadAgain, read_again}
-use Rattle.stream_session.specs.laws.SourceLaws.{file_is, priority_is, stream_is, no_fault}
+use Rattle.session_source.specs.laws.SourceLaws.{file_is, priority_is, stream_is, no_fault}
 
 ok_same : {A B : Type 0} (r : Result A B) (x y : A) → r ≡ Ok x → r ≡ Ok y → x ≡ y
 ok_same r x y p q = cc

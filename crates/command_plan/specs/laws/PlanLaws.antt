@@ -1,9 +1,9 @@
 -- Laws of `plan`, for the proofs of callers: where no cause of another end holds it is done.
 use Rattle.std.proofs.Common.{◌≡◌, ◌≢◌, ℕ, List, [], ◌∷◌, refl, ap, ◌∙◌}
 use Rattle.pet_base.specs.Seen.{Seen}
-use Rattle.stream_session.specs.Sources.{IsSourceFault}
-use Rattle.stream_session.specs.declared.source.SourceFault.{SourceFault}
-use Rattle.stream_session.specs.declared.source.SourceFault.TheVariants as source
+use Rattle.session_source.specs.Sources.{IsSourceFault}
+use Rattle.session_source.specs.declared.source.SourceFault.{SourceFault}
+use Rattle.session_source.specs.declared.source.SourceFault.TheVariants as source
 use Rattle.command_plan.specs.declared.planning.PlanEnd.{PlanEnd}
 use Rattle.command_plan.specs.declared.planning.PlanEnd.TheVariants.{Done, NoMemory, PlaceFault, BadPriority, BadStream}
 use Rattle.command_plan.specs.declared.planning.PlanEnd.TheVariants.{BadPlan}
@@ -11,7 +11,7 @@ use Rattle.command_plan.specs.Planned.{CanPlan, HasPlanned, PlansSession}
 use Rattle.command_plan.specs.Plans.{PlanEnds, Plans}
 use Rattle.command_plan.specs.SessionPlan.{session_plan}
 use Rattle.stream_session.specs.Sessions.{HasSession, IsGiven}
-use Rattle.stream_session.specs.laws.SourceLaws.{priority_is, stream_is, no_fault}
+use Rattle.session_source.specs.laws.SourceLaws.{priority_is, stream_is, no_fault}
 
 module _ (stream priority : List ℕ) (old new : Seen) where
   module _ (p b : List ℕ) (end : PlanEnd) (can : CanPlan stream priority p b old new end) where

@@ -10,7 +10,7 @@ use Rattle.pet_world.specs.ReceivedSets.{event_refusal}
 use Rattle.stream_session.specs.Accepted.{IsAcceptedWithin, group_of}
 use Rattle.stream_session.specs.Number.{session_number}
 use Rattle.stream_session.specs.Tables.{tables_of, cuts_of_stream}
-use Rattle.stream_session.specs.declared.whole.WholeSource.{WholeSource}
+use Rattle.session_source.specs.declared.whole.WholeSource.{WholeSource}
 
 -- it is an accepted session of no more bytes than `replay` takes
 pub record IsHeld (whole : WholeSource) : Type 0 where

@@ -6,9 +6,9 @@ use Rattle.pet_base.specs.Seen.{Seen}
 use Rattle.pet_base.specs.laws.SeenLaws.{HadFault-since}
 use Rattle.outside_files.specs.Uses.{Failed, reading}
 use Rattle.stream_session.specs.Accepted.{session_of}
-use Rattle.stream_session.specs.declared.source.SourceFault.{SourceFault}
-use Rattle.stream_session.specs.declared.source.SourceFault.TheVariants as source
-use Rattle.stream_session.specs.laws.SourceLaws.{file_is, priority_is, stream_is, no_fault}
+use Rattle.session_source.specs.declared.source.SourceFault.{SourceFault}
+use Rattle.session_source.specs.declared.source.SourceFault.TheVariants as source
+use Rattle.session_source.specs.laws.SourceLaws.{file_is, priority_is, stream_is, no_fault}
 use Rattle.command_replay.specs.declared.command.ReplayEnd.{ReplayEnd}
 use Rattle.command_replay.specs.declared.command.ReplayEnd.TheVariants.{Done, NoMemory, PlaceFault, BadPriority}
 use Rattle.command_replay.specs.declared.command.ReplayEnd.TheVariants.{BadStream, BadPlan, BadScript}

@@ -3,7 +3,7 @@ use Rattle.std.specs.Prelude.{ℕ}
 use Rattle.packet_frame.specs.declared.format.TheConstants.{FORMAT}
 use Rattle.packet_encoder.specs.CodedGroup.{CodedGroup}
 use Rattle.stream_groups.specs.CutGroups.{CutGroup}
-use Rattle.stream_session.specs.declared.source.Source.{Source}
+use Rattle.session_source.specs.declared.source.Source.{Source}
 use Rattle.command_send.specs.Sending.{encoding_of}
 
 abbrev pub coded_of : Source → ℕ → CutGroup → CodedGroup

@@ -7,7 +7,7 @@ use Rattle.pet_base.specs.declared.outside.Outside.{Outside}
 use Rattle.outside_routes.specs.Sending.{Routes, routes}
 use Rattle.outside_routes.specs.Way.{Way, way_of}
 use Rattle.stream_session.specs.declared.mark.GroupMark.{GroupMark}
-use Rattle.stream_session.specs.declared.source.Source.{Source}
+use Rattle.session_source.specs.declared.source.Source.{Source}
 use Rattle.command_send.specs.declared.job.Job.{Job as JobOf}
 
 -- where the packets go, and what the first reading of both files found: the session and its groups' marks

@@ -16,10 +16,10 @@ use Rattle.command_send.specs.SendsSession.{uses, CanSend, SendsAll, HasSent, Se
 use Rattle.outside_routes.specs.Sending.{Sent}
 use Rattle.outside_routes.specs.Way.{Way, OnFile, OnLink}
 use Rattle.stream_session.specs.Sessions.{HasSession}
-use Rattle.stream_session.specs.laws.SourceLaws.{priority_is, stream_is, none_refused}
-use Rattle.stream_session.specs.Sources.{IsSourceFault}
-use Rattle.stream_session.specs.declared.source.SourceFault.{SourceFault}
-use Rattle.stream_session.specs.declared.source.SourceFault.TheVariants as source
+use Rattle.session_source.specs.laws.SourceLaws.{priority_is, stream_is, none_refused}
+use Rattle.session_source.specs.Sources.{IsSourceFault}
+use Rattle.session_source.specs.declared.source.SourceFault.{SourceFault}
+use Rattle.session_source.specs.declared.source.SourceFault.TheVariants as source
 
 module _ (stream priority : List ℕ) (way : Way) (before after : OutsideSeen) where
   module _ (p b : List ℕ) (end : SendEnd) (can : CanSend stream priority way p b before after end) where

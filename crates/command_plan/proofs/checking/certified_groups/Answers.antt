@@ -3,7 +3,7 @@ use Rattle.std.proofs.lemmas.Result.{IfOk-weaker, IfErr-weaker}
 use Rattle.pet_base.specs.declared.limits.TheConstants.{MAX_GROUPS}
 use Rattle.stripe_plan.specs.Sizes.{Sizes}
 use Rattle.command_plan.specs.Checks.{Checks}
-use Rattle.stream_session.specs.laws.SourceLaws.{session_in, source_few}
+use Rattle.session_source.specs.laws.SourceLaws.{session_in, source_few}
 use Rattle.pet_base.specs.laws.Through.{each_err_and}
 use Rattle.command_plan.proofs.CheckCauses.{cause_of_source, no_lists, not_certified, certified, lists_lent}
 use Rattle.command_plan.proofs.checking.certified_groups.Goals as goal

@@ -1,5 +1,5 @@
 use Rattle.std.proofs.Common.{◌∙◌}
-use Rattle.stream_session.specs.laws.SourceLaws.{session_in, source_few, source_layered}
+use Rattle.session_source.specs.laws.SourceLaws.{session_in, source_few, source_layered}
 use Rattle.command_plan.proofs.PlanTexts.{plan_of_source}
 use Rattle.command_plan.proofs.planning.text_of_files.Goals as goal
 

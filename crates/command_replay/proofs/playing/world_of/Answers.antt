@@ -6,7 +6,7 @@ use Rattle.packet_session.specs.Session.{Session, IsSession, Fits}
 use Rattle.packet_met.specs.EncodedSession.{encoded_session}
 use Rattle.packet_met.specs.laws.EncodedSessionLaws.{session_is}
 use Rattle.pet_base.specs.declared.limits.TheConstants.{MAX_REPLAY_SESSION}
-use Rattle.stream_session.specs.declared.whole.WholeSource.{WholeSource}
+use Rattle.session_source.specs.declared.whole.WholeSource.{WholeSource}
 use Rattle.command_replay.specs.inside.Held.{IsHeld, held_session}
 use Rattle.command_replay.proofs.HeldSession.{lawful, fits}
 use Rattle.command_replay.proofs.playing.world_of.Goals as goal
