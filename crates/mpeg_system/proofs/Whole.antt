@@ -72,10 +72,9 @@ begun_front : (file out : List ℕ) (id : ℕ) (old made new : Seen) (stream giv
     → LeavesFront file id out old new
 begun_front file out id old made new stream given left o rest front part = inr (told old.files refl)
   where
-    at_file : (f : Files) (b : Option (List ℕ)) → old.files ≡ Some f → f file ≡ b
-        → IfSome b (λ bytes. Wrote [] (Some (record { name = out; bytes = video_of id bytes })) old new)
-    at_file f None is e = tt
-    at_file f (Some bytes) is e =
+    at_file : (f : Files) → old.files ≡ Some f → (bytes : List ℕ) → f file ≡ Some bytes
+        → Wrote [] (Some (record { name = out; bytes = video_of id bytes })) old new
+    at_file f is bytes e =
         let here : Some bytes ≡ prepend_known stream left =
         sym e ∙ (sym (ap (λ (x : Option Files). bytes_at x file) is) ∙ (sym o.rest ∙ rest)) in
         let at = behind stream bytes left here in
@@ -91,9 +90,13 @@ begun_front file out id old made new stream given left o rest front part = inr (
 
     told : (fs : Option Files) → old.files ≡ fs
         → IfSome fs
-        (λ f. IfSome (f file) (λ bytes. Wrote [] (Some (record { name = out; bytes = video_of id bytes })) old new))
+        (λ f. (bytes : List ℕ) × (f file ≡ Some bytes)
+        × Wrote [] (Some (record { name = out; bytes = video_of id bytes })) old new)
     told None is = tt
-    told (Some f) is = at_file f (f file) is refl
+    told (Some f) is =
+        let found : IsSome (f file) = subst (λ (fs : Option Files). IfSome fs (λ g. IsSome (g file))) is o.found in
+        let there = file_at (f file) found in
+        (there.0, there.1, at_file f is there.0 there.1)
 
 pub begun_at : (file out : List ℕ) (id : ℕ) (old made new : Seen) → IsOpen file out old made → HasBegun id made new
     → LeavesFront file id out old new
@@ -164,9 +167,10 @@ pub entering_failed : (file out : List ℕ) (old new : Seen) → HadFault old ne
 entering_failed file out old new h =
     HadFault-since old old new _ _ (omega arith) (λ b is. inl (Blames-some file Read b is)) h
 
-pub writing_failed : (file out : List ℕ) (old entered new : Seen) → old.faults ≤ entered.faults
-    → HadFault entered new (IsOneOf (writing out ∷ [])) → Failed (reading file ∷ writing out ∷ []) old new
-writing_failed file out old entered new later h = HadFault-since old entered new _ _ later (λ b is. inr is) h
+-- a failure at OUT behind the reading of FILE is one at OUT
+pub written_failed : (out : List ℕ) (old mid new : Seen) → old.faults ≤ mid.faults
+    → HadFault mid new (IsOneOf (writing out ∷ [])) → Failed (writing out ∷ []) old new
+written_failed out old mid new later h = HadFault-since old mid new _ _ later (λ b is. is) h
 
 -- within the loop
 pub read_failed : (first before after : Seen) (stream given : List ℕ) → Stands first before stream given

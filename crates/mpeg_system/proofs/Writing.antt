@@ -12,7 +12,7 @@ use Rattle.outside_files.specs.laws.WroteLaws.{Wrote-nothing}
 use Rattle.mpeg_system.specs.declared.wrap_files.WrapEnd.TheVariants.{Done, PlaceFault}
 use Rattle.mpeg_system.specs.Wrapped.{wrapped}
 use Rattle.mpeg_system.specs.Wraps.{Wraps}
-use Rattle.mpeg_system.proofs.Whole.{writing_failed}
+use Rattle.mpeg_system.proofs.Whole.{written_failed}
 
 pub ok_of : {T E P : Type 0} (result : Result T E) (failed : Bool) → failed ≡ is_err result → failed ≡ false
     → OnOk result P → P
@@ -43,12 +43,11 @@ module _ (file out bytes text : List ℕ) (old mid new : Seen) (read : IsFrontOf
   pub wraps_fault : old.faults ≤ mid.faults
       → (new.files ≡ mid.files) ⊎ Wrote [] (Some (record { name = out; bytes = text })) mid new
       → HadFault mid new (IsOneOf (writing out ∷ [])) → Wraps file out old new PlaceFault
-  wraps_fault later (inl kept) fault =
-      (inl (Wrote-nothing old new (kept ∙ same)), writing_failed file out old mid new later fault)
-  wraps_fault later (inr part) fault = (
-    inr (
-      record { bytes = bytes; read = read; short = short },
-      (part.0, subst (IsPrefix part.0) is part.1, part.2 ∙ ap (option_map (with_files (made part.0 ∷ []))) same),
-    ),
-    writing_failed file out old mid new later fault,
-  )
+  wraps_fault later left fault =
+      inr (record { bytes = bytes; read = read; short = short }, written_failed out old mid new later fault, leaves left)
+    where
+      leaves : (new.files ≡ mid.files) ⊎ Wrote [] (Some (record { name = out; bytes = text })) mid new
+          → Wrote [] None old new ⊎ Wrote [] (Some (record { name = out; bytes = wrapped bytes })) old new
+      leaves (inl kept) = inl (Wrote-nothing old new (kept ∙ same))
+      leaves (inr part) =
+          inr (part.0, subst (IsPrefix part.0) is part.1, part.2 ∙ ap (option_map (with_files (made part.0 ∷ []))) same)

@@ -6,7 +6,9 @@ use Rattle.std.proofs.lemmas.List.{append-nil}
 use Rattle.std.proofs.lemmas.Bool.{cases_lt}
 use Rattle.pet_base.specs.declared.limits.TheConstants.{MAX_STREAM}
 use Rattle.pet_base.specs.Seen.{Seen, Files, with_file}
+use Rattle.pet_base.specs.laws.SeenLaws.{HadFault-since}
 use Rattle.outside_files.specs.Inputs.{IsFrontOf}
+use Rattle.outside_files.specs.Uses.{Failed, reading, writing}
 use Rattle.outside_files.specs.Wrote.{File, Wrote, with_files}
 use Rattle.mpeg_system.specs.declared.refusal.System.{System}
 use Rattle.mpeg_system.specs.declared.unwrap_files.UnwrapEnd.{UnwrapEnd}
@@ -16,7 +18,7 @@ use Rattle.mpeg_system.specs.declared.wrap_files.WrapEnd.TheVariants as wrap
 use Rattle.mpeg_system.specs.Videos.{refusal_of, video_of}
 use Rattle.mpeg_system.specs.Wrapped.{wrapped}
 use Rattle.mpeg_system.specs.Unwraps.{WritesVideo, Unwraps}
-use Rattle.mpeg_system.specs.Wraps.{Wraps}
+use Rattle.mpeg_system.specs.Wraps.{FailedInTurn, Wraps}
 use Rattle.mpeg_system.specs.Completes.{HasFile, unwrap_end, UnwrapsStream, CompletesUnwrap, CompletesWrap}
 use Rattle.mpeg_system.specs.laws.VideoLaws.{longer_refusal, longer_video}
 
@@ -84,6 +86,12 @@ completes_unwrap file id out old new (unwrap.BadSystem s) u bytes files memory w
 completes_unwrap file id out old new unwrap.NoMemory u bytes files memory well given = absurd (memory refl)
 completes_unwrap file id out old new unwrap.PlaceFault u bytes files memory well given = absurd (well u.1)
 
+-- either failure is one at FILE or at OUT
+failed_in_turn : (file out : List ℕ) (old new : Seen) → FailedInTurn file out old new
+    → Failed (reading file ∷ writing out ∷ []) old new
+failed_in_turn file out old new (inl at) = HadFault-since old old new _ _ (omega arith) (λ b is. inl is) at.0
+failed_in_turn file out old new (inr at) = HadFault-since old old new _ _ (omega arith) (λ b is. inr is) at.1
+
 pub completes_wrap : (file out : List ℕ) (old new : Seen) (end : WrapEnd) → Wraps file out old new end
     → CompletesWrap file out old new end
 completes_wrap file out old new (wrap.Done n) w bytes files memory well given =
@@ -102,4 +110,5 @@ completes_wrap file out old new (wrap.BadSystem s) w bytes files memory well giv
   long = λ long. (unwritten files old new given.told w.2, ap (λ (x : System). wrap.BadSystem x) w.1);
 }
 completes_wrap file out old new wrap.NoMemory w bytes files memory well given = absurd (memory refl)
-completes_wrap file out old new wrap.PlaceFault w bytes files memory well given = absurd (well w.1)
+completes_wrap file out old new wrap.PlaceFault w bytes files memory well given =
+    absurd (well (failed_in_turn file out old new w))
