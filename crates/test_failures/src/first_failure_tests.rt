@@ -3,34 +3,29 @@
 ghost use Rattle.std.specs.Prelude.{◌≡◌, ◌<◌, IfOk};
 ghost use Rattle.pet_base.specs.Feed.{AreShort};
 
+use crate::example::files;
 use crate::{Watch, Watched};
 use pet_base::{MAX_ENTRY, MemoryLink, MemoryPlace, MemorySink, NoMemory, Steps};
 use pet_tool::run;
 use std::alloc::{AllocError, Global};
 use std::marker::Brand;
 use std::sync::ledger::{Blank, Ledger};
-use test_example::{PLAN, PRIORITIES, STREAM, old_store, packets};
+use test_example::packets;
 use text_status::Status;
-
-/// The store of the example session that has no packet.
-const NOTHING: [u8; 32] = [
-    0x50, 0x54, 0x53, 0x32, 0xA5, 0xAC, 0x94, 0x61, 0xB0, 0x3B, 0xCF, 0x36, 0x00, 0x00, 0x00, 0x00,
-    0xCC, 0xDB, 0x3B, 0x0A, 0x73, 0x3B, 0xD5, 0x31, 0x2E, 0x79, 0xFF, 0xE6, 0x7C, 0xC1, 0x0D, 0xAA,
-];
 
 /// What fails.
 #[derive(Clone, Copy)]
-enum Object {
+pub(crate) enum Object {
     Files,
     Link,
     Output,
 }
 
 /// More calls than a command makes of one object here.
-const MOST_CALLS: u64 = 100;
+pub(crate) const MOST_CALLS: u64 = 100;
 
 /// The status of a run at which a call of this object failed.
-fn status_of(object: Object) -> Status {
+pub(crate) fn status_of(object: Object) -> Status {
     match object {
         Object::Files => Status::PlaceFault,
         Object::Link => Status::LinkFault,
@@ -47,30 +42,8 @@ fn failing(alloc: Global, call: u64, fails: bool) -> Result<Vec<u64>, AllocError
     Ok(calls)
 }
 
-/// The files of the example: stream, priorities, plan, datagrams, a store, one of the first version, and a script.
-fn files(alloc: Global, failing: Vec<u64>) -> Result<MemoryPlace, NoMemory> {
-    let mut place = MemoryPlace::new(alloc, failing);
-    place.add("s", &STREAM)?;
-    place.add("f", PRIORITIES.as_bytes())?;
-    place.add("p", PLAN.as_bytes())?;
-    place.add("a", &NOTHING)?;
-    place.add("m", &old_store())?;
-    place.add("q", &entries(alloc)?)?;
-    place.add("e", b"give A 0 0\n")?;
-    Ok(place)
-}
-
-/// The packets of the example, as a datagram file has them.
-fn entries(alloc: Global) -> Result<Vec<u8>, AllocError> {
-    let mut bytes = Vec::new(alloc);
-    for packet in packets().iter() {
-        bytes.extend_from_slice(packet)?;
-    }
-    Ok(bytes)
-}
-
 /// The packets of the example, as they come.
-fn datagrams(alloc: Global) -> Result<Vec<Vec<u8>>, AllocError>
+pub(crate) fn datagrams(alloc: Global) -> Result<Vec<Vec<u8>>, AllocError>
     ensures { IfOk result (λ feed. AreShort feed.items) }
 {
     let mut feed = Vec::new(alloc);

@@ -9,4 +9,10 @@ mod watch;
 pub use watch::{Watch, Watched};
 
 #[cfg(test)]
+mod every_call_tests;
+#[cfg(test)]
+mod example;
+#[cfg(test)]
 mod first_failure_tests;
+#[cfg(test)]
+mod untold_tests;
