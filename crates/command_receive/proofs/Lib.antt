@@ -1,5 +1,3 @@
-mod DatagramsSoFar
 mod FilesRead
 mod Stops
-mod Begun
 mod Ends

@@ -1,7 +1,6 @@
 -- What `receive` leaves at each of its ends. This project's own.
 use Rattle.std.specs.Prelude.{◌≡◌, ◌⊎◌, ℕ, ◌+◌, ◌<◌, ◌≤◌, List, [], ◌∷◌, ◌++◌, length, Option, None, Some, IfSome}
 use Rattle.pet_base.specs.declared.limits.TheConstants.{MAX_DATAGRAMS}
-use Rattle.pet_base.specs.Entries.{datagrams}
 use Rattle.pet_base.specs.LinkSeen.{LinkSeen}
 use Rattle.pet_base.specs.OutsideSeen.{OutsideSeen}
 use Rattle.pet_base.specs.Seen.{Blame, HadFault}
@@ -9,51 +8,23 @@ use Rattle.outside_files.specs.Printed.{Unprinted}
 use Rattle.outside_files.specs.Uses.{reading, writing}
 use Rattle.outside_files.specs.Wrote.{File, Wrote}
 use Rattle.outside_routes.specs.Way.{Way, OnFile, OnLink}
-use Rattle.outside_routes.specs.Coming.{HaveCome, KeepsFeed}
+use Rattle.outside_routes.specs.Coming.{KeepsFeed}
 use Rattle.outside_routes.specs.RouteFaults.{BoundFailed}
-use Rattle.outside_routes.specs.Sending.{AreFirstDatagrams}
-use Rattle.packet_verdicts.specs.KeptSet.{kept_in_all}
-use Rattle.pet_receive.specs.ShownBytes.{IsComplete, shown_in_all}
-use Rattle.store_text.specs.Files.{HasFile, store_file}
+use Rattle.field_elements.specs.Gf16.{gf16_coding}
+use Rattle.packet_frame.specs.declared.format.TheConstants.{FORMAT}
+use Rattle.pet_receive.specs.ShownBytes.{IsComplete}
+use Rattle.store_text.specs.Files.{store_file}
 use Rattle.packet_met.specs.Kept.{nothing_of, kept_of}
 use Rattle.packet_met.specs.Gf16.{IsLayersText}
 use Rattle.packet_met.specs.Steps.{steps_of_all}
-use Rattle.outside_routes.specs.Bound.{bound_text}
 use Rattle.command_receive.specs.Opened.{IsBoundTo, IsOpeningUse, IsUntouched, KeepsLink, PortFailed, PrintedPort}
-use Rattle.command_receive.specs.declared.reading.Totals.{Totals}
+use Rattle.packet_reading.specs.Layers.{AreTotalsIn, ReadsFrontIn, ReadsUntilFaultIn}
+-- what was read of FROM, and LAYERS, are those of every reading
+pub use Rattle.packet_reading.specs.Layers.{AreRead, HaveLeft, IsRead, IsReadFirst, layers_file, port_line}
+use Rattle.packet_reading.specs.declared.reading.Totals.{Totals}
 use Rattle.command_receive.specs.declared.command.ReceiveEnd.{ReceiveEnd}
 use Rattle.command_receive.specs.declared.command.ReceiveEnd.TheVariants.{Done, NoMemory, PlaceFault, LinkFault}
 use Rattle.command_receive.specs.declared.command.ReceiveEnd.TheVariants.{OutFault, Incomplete, TurnsSpent}
-
--- the whole input is these datagrams, or these are the first 16,777,216 of it
-abbrev pub AreRead : List (List ℕ) → List ℕ → Type 0
-AreRead read bytes =
-    (more : List (List ℕ)) × (datagrams bytes ≡ read ++ more) × (length read < MAX_DATAGRAMS → more ≡ [])
-
--- These have left the link, and at most one more: that at which the command failed. They are no more than 16,777,216
--- together.
-abbrev pub HaveLeft : List (List ℕ) → Option (List (List ℕ)) → Option (List (List ℕ)) → Type 0
-HaveLeft read old new =
-    (last : List (List ℕ)) × (length last ≤ 1) × (length read + length last ≤ MAX_DATAGRAMS)
-    × HaveCome (read ++ last) old new
-
--- FROM is there and these are its datagrams; or these have left the link, where none is left to come. Or they are the
--- first 16,777,216.
-abbrev pub IsRead : Way → List (List ℕ) → OutsideSeen → OutsideSeen → Type 0
-IsRead (OnFile name) read before after = HasFile before.place.files name (AreRead read)
-IsRead (OnLink address) read before after =
-    HaveCome read before.link.feed after.link.feed
-    × (length read < MAX_DATAGRAMS → IfSome after.link.feed (λ more. more ≡ []))
-
--- FROM is there and these are its first datagrams; or these have left the link
-abbrev pub IsReadFirst : Way → List (List ℕ) → OutsideSeen → OutsideSeen → Type 0
-IsReadFirst (OnFile name) read before after =
-    HasFile before.place.files name (λ bytes. AreFirstDatagrams read (datagrams bytes))
-IsReadFirst (OnLink address) read before after = HaveLeft read before.link.feed after.link.feed
-
--- the file of layers, with this text
-abbrev pub layers_file : List ℕ → List ℕ → File
-layers_file layers text = record { name = layers; bytes = text }
 
 -- the file of the store of what is kept after these datagrams
 abbrev pub kept_file : List ℕ → List ℕ → List (List ℕ) → File
@@ -72,13 +43,9 @@ pub record Reads (from : Way) (session layers store : List ℕ) (before after : 
   pub steps : after.steps ≤ before.steps + steps_of_all (nothing_of session) read
 
 -- LAYERS has a front of the layers text of the first datagrams of FROM.
-pub record ReadsFront (from : Way) (session layers : List ℕ) (before after : OutsideSeen) : Type 0 where
-  pub read : List (List ℕ)
-  pub text : List ℕ
-  pub few : length read ≤ MAX_DATAGRAMS
-  pub input : IsReadFirst from read before after
-  pub is_text : IsLayersText (nothing_of session) [] 1 read text
-  pub file : Wrote [] (Some (layers_file layers text)) before.place after.place
+abbrev pub ReadsFront : Way → List ℕ → List ℕ → OutsideSeen → OutsideSeen → Type 0
+ReadsFront from session layers before after =
+    ReadsFrontIn FORMAT (λ a. a < 65536) gf16_coding from session layers before after
 
 -- The datagrams of FROM were read, LAYERS has their layers text, and STORE a front of the store of what is kept of
 -- them.
@@ -91,13 +58,9 @@ pub record StoresFront (from : Way) (session layers store : List ℕ) (before af
   pub files : Wrote (layers_file layers text ∷ []) (Some (kept_file store session read)) before.place after.place
 
 -- The link failed while datagrams were to come: LAYERS has the whole layers text of those that have left the link.
-pub record ReadsUntilFault (session layers : List ℕ) (before after : OutsideSeen) : Type 0 where
-  pub read : List (List ℕ)
-  pub text : List ℕ
-  pub few : length read ≤ MAX_DATAGRAMS
-  pub come : HaveCome read before.link.feed after.link.feed
-  pub is_text : IsLayersText (nothing_of session) [] 1 read text
-  pub file : Wrote (layers_file layers text ∷ []) None before.place after.place
+abbrev pub ReadsUntilFault : List ℕ → List ℕ → OutsideSeen → OutsideSeen → Type 0
+ReadsUntilFault session layers before after =
+    ReadsUntilFaultIn FORMAT (λ a. a < 65536) gf16_coding session layers before after
 
 -- LAYERS has such a front, or LAYERS is whole and STORE has one
 abbrev pub LeavesLayersFront : Way → List ℕ → List ℕ → List ℕ → OutsideSeen → OutsideSeen → Type 0
@@ -105,15 +68,8 @@ LeavesLayersFront from session layers store before after =
     ReadsFront from session layers before after ⊎ StoresFront from session layers store before after
 
 -- the numbers of these datagrams: how many they are, how many packets of them are kept, and how many layers are shown
-pub record AreTotals (session : List ℕ) (read : List (List ℕ)) (totals : Totals) : Type 0 where
-  pub many : totals.read ≡ length read
-  pub kept : totals.kept ≡ kept_in_all (kept_of session read)
-  pub shown : totals.shown ≡ shown_in_all (kept_of session read)
-
--- the line that is printed first: of a link the port at which it receives
-abbrev pub port_line : Way → LinkSeen → List ℕ
-port_line (OnFile name) link = []
-port_line (OnLink address) link = bound_text link.port
+abbrev pub AreTotals : List ℕ → List (List ℕ) → Totals → Type 0
+AreTotals session read totals = AreTotalsIn FORMAT session read totals
 
 -- the files that are read and written
 abbrev pub uses_of : Way → List ℕ → List ℕ → List Blame

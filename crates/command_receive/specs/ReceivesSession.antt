@@ -1,40 +1,28 @@
 -- The headline of `receive`. This project's own.
-use Rattle.std.specs.Prelude.{◌≡◌, ◌≢◌, ℕ, ◌<◌, List, length, All, None, Some, if◌then◌else◌}
-use Rattle.pet_base.specs.declared.limits.TheConstants.{MAX_SESSION, MAX_DATAGRAMS}
-use Rattle.pet_base.specs.Entries.{datagrams}
+use Rattle.std.specs.Prelude.{◌≡◌, ◌≢◌, ℕ, List, All, Some, if◌then◌else◌}
 use Rattle.pet_base.specs.OutsideSeen.{OutsideSeen}
 use Rattle.pet_base.specs.Seen.{Files, with_file}
 use Rattle.outside_files.specs.Uses.{IsWell}
-use Rattle.outside_routes.specs.Way.{Way, OnFile, OnLink}
+use Rattle.outside_routes.specs.Way.{Way}
 use Rattle.outside_routes.specs.RouteFaults.{BoundFailed}
-use Rattle.packet_frame.specs.Refusals.{fields_of, first_fault}
-use Rattle.packet_session.specs.Session.{Session, IsSession, Fits}
+use Rattle.field_elements.specs.Gf16.{gf16_coding}
+use Rattle.packet_frame.specs.declared.format.TheConstants.{FORMAT}
+use Rattle.packet_session.specs.Session.{Session}
 use Rattle.packet_met.specs.FewestStripes.{CarriesFewestStripes}
-use Rattle.packet_met.specs.Gf16.{IsItsPacket}
-use Rattle.packet_met.specs.Met.{layers_text, met_in, all_shown, count_met, count_shown}
+use Rattle.packet_met.specs.Met.{layers_text, met_in, all_shown}
 use Rattle.packet_met.specs.MetStore.{session_store}
 use Rattle.command_receive.specs.Opened.{IsBoundTo, PrintedPort}
 use Rattle.command_receive.specs.Receives.{uses_of}
-use Rattle.command_receive.specs.declared.reading.Totals.{Totals}
+use Rattle.packet_reading.specs.SessionRead.{HasPacketsOfIn, session_totals_in}
+pub use Rattle.packet_reading.specs.SessionRead.{HasDatagrams}
+use Rattle.packet_reading.specs.declared.reading.Totals.{Totals}
 use Rattle.command_receive.specs.declared.command.ReceiveEnd.{ReceiveEnd}
 use Rattle.command_receive.specs.declared.command.ReceiveEnd.TheVariants.{Done, NoMemory, Incomplete}
 
--- FROM is a file of these datagrams, or the link tells that they are to come
-abbrev pub HasDatagrams : Way → Files → List (List ℕ) → OutsideSeen → Type 0
-HasDatagrams (OnFile name) files ds old = (bytes : List ℕ) × (files name ≡ Some bytes) × (datagrams bytes ≡ ds)
-HasDatagrams (OnLink address) files ds old = old.link.feed ≡ Some ds
-
 -- The place tells its files, and FROM has these datagrams. They are fewer than 16,777,216, and each that is a frame of
--- the session's
--- number is one of the session's packets.
-pub record HasPacketsOf (s : Session) (from : Way) (files : Files) (ds : List (List ℕ))
-    (old : OutsideSeen) : Type 0 where
-  pub session : IsSession 2 s
-  pub fits : Fits s MAX_SESSION
-  pub told : old.place.files ≡ Some files
-  pub found : HasDatagrams from files ds old
-  pub few : length ds < MAX_DATAGRAMS
-  pub packets : All (λ d. first_fault d ≡ None → (fields_of d).session ≡ s.number → IsItsPacket s (fields_of d)) ds
+-- the session's number is one of the session's packets.
+abbrev pub HasPacketsOf : Session → Way → Files → List (List ℕ) → OutsideSeen → Type 0
+HasPacketsOf s from files ds old = HasPacketsOfIn FORMAT gf16_coding s from files ds old
 
 -- The premises of the headline: memory was found, neither the place, the link nor the output had a fault of this call,
 -- and FROM is so.
@@ -47,11 +35,7 @@ pub record CanReceive (s : Session) (from : Way) (layers store : List ℕ) (file
 
 -- the numbers of a session's datagrams, by the packets that were met
 abbrev pub session_totals : Session → List (List ℕ) → Totals
-session_totals s ds = record {
-  read = length ds;
-  kept = count_met s (met_in s.number ds);
-  shown = count_shown s (met_in s.number ds);
-}
+session_totals s ds = session_totals_in FORMAT s ds
 
 -- the end: Done exactly where every layer of every group is shown, and else Incomplete
 abbrev pub session_end : Session → List (List ℕ) → ReceiveEnd

@@ -10,8 +10,9 @@ ghost use Rattle.command_receive.specs.Receives.{Receives};
 ghost use Rattle.command_receive.specs.ReceivesSession.{CompletesReceive};
 ghost use Rattle.command_receive.specs.NamedLayers.{NamesWhatItStores};
 
-use crate::reading::{Reading, Totals, read_all};
+use crate::reading::{Reading, read_all};
 use outside_routes::{Route, RouteStop};
+use packet_reading::Totals;
 use pet_base::{Link, MAX_DATAGRAMS, Outside, Place, Sink};
 use std::alloc::Global;
 use std::sync::ledger::Ledger;

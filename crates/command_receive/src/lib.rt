@@ -1,6 +1,6 @@
 //! The command `receive`: it reads datagrams from a file or receives them by a link, writes the
 //! layers of a session to another file as they are shown, and then the store of all packets that it
-//! has kept.
+//! has kept. The reading, up to the store, is that of `packet_reading`, with the format of today.
 //!
 //! What it leaves at each of its ends stands in `specs/Receives.antt`: which datagrams were read or
 //! have left the link, that LAYERS has their layers text or a front of it, that STORE then has the
@@ -17,8 +17,7 @@
 #![tactic(auto)]
 
 mod command;
-mod opening;
 mod reading;
 
 pub use command::{ReceiveEnd, receive};
-pub use reading::Totals;
+pub use packet_reading::Totals;

@@ -19,5 +19,5 @@ pub use address::is_host_and_port;
 pub use bound::bound_line;
 pub use fault::{RouteFailed, RouteStop};
 pub use receiving::next_datagram;
-pub use route::Route;
+pub use route::{Route, route_at};
 pub use sending::{open_route, put_entry};

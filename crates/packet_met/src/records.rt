@@ -7,18 +7,18 @@ ghost use Rattle.packet_set.specs.Packets.{Packets};
 ghost use Rattle.pet_base.specs.declared.place.Side.TheVariants.{Written};
 ghost use Rattle.pet_base.specs.Causes.{Blames};
 ghost use Rattle.pet_base.specs.Seen.{Seen, OnlyWrites, HasBlame, PlaceStops};
-ghost use Rattle.pet_receive.specs.Arrivals.{Order, HasKept, kept_set, numbers_of, layers_of};
+ghost use Rattle.packet_receiver.specs.Arrivals.{Order, HasKept, kept_set, numbers_of, layers_of};
 ghost use Rattle.packet_verdicts.specs.KeptSet.{open_group};
-ghost use Rattle.pet_receive.specs.ShownBytes.{IsShown};
+ghost use Rattle.packet_receiver.specs.ShownBytes.{IsShown};
 ghost use Rattle.packet_met.specs.LayersText.{record_text, IsLayer};
 ghost use Rattle.packet_met.specs.Records.{layers_in, records_text, AreLayersOf, AreShownText};
 ghost use Rattle.outside_files.specs.Outputs.{Puts, PutsPart};
 
 use arrayvec::ArrayVec;
 use field_rows::Rows;
+use packet_receiver::PacketReceiver;
 use packet_verdicts::LayerSet;
 use pet_base::{Failed, MAX_LAYERS, Place};
-use pet_receive::Receiver;
 
 /// A layer that is shown, with its bytes.
 #[derive(Clone, Copy, Default)]
@@ -34,7 +34,7 @@ struct ShownLayer<'a> {
 /// The call of the place failed, and then its count of faults rose; a front of the records was put.
 pub fn put_shown<P: Place, F: Rows>(
     place: &mut P,
-    receiver: &Receiver<'_, F>,
+    receiver: &PacketReceiver<'_, F>,
     arrival: u32,
     group: u32,
     shown: LayerSet,
@@ -62,7 +62,7 @@ pub fn put_shown<P: Place, F: Rows>(
 
 /// The layers of the set, each lent out by the receiver.
 fn shown_layers<'a, F: Rows>(
-    receiver: &'a Receiver<'_, F>,
+    receiver: &'a PacketReceiver<'_, F>,
     group: u32,
     shown: LayerSet,
 ) -> ArrayVec<ShownLayer<'a>, MAX_LAYERS>
@@ -83,7 +83,7 @@ fn shown_layers<'a, F: Rows>(
 }
 
 /// The bytes of a layer that is shown.
-fn shown_layer<'a, F: Rows>(receiver: &'a Receiver<'_, F>, group: u32, layer: u8) -> &'a [u8]
+fn shown_layer<'a, F: Rows>(receiver: &'a PacketReceiver<'_, F>, group: u32, layer: u8) -> &'a [u8]
     requires { IsShown (kept_set receiver.now) group layer }
     ensures { (order : Order) (p : Packets) → HasKept F.is_element F.coding receiver.now order
         → open_group (kept_set receiver.now) group ≡ Some p

@@ -1,6 +1,7 @@
 //! The receiver of one session.
 ghost use Rattle.std.specs.Prelude.{◌≡◌, ◌≢◌, None, IfErr, map, ◌↔◌, ℕ, ◌+◌, ◌≤◌, false, true, List, [], ◌∷◌, ◌++◌, Some, IsSome, IsTrue, IfOk, IfSome, OnOk, OnErr, option_copied, option_map};
 ghost use Rattle.pet_base.specs.declared.limits.TheConstants.{MAX_PACKETS};
+ghost use Rattle.packet_frame.specs.declared.format.TheConstants.{FORMAT};
 ghost use Rattle.packet_frame.specs.Refusals.{fields_of};
 ghost use Rattle.packet_set.specs.Packets.{Packets};
 ghost use Rattle.pet_interp.specs.Progressive.{step_bound};
@@ -54,6 +55,15 @@ impl<'f, F: Rows> Receiver<'f, F> {
         Receiver {
             core: PacketReceiver::new(alloc, f, FORMAT, session, limit),
         }
+    }
+
+    /// The receiver that this one is, of FORMAT over a field whose elements have two bytes. It takes no memory.
+    pub fn of(core: PacketReceiver<'f, F>) -> Receiver<'f, F>
+        requires format { core.format ≡ FORMAT }
+        requires width { F.coding.width ≡ 2 }
+        ensures { result ≡ core.entry }
+    {
+        Receiver { core }
     }
 
     /// Judges a datagram, and keeps the packet where the verdict is `Kept`. Every other verdict changes nothing and counts

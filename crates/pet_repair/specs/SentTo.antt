@@ -1,14 +1,11 @@
 -- What a command has sent to TO, a file or an address, seen from before it began. This project's own.
-use Rattle.std.specs.Prelude.{◌≡◌, ℕ, Bool, if◌then◌else◌, List, [], ◌∷◌, None, Some, option_map}
+use Rattle.std.specs.Prelude.{◌≡◌, ℕ, List, [], ◌∷◌, None, Some, option_map}
 use Rattle.pet_base.specs.Entries.{entries_of}
 use Rattle.pet_base.specs.LinkSeen.{LinkSeen}
 use Rattle.outside_files.specs.Wrote.{File, Wrote}
 use Rattle.outside_routes.specs.Sending.{Routes, Sent, SentFirst}
 use Rattle.outside_routes.specs.Way.{Way, OnFile, OnLink}
-
--- an end of a command: a file of this name, or the link at this address
-abbrev pub way_at : Bool → List ℕ → Way
-way_at udp name = if udp then OnLink name else OnFile name
+pub use Rattle.outside_routes.specs.Way.{way_at}
 
 -- the datagram file of these, under this name
 abbrev pub entries_file : List ℕ → List (List ℕ) → File

@@ -7,7 +7,6 @@
 
 mod repair;
 mod repairing;
-mod route;
 mod sending;
 mod whole;
 

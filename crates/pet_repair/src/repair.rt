@@ -8,7 +8,7 @@ ghost use Rattle.pet_repair.specs.Repairs.{Repairs, CompletesRepair};
 ghost use Rattle.pet_repair.specs.SentTo.{way_at};
 
 use crate::repairing::repair_store;
-use crate::route::route_at;
+use outside_routes::route_at;
 use pet_base::{Link, Place, Steps};
 use std::alloc::Global;
 use std::sync::ledger::Ledger;

@@ -9,6 +9,8 @@ mod group_fixtures;
 pub use group_fixtures::{MESSAGE, table_of};
 
 #[cfg(test)]
+mod breceive_tests;
+#[cfg(test)]
 mod field_tests;
 #[cfg(test)]
 mod session_tests;

@@ -47,7 +47,11 @@ static ARRIVALS: [(u8, Verdict); 7] = [
 ];
 
 /// The frames of all packets on end, by number.
-fn frames_by<F: Rows, L: Ledger>(alloc: Global, field: &F, blank: Blank) -> Result<Vec<u8>, Fail>
+pub(crate) fn frames_by<F: Rows, L: Ledger>(
+    alloc: Global,
+    field: &F,
+    blank: Blank,
+) -> Result<Vec<u8>, Fail>
     requires width { F.coding.width ≡ 1 }
     requires points { F.COUNT ≡ 256 }
     requires name { blank.name ≡ L.name }
@@ -68,7 +72,7 @@ fn frames_by<F: Rows, L: Ledger>(alloc: Global, field: &F, blank: Blank) -> Resu
 }
 
 /// The frame of this number among frames on end, where it is there.
-fn frame_at(frames: &[u8], number: u8) -> Option<&[u8]> {
+pub(crate) fn frame_at(frames: &[u8], number: u8) -> Option<&[u8]> {
     let at = usize::from(number) * FRAME_LENGTH;
     frames.get(at..at + FRAME_LENGTH)
 }

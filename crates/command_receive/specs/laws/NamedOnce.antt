@@ -21,7 +21,8 @@ use Rattle.packet_verdicts.specs.laws.KeptSetLaws.{IsKeepable, keepable, open_he
 use Rattle.packet_verdicts.specs.laws.KeptSetLaws.{verdict_read, after_kept, after_other, after_sound, empty_sound}
 use Rattle.packet_verdicts.specs.laws.LayerSetLaws.{filter_more, newly_shown-is}
 use Rattle.packet_met.specs.Kept.{nothing_of, kept_of}
-use Rattle.packet_met.specs.LayersText.{AreRecords, IsArrivalText, IsLayersText, order_after, record_text, shown_by}
+use Rattle.packet_met.specs.LayersText.{AreRecords, IsArrivalText, IsArrivalTextIn, IsLayersText, IsLayersTextIn}
+use Rattle.packet_met.specs.LayersText.{order_after, record_text, shown_by}
 use Rattle.packet_met.specs.Gf16 as G
 use Rattle.field_elements.specs.Gf16.{gf16_coding}
 use Rattle.pet_base.specs.declared.limits.TheConstants.{MAX_SESSION}
@@ -277,7 +278,7 @@ module _ {E : Type 0} (P : E → Type 0) (c : Coding E) where
   -- one datagram
   names_one : (b : Bool) (set : KeptSet) (order : Order) (arrival : ℕ) (d text : List ℕ) → IsKeptSet set
       → is_kept (verdict_of set d) ≡ b → IsArrivalText P c set order arrival d text → NamesMore set (after set d) text
-  unfolding IsArrivalText
+  unfolding IsArrivalTextIn
   names_one true set order arrival d text sound kept is =
       let shown : shown_by set d ≡ newly_shown set (fields_of d) =
       ap (λ (b : Bool). cond b (newly_shown set (fields_of d)) []) kept in
@@ -320,7 +321,7 @@ module _ {E : Type 0} (P : E → Type 0) (c : Coding E) where
   -- all of them
   names_all : (read : List (List ℕ)) (set : KeptSet) (order : Order) (arrival : ℕ) (text : List ℕ) → IsKeptSet set
       → IsLayersText P c set order arrival read text → NamesMore set (after_all set read) text
-  unfolding IsLayersText after_all_in
+  unfolding IsLayersTextIn after_all_in
   names_all [] set order arrival text sound is = record {
     names = [];
     text_of = is;

@@ -34,40 +34,10 @@ use Rattle.store_text.specs.Files.{HasFile}
 use Rattle.store_text.specs.Store.{store_of, store_text}
 use Rattle.command_receive.specs.Receives.{AreRead, IsBoundAtEnd, IsRead, IsUseInTurn, layers_file, kept_file}
 use Rattle.command_receive.specs.Receives.{AreTotals, uses_of, Reads, EndsReceive, Receives}
-use Rattle.command_receive.specs.declared.reading.Totals.{Totals}
+use Rattle.packet_reading.specs.declared.reading.Totals.{Totals}
+use Rattle.packet_reading.specs.laws.SessionLaws as L
 use Rattle.command_receive.specs.ReceivesSession.{HasDatagrams, HasPacketsOf, CanReceive, ReceivesSession}
 use Rattle.command_receive.specs.ReceivesSession.{CompletesReceive, session_end, session_totals}
-
-same_some : {A : Type 0} (x y : A) → Some x ≡ Some y → x ≡ y
-same_some x y e = cc
-
-none_some : {A : Type 0} (x : A) → None ≡ Some x → ⊥
-none_some x e = cc
-
--- the datagrams that are told are those that were read, where these are fewer than the most
-all_of : (read more ds : List (List ℕ)) → length ds < MAX_DATAGRAMS → ds ≡ read ++ more
-    → (length read < MAX_DATAGRAMS → more ≡ []) → (ds ≡ read) × (length read < MAX_DATAGRAMS)
-all_of read more ds fewer is none =
-    let few : length read < MAX_DATAGRAMS =
-    omega (arith, fewer, ap (λ (l : List (List ℕ)). length l) is, length-append read more) in
-    (is ∙ ap (λ (l : List (List ℕ)). read ++ l) (none few) ∙ append-nil read, few)
-
-left_all : (read ds : List (List ℕ)) (old now : Option (List (List ℕ))) → old ≡ Some ds → length ds < MAX_DATAGRAMS
-    → HaveCome read old now → (length read < MAX_DATAGRAMS → IfSome now (λ more. more ≡ []))
-    → (ds ≡ read) × (length read < MAX_DATAGRAMS)
-left_all read ds old None told fewer come none = absurd (none_some ds (sym come ∙ told))
-left_all read ds old (Some more) told fewer come none = all_of read more ds fewer (same_some _ _ (sym told ∙ come)) none
-
-all_read : (from : Way) (read ds : List (List ℕ)) (files : Files) (before after : OutsideSeen)
-    → before.place.files ≡ Some files → HasDatagrams from files ds before → length ds < MAX_DATAGRAMS
-    → IsRead from read before after
-    → (ds ≡ read) × (length read < MAX_DATAGRAMS)
-all_read (OnFile name) read ds files before after told found fewer input =
-    let at = subst (λ (o : Option Files). HasFile o name (AreRead read)) told input in
-    let is : AreRead read found.0 = subst (AreRead read) (same_some at.0 found.0 (sym at.1 ∙ found.1)) at.2 in
-    all_of read is.0 ds fewer (sym found.2 ∙ is.1) is.2
-all_read (OnLink address) read ds files before after told found fewer input =
-    left_all read ds before.link.feed after.link.feed found fewer input.0 input.1
 
 -- what may be blamed in its turn is one of the files that are used
 is_used : (from : Way) (layers store : List ℕ) (before after : OutsideSeen) (b : Blame)
@@ -87,22 +57,22 @@ in_turn from layers store before after had =
 module _ (s : Session) (from : Way) (layers store : List ℕ) (files : Files) (ds : List (List ℕ))
     (before after : OutsideSeen) (given : HasPacketsOf s from files ds before) where
   module _ (r : Reads from s.number layers store before after) where
+    abbrev P : ℕ → Type 0
+    P a = a < 65536
+
     read_is : (ds ≡ r.read) × (length r.read < MAX_DATAGRAMS)
-    read_is = all_read from r.read ds files before after given.told given.found given.few r.input
+    read_is = L.read_is FORMAT P gf16_coding s from files ds before after given r.read r.input
 
     plain : All (IsPlain gf16_coding s) r.read
-    plain = subst (λ (l : List (List ℕ)). All (IsPlain gf16_coding s) l) read_is.0 given.packets
+    plain = L.plain FORMAT P gf16_coding s from files ds before after given r.read r.input
 
     follows : Follows (made gf16_coding) s MAX_SESSION (met_in s.number r.read) (kept_of s.number r.read)
-    follows = follows_all (λ a. a < 65536) gf16_coding s MAX_SESSION given.session given.fits r.read plain
+    follows = L.follows FORMAT P gf16_coding s from files ds before after given r.read r.input
 
     -- every layer is shown exactly where the session is complete
-    pub shown_where : (IsComplete (kept_of s.number r.read) → all_shown s (met_in s.number r.read) ≡ true)
+    shown_where : (IsComplete (kept_of s.number r.read) → all_shown s (met_in s.number r.read) ≡ true)
         × (all_shown s (met_in s.number r.read) ≡ true → IsComplete (kept_of s.number r.read))
-    shown_where =
-        let complete = complete_is (made gf16_coding) s MAX_SESSION (met_in s.number r.read)
-        (kept_of s.number r.read) given.session follows in
-        (complete.0, complete.1)
+    shown_where = L.shown_where FORMAT P gf16_coding s from files ds before after given r.read r.input
 
     -- what was read and written is what the session defines
     pub session_left : IsBoundTo from before.link after.link → ReceivesSession s from layers store files ds before after
@@ -112,7 +82,7 @@ module _ (s : Session) (from : Way) (layers store : List ℕ) (files : Files) (d
         ap (λ (n : List ℕ). store_of n (frames_in kept)) follows.session
         ∙ ap (store_of s.number) (kept_frames gf16_coding s (λ a. a < 65536) r.read given.session given.fits plain) in
         let text : r.text ≡ layers_text s r.read =
-        text_is (λ a. a < 65536) gf16_coding s MAX_SESSION given.session given.fits r.read r.text plain r.is_text in
+        L.session_text FORMAT P gf16_coding s from files ds before after given r.read r.input r.text r.is_text in
         subst (λ (l : List (List ℕ)). ReceivesSession s from layers store files l before after) (sym read_is.0)
         (record {
           written =
@@ -126,14 +96,7 @@ module _ (s : Session) (from : Way) (layers store : List ℕ) (files : Files) (d
 
     -- and so are the numbers
     session_numbers : (totals : Totals) → AreTotals s.number r.read totals → totals ≡ session_totals s r.read
-    session_numbers totals are =
-        let pairs = met_in s.number r.read in
-        let kept = kept_of s.number r.read in
-        let of_kept : totals.kept ≡ count_met s pairs =
-        are.kept ∙ kept_is (made gf16_coding) s MAX_SESSION pairs kept given.session follows in
-        let of_shown : totals.shown ≡ count_shown s pairs =
-        are.shown ∙ shown_is (made gf16_coding) s MAX_SESSION pairs kept given.session follows in
-        λ i. record { read = are.many i; kept = of_kept i; shown = of_shown i }
+    session_numbers = L.session_numbers FORMAT P gf16_coding s from files ds before after given r.read r.input
 
     -- and the end, by whether every layer is shown
     pub session_ended : (all : Bool) (totals : Totals) → AreTotals s.number r.read totals
@@ -162,8 +125,7 @@ module _ (s : Session) (from : Way) (layers store : List ℕ) (files : Files) (d
     ends.4,
   )
   received (TurnsSpent totals) whole is can bound ends =
-      absurd (let few = (all_read from ends.0.read ds files before after given.told given.found given.few
-      ends.0.input).1 in let many = ends.1 in omega (arith, few, many))
+      absurd (let few = (read_is ends.0).1 in let many = ends.1 in omega (arith, few, many))
   received OutFault whole is can bound ends = absurd (can.well.out (port_well from ends.1))
   received NoMemory whole is can bound ends = absurd (can.memory is)
   received PlaceFault whole is can bound ends = absurd (can.well.place (in_turn from layers store before after ends.0))

@@ -10,24 +10,28 @@ use Rattle.std.proofs.lemmas.List.Elements.{All-get_or}
 use Rattle.std.proofs.lemmas.Option.{same_Some}
 use Rattle.field_elements.specs.Field.{Coding}
 use Rattle.packet_frame.specs.Frame.{Fields}
-use Rattle.packet_frame.specs.Refusals.{first_fault, fields_of}
+use Rattle.packet_frame.specs.declared.format.Format.{Format}
+use Rattle.packet_frame.specs.declared.format.TheConstants.{FORMAT}
+use Rattle.packet_frame.specs.Planned.{planned_fields}
+use Rattle.packet_frame.specs.Refusals.{first_fault_in}
 use Rattle.packet_frame.specs.declared.fault.FrameFault.{FrameFault}
 use Rattle.packet_frame.specs.declared.frame.Header.{Header}
 use Rattle.packet_set.specs.Packets.{Packets}
 use Rattle.packet_session.specs.Payload.{payload_at}
-use Rattle.packet_session.specs.Session.{Session, SessionGroup, IsSession, IsSessionGroup, IsMessage, IsPacketOf, Fits}
+use Rattle.packet_session.specs.Session.{Session, SessionGroup, IsSessionIn, IsSessionGroupIn, IsMessage, IsPacketOf}
+use Rattle.packet_session.specs.Session.{IsSession, FitsIn, Fits}
 use Rattle.stripe_plan.specs.declared.layer.LayerSize.{LayerSize}
-use Rattle.pet_receive.specs.Arrivals.{Order, numbers_of, layers_of}
+use Rattle.packet_receiver.specs.Arrivals.{Order, numbers_of, layers_of}
 use Rattle.packet_verdicts.specs.declared.verdict.Verdict.TheVariants.{Damaged, Foreign, Clash, Repeated, Full, Kept}
-use Rattle.packet_verdicts.specs.KeptSet.{KeptSet, header_of, group_with, keep}
-use Rattle.packet_verdicts.specs.Verdicts.{verdict_in, verdict_of, frame_verdict_by, frame_verdict, is_kept}
-use Rattle.packet_verdicts.specs.Verdicts.{newly_shown, layer_set, after_in, after, clashes, is_too_much}
+use Rattle.packet_verdicts.specs.KeptSet.{KeptSet, header_of, group_with_by, keep_by}
+use Rattle.packet_verdicts.specs.Verdicts.{verdict_in, frame_verdict_by, is_kept}
+use Rattle.packet_verdicts.specs.Verdicts.{newly_shown, layer_set, after_in, clashes, is_too_much_by}
 use Rattle.packet_verdicts.specs.KeptSet.{payload_of}
-use Rattle.pet_receive.specs.ShownBytes.{Agrees}
-use Rattle.packet_met.specs.LayersText.{AreRecords, IsArrivalText, order_after}
-use Rattle.packet_met.specs.Met.{Pair, pair_in, has_pair, met_after, newly_shown_by, group_text, datagram_text}
+use Rattle.packet_receiver.specs.ShownBytes.{Agrees}
+use Rattle.packet_met.specs.LayersText.{AreRecords, IsArrivalTextIn, order_after_in}
+use Rattle.packet_met.specs.Met.{Pair, pair_by, has_pair, met_after, newly_shown_by, group_text, datagram_text}
 use Rattle.packet_met.specs.laws.PairLaws.{met_here, met_other_group, met_other_number}
-use Rattle.packet_met.specs.laws.KeptIsMet.{HasMet, Follows, met_same}
+use Rattle.packet_met.specs.laws.KeptIsMet.{HasMetBy, FollowsBy, Follows, met_same}
 use Rattle.packet_met.specs.laws.PacketMore.{IsMade, with_pair, follows_keep}
 use Rattle.packet_met.specs.laws.PacketVerdict.{verdict_is}
 use Rattle.packet_met.specs.laws.PacketText.{shows_nothing, records_are, newly_shown_is, has_after}
@@ -37,9 +41,13 @@ use Rattle.std.proofs.lemmas.Bool.{cases_eq}
 unfoldable pub made : {E : Type 0} → Coding E → SessionGroup → ℕ → List ℕ
 made c g number = payload_at c g.layers g.message (c.point_of number)
 
--- the premise on one datagram
+-- the premise on one datagram of a format, and of the frames that are written today
+abbrev pub IsPlainIn : {E : Type 0} → Format → Coding E → Session → List ℕ → Type 0
+IsPlainIn t c s d =
+    first_fault_in t d ≡ None → (planned_fields t d).session ≡ s.number → IsPacketOf c s (planned_fields t d)
+
 abbrev pub IsPlain : {E : Type 0} → Coding E → Session → List ℕ → Type 0
-IsPlain c s d = first_fault d ≡ None → (fields_of d).session ≡ s.number → IsPacketOf c s (fields_of d)
+IsPlain c s d = IsPlainIn FORMAT c s d
 
 pub is_made : {E : Type 0} (c : Coding E) (s : Session) (f : Fields) (is : IsPacketOf c s f)
     → IsMade (made c) s f is.source
@@ -53,8 +61,8 @@ is_made c s f is = record {
 }
 
 -- what is kept agrees with the session's message
-pub agrees : {E : Type 0} (c : Coding E) (s : Session) (pairs : List Pair) (group : ℕ) (g : SessionGroup) (p : Packets)
-    → HasMet (made c) s pairs group g p → Agrees c p g.message
+pub agrees : {word : ℕ} {E : Type 0} (c : Coding E) (s : Session) (pairs : List Pair) (group : ℕ) (g : SessionGroup) (p : Packets)
+    → HasMetBy word (made c) s pairs group g p → Agrees c p g.message
 unfolding made
 agrees c s pairs group g p has number payload at = by (has_pair pairs group number) (sym (has.each number) ∙ at)
   where
@@ -69,58 +77,62 @@ agrees c s pairs group g p has number payload at = by (has_pair pairs group numb
     by false e = absurd cc
 
 -- what one datagram leaves and writes
-pub record IsStep {E : Type 0} (P : E → Type 0) (c : Coding E) (s : Session) (limit : ℕ) (pairs : List Pair)
+pub record IsStepIn (t : Format) {E : Type 0} (P : E → Type 0) (c : Coding E) (s : Session) (limit : ℕ) (pairs : List Pair)
     (kept : KeptSet) (d : List ℕ) : Type 0 where
-  pub follows : Follows (made c) s limit (met_after pairs (pair_in s.number d)) (after kept d)
-  pub writes : (order : Order) (arrival : ℕ) (text : List ℕ) → IsArrivalText P c kept order arrival d text
-      → text ≡ datagram_text c.width s pairs arrival (pair_in s.number d)
+  pub follows : FollowsBy t.word (made c) s limit (met_after pairs (pair_by t s.number d)) (after_in t kept d)
+  pub writes : (order : Order) (arrival : ℕ) (text : List ℕ) → IsArrivalTextIn P c t kept order arrival d text
+      → text ≡ datagram_text c.width s pairs arrival (pair_by t s.number d)
 
-no_pair : (s : Session) (d : List ℕ) → (is_none (first_fault d) && bytes_eq (fields_of d).session s.number) ≡ false
-    → pair_in s.number d ≡ None
-no_pair s d e = ap (λ (b : Bool). cond b (Some ((fields_of d).group, (fields_of d).number)) None) e
+-- of a frame of today
+abbrev pub IsStep : {E : Type 0} → (E → Type 0) → Coding E → Session → ℕ → List Pair → KeptSet → List ℕ → Type 0
+IsStep P c s limit pairs kept d = IsStepIn FORMAT P c s limit pairs kept d
+
+no_pair : (t : Format) (s : Session) (d : List ℕ) → (is_none (first_fault_in t d) && bytes_eq (planned_fields t d).session s.number) ≡ false
+    → pair_by t s.number d ≡ None
+no_pair t s d e = ap (λ (b : Bool). cond b (Some ((planned_fields t d).group, (planned_fields t d).number)) None) e
 
 -- a datagram that is not kept and is no packet
-skipped : {E : Type 0} (P : E → Type 0) (c : Coding E) (s : Session) (limit : ℕ) (pairs : List Pair) (kept : KeptSet)
-    (d : List ℕ) → Follows (made c) s limit pairs kept → is_kept (verdict_of kept d) ≡ false
-    → pair_in s.number d ≡ None → IsStep P c s limit pairs kept d
-unfolding after_in IsArrivalText
-skipped P c s limit pairs kept d follows out none = record {
+skipped : (t : Format) {E : Type 0} (P : E → Type 0) (c : Coding E) (s : Session) (limit : ℕ) (pairs : List Pair) (kept : KeptSet)
+    (d : List ℕ) → FollowsBy t.word (made c) s limit pairs kept → is_kept (verdict_in t kept d) ≡ false
+    → pair_by t s.number d ≡ None → IsStepIn t P c s limit pairs kept d
+unfolding after_in IsArrivalTextIn
+skipped t P c s limit pairs kept d follows out none = record {
   follows =
-      subst (λ (o : Option Pair). Follows (made c) s limit (met_after pairs o) (after kept d)) (sym none)
-      (subst (λ (b : Bool). Follows (made c) s limit pairs (cond b (keep kept (fields_of d)) kept)) (sym out) follows);
+      subst (λ (o : Option Pair). FollowsBy t.word (made c) s limit (met_after pairs o) (after_in t kept d)) (sym none)
+      (subst (λ (b : Bool). FollowsBy t.word (made c) s limit pairs (cond b (keep_by t.word kept (planned_fields t d)) kept)) (sym out) follows);
   writes =
       λ order arrival text is.
-      let written : AreRecords P c arrival (fields_of d).group (group_with kept (fields_of d))
-      (numbers_of (order_after kept order d) (fields_of d).group) [] text =
-      subst (λ (b : Bool). AreRecords P c arrival (fields_of d).group (group_with kept (fields_of d))
-      (numbers_of (order_after kept order d) (fields_of d).group) (cond b (newly_shown kept (fields_of d)) []) text)
+      let written : AreRecords P c arrival (planned_fields t d).group (group_with_by t.word kept (planned_fields t d))
+      (numbers_of (order_after_in t kept order d) (planned_fields t d).group) [] text =
+      subst (λ (b : Bool). AreRecords P c arrival (planned_fields t d).group (group_with_by t.word kept (planned_fields t d))
+      (numbers_of (order_after_in t kept order d) (planned_fields t d).group) (cond b (newly_shown kept (planned_fields t d)) []) text)
       out is in
       written ∙ ap (λ (o : Option Pair). datagram_text c.width s pairs arrival o) (sym none);
 }
 
-module _ {E : Type 0} (P : E → Type 0) (c : Coding E) (s : Session) (limit : ℕ) (pairs : List Pair) (kept : KeptSet)
+module _ (t : Format) {E : Type 0} (P : E → Type 0) (c : Coding E) (s : Session) (limit : ℕ) (pairs : List Pair) (kept : KeptSet)
     (d : List ℕ)
-    (is_session : IsSession c.width s) (fits : Fits s limit) (follows : Follows (made c) s limit pairs kept) where
+    (is_session : IsSessionIn (record t { word = c.width }) s) (fits : FitsIn t s limit) (follows : FollowsBy t.word (made c) s limit pairs kept) where
   message_is : (group : ℕ) (g : SessionGroup) → slice_get s.groups group ≡ Some g → IsMessage c.width g.layers g.message
   message_is group g at = (all_at s.groups group g at is_session.groups).message
     where
       all_at : (gs : List SessionGroup) (i : ℕ) (g : SessionGroup) → slice_get gs i ≡ Some g
-          → All (IsSessionGroup c.width) gs → IsSessionGroup c.width g
+          → All (IsSessionGroupIn (record t { word = c.width })) gs → IsSessionGroupIn (record t { word = c.width }) g
       all_at [] i g e all = absurd cc
       all_at (x ∷ gs) zero g e all =
-          subst (IsSessionGroup c.width) (same_Some x g e)
-          (Rattle.std.proofs.lemmas.List.Elements.All-head (IsSessionGroup c.width) x gs all)
+          subst (IsSessionGroupIn (record t { word = c.width })) (same_Some x g e)
+          (Rattle.std.proofs.lemmas.List.Elements.All-head (IsSessionGroupIn (record t { word = c.width })) x gs all)
       all_at (x ∷ gs) (suc i) g e all =
-          all_at gs i g e (Rattle.std.proofs.lemmas.List.Elements.All-tail (IsSessionGroup c.width) x gs all)
+          all_at gs i g e (Rattle.std.proofs.lemmas.List.Elements.All-tail (IsSessionGroupIn (record t { word = c.width })) x gs all)
 
   -- a packet of the session
-  packet : first_fault d ≡ None → (fields_of d).session ≡ s.number → IsPacketOf c s (fields_of d)
-      → IsStep P c s limit pairs kept d
-  unfolding verdict_in after_in IsArrivalText
+  packet : first_fault_in t d ≡ None → (planned_fields t d).session ≡ s.number → IsPacketOf c s (planned_fields t d)
+      → IsStepIn t P c s limit pairs kept d
+  unfolding verdict_in after_in IsArrivalTextIn
   packet whole session its = by (has_pair pairs f.group f.number) refl
     where
       f : Fields
-      f = fields_of d
+      f = planned_fields t d
 
       g : SessionGroup
       g = its.source
@@ -131,16 +143,16 @@ module _ {E : Type 0} (P : E → Type 0) (c : Coding E) (s : Session) (limit : �
       now : List Pair
       now = with_pair (made c) pairs f
 
-      pair : pair_in s.number d ≡ Some (f.group, f.number)
+      pair : pair_by t s.number d ≡ Some (f.group, f.number)
       pair =
           ap (λ (o : Option FrameFault). cond (is_none o && bytes_eq f.session s.number)
           (Some (f.group, f.number)) None) whole
           ∙ ap (λ (b : Bool). cond b (Some (f.group, f.number)) None) ((bytes_eq-Decides f.session s.number).1 session)
 
-      verdict : verdict_of kept d
+      verdict : verdict_in t kept d
           ≡ cond (has_pair pairs f.group f.number) Repeated (Kept (layer_set (newly_shown kept f)))
       verdict =
-          ap (λ (o : Option FrameFault). cond (is_some o) Damaged (frame_verdict kept f)) whole
+          ap (λ (o : Option FrameFault). cond (is_some o) Damaged (frame_verdict_by t.word kept f)) whole
           ∙ verdict_is (made c) s limit pairs kept f g follows is fits
 
       pair_writes : (arrival : ℕ)
@@ -165,19 +177,19 @@ module _ {E : Type 0} (P : E → Type 0) (c : Coding E) (s : Session) (limit : �
                 ]
           ]
 
-      records : (order : Order) (arrival : ℕ) (text : List ℕ) (b : Bool) → is_kept (verdict_of kept d) ≡ b
-          → IsArrivalText P c kept order arrival d text
-          → AreRecords P c arrival f.group (group_with kept f) (numbers_of (order_after kept order d) f.group)
+      records : (order : Order) (arrival : ℕ) (text : List ℕ) (b : Bool) → is_kept (verdict_in t kept d) ≡ b
+          → IsArrivalTextIn P c t kept order arrival d text
+          → AreRecords P c arrival f.group (group_with_by t.word kept f) (numbers_of (order_after_in t kept order d) f.group)
           (cond b (newly_shown kept f) []) text
       records order arrival text b e is_text =
-          subst (λ (b : Bool). AreRecords P c arrival f.group (group_with kept f)
-          (numbers_of (order_after kept order d) f.group) (cond b (newly_shown kept f) []) text) e is_text
+          subst (λ (b : Bool). AreRecords P c arrival f.group (group_with_by t.word kept f)
+          (numbers_of (order_after_in t kept order d) f.group) (cond b (newly_shown kept f) []) text) e is_text
 
-      by : (b : Bool) → has_pair pairs f.group f.number ≡ b → IsStep P c s limit pairs kept d
+      by : (b : Bool) → has_pair pairs f.group f.number ≡ b → IsStepIn t P c s limit pairs kept d
       by true there =
-          let out : is_kept (verdict_of kept d) ≡ false =
+          let out : is_kept (verdict_in t kept d) ≡ false =
           ap is_kept (verdict ∙ ap (λ (b : Bool). cond b Repeated (Kept (layer_set (newly_shown kept f)))) there) in
-          let stays : Follows (made c) s limit now kept = record {
+          let stays : FollowsBy t.word (made c) s limit now kept = record {
             session = follows.session;
             limit_is = follows.limit_is;
             rising = follows.rising;
@@ -191,8 +203,8 @@ module _ {E : Type 0} (P : E → Type 0) (c : Coding E) (s : Session) (limit : �
           } in
           record {
             follows =
-                subst (λ (o : Option Pair). Follows (made c) s limit (met_after pairs o) (after kept d)) (sym pair)
-                (subst (λ (b : Bool). Follows (made c) s limit now (cond b (keep kept f) kept)) (sym out) stays);
+                subst (λ (o : Option Pair). FollowsBy t.word (made c) s limit (met_after pairs o) (after_in t kept d)) (sym pair)
+                (subst (λ (b : Bool). FollowsBy t.word (made c) s limit now (cond b (keep_by t.word kept f) kept)) (sym out) stays);
             writes =
                 λ order arrival text is_text.
                 records order arrival text false out is_text
@@ -201,37 +213,37 @@ module _ {E : Type 0} (P : E → Type 0) (c : Coding E) (s : Session) (limit : �
                 (shows_nothing pairs now f.group g (same_met there f.group)));
           }
       by false new =
-          let in_it : is_kept (verdict_of kept d) ≡ true =
+          let in_it : is_kept (verdict_in t kept d) ≡ true =
           ap is_kept (verdict ∙ ap (λ (b : Bool). cond b Repeated (Kept (layer_set (newly_shown kept f)))) new) in
-          let more : Follows (made c) s limit now (keep kept f) =
+          let more : FollowsBy t.word (made c) s limit now (keep_by t.word kept f) =
           follows_keep (made c) s limit pairs kept f g follows is in
           let has = has_after (made c) s limit pairs kept f g follows is in
           record {
             follows =
-                subst (λ (o : Option Pair). Follows (made c) s limit (met_after pairs o) (after kept d)) (sym pair)
-                (subst (λ (b : Bool). Follows (made c) s limit now (cond b (keep kept f) kept)) (sym in_it) more);
+                subst (λ (o : Option Pair). FollowsBy t.word (made c) s limit (met_after pairs o) (after_in t kept d)) (sym pair)
+                (subst (λ (b : Bool). FollowsBy t.word (made c) s limit now (cond b (keep_by t.word kept f) kept)) (sym in_it) more);
             writes =
                 λ order arrival text is_text.
-                records_are P c arrival f.group g (group_with kept f) (numbers_of (order_after kept order d) f.group)
+                records_are P c arrival f.group g (group_with_by t.word kept f) (numbers_of (order_after_in t kept order d) f.group)
                 (newly_shown kept f) text (ap (λ (h : Header). h.table.layers) has.header) (message_is f.group g is.at)
-                (agrees c s now f.group g (group_with kept f) has) (records order arrival text true in_it is_text)
+                (agrees c s now f.group g (group_with_by t.word kept f) has) (records order arrival text true in_it is_text)
                 ∙ ap (λ (l : List ℕ). group_text c.width arrival f.group g l)
                 (newly_shown_is (made c) s limit pairs kept f g follows is new)
                 ∙ sym (ap (λ (o : Option Pair). datagram_text c.width s pairs arrival o) pair ∙ pair_writes arrival);
           }
 
-  pub step : IsPlain c s d → IsStep P c s limit pairs kept d
+  pub step_in : IsPlainIn t c s d → IsStepIn t P c s limit pairs kept d
   unfolding verdict_in frame_verdict_by
-  step plain = by (first_fault d) refl
+  step_in plain = by (first_fault_in t d) refl
     where
       f : Fields
-      f = fields_of d
+      f = planned_fields t d
 
-      by : (o : Option FrameFault) → first_fault d ≡ o → IsStep P c s limit pairs kept d
+      by : (o : Option FrameFault) → first_fault_in t d ≡ o → IsStepIn t P c s limit pairs kept d
       by (Some fault) e =
-          skipped P c s limit pairs kept d follows
-          (ap (λ (o : Option FrameFault). is_kept (cond (is_some o) Damaged (frame_verdict kept f))) e)
-          (no_pair s d (ap (λ (o : Option FrameFault). is_none o && bytes_eq f.session s.number) e))
+          skipped t P c s limit pairs kept d follows
+          (ap (λ (o : Option FrameFault). is_kept (cond (is_some o) Damaged (frame_verdict_by t.word kept f))) e)
+          (no_pair t s d (ap (λ (o : Option FrameFault). is_none o && bytes_eq f.session s.number) e))
       by None e =
           elim (cases_Bool (bytes_eq f.session s.number)) [
             | inl same ↦ let session =
@@ -239,10 +251,17 @@ module _ {E : Type 0} (P : E → Type 0) (c : Coding E) (s : Session) (limit : �
             | inr other ↦
                 let foreign : bytes_eq f.session kept.session ≡ false =
                 ap (bytes_eq f.session) follows.session ∙ other in
-                skipped P c s limit pairs kept d follows
-                (ap (λ (o : Option FrameFault). is_kept (cond (is_some o) Damaged (frame_verdict kept f))) e
+                skipped t P c s limit pairs kept d follows
+                (ap (λ (o : Option FrameFault). is_kept (cond (is_some o) Damaged (frame_verdict_by t.word kept f))) e
                 ∙ ap (λ (b : Bool). is_kept (cond (not b) Foreign
                 (cond (clashes kept f) Clash (cond (is_some (payload_of kept f.group f.number)) Repeated
-                (cond (is_too_much kept f) Full (Kept (layer_set (newly_shown kept f)))))))) foreign)
-                (no_pair s d (ap (λ (o : Option FrameFault). is_none o && bytes_eq f.session s.number) e ∙ other))
+                (cond (is_too_much_by t.word kept f) Full (Kept (layer_set (newly_shown kept f)))))))) foreign)
+                (no_pair t s d (ap (λ (o : Option FrameFault). is_none o && bytes_eq f.session s.number) e ∙ other))
           ]
+
+-- the same of the frames that are written today
+pub step : {E : Type 0} (P : E → Type 0) (c : Coding E) (s : Session) (limit : ℕ) (pairs : List Pair) (kept : KeptSet)
+    (d : List ℕ) → IsSession c.width s → Fits s limit → Follows (made c) s limit pairs kept → IsPlain c s d
+    → IsStep P c s limit pairs kept d
+step P c s limit pairs kept d is_session fits follows plain =
+    step_in FORMAT P c s limit pairs kept d is_session fits follows plain

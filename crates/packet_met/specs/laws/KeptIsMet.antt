@@ -11,7 +11,7 @@ use Rattle.std.proofs.lemmas.List.Elements.{All-nil}
 use Rattle.std.proofs.lemmas.Option.{none-some, same_Some}
 use Rattle.packet_frame.specs.Frame.{Fields}
 use Rattle.packet_frame.specs.declared.frame.Header.{Header}
-use Rattle.packet_set.specs.Packets.{Packets, slot_at, no_packets, count_in}
+use Rattle.packet_set.specs.Packets.{Packets, slot_at, no_packets_of, count_in}
 use Rattle.packet_session.specs.Session.{Session, SessionGroup}
 use Rattle.packet_verdicts.specs.KeptSet.{KeptSet, open_group, empty_set, header_of}
 use Rattle.packet_verdicts.specs.laws.EntryLaws.{weight}
@@ -28,21 +28,21 @@ header_in s group g = record {
   table = record { packets = g.packets; layers = g.layers };
 }
 
-module _ (made : SessionGroup → ℕ → List ℕ) where
-  -- of a group exactly those packets are kept whose pairs were met
-  pub record HasMet (s : Session) (pairs : List Pair) (group : ℕ) (g : SessionGroup) (p : Packets) : Type 0 where
+-- of a group exactly those packets are kept whose pairs were met, with `width` bytes for each stripe
+module _ (width : ℕ) (made : SessionGroup → ℕ → List ℕ) where
+  pub record HasMetBy (s : Session) (pairs : List Pair) (group : ℕ) (g : SessionGroup) (p : Packets) : Type 0 where
     pub header : p.header ≡ header_in s group g
-    pub word : p.word ≡ 2
+    pub word : p.word ≡ width
     pub slots : length p.slots ≡ g.packets
     pub each : (number : ℕ) → slot_at p number ≡ cond (has_pair pairs group number) (Some (made g number)) None
 
   -- of every group so, and a group of which no packet was met is not open
-  pub record Follows (s : Session) (limit : ℕ) (pairs : List Pair) (kept : KeptSet) : Type 0 where
+  pub record FollowsBy (s : Session) (limit : ℕ) (pairs : List Pair) (kept : KeptSet) : Type 0 where
     pub session : kept.session ≡ s.number
     pub limit_is : kept.limit ≡ limit
     pub rising : IsStrictlySortedBy nat_cmp (keys_of kept.groups)
     pub opened : (group : ℕ) (p : Packets) → open_group kept group ≡ Some p
-        → (g : SessionGroup) × (slice_get s.groups group ≡ Some g) × HasMet s pairs group g p
+        → (g : SessionGroup) × (slice_get s.groups group ≡ Some g) × HasMetBy s pairs group g p
     pub closed : (group : ℕ) → open_group kept group ≡ None → (number : ℕ) → has_pair pairs group number ≡ false
     pub told : All (λ p. p.header.groups ≡ length s.groups) (values_of kept.groups)
     -- a sum over the open groups is one over the groups of the session
@@ -50,11 +50,23 @@ module _ (made : SessionGroup → ℕ → List ℕ) where
         → sum_by w (values_of kept.groups)
         ≡ sum_by (λ (e : ℕ × SessionGroup). weight w (open_group kept e.0)) (enumerate_from 0 s.groups)
 
-  pub follows_nothing : (s : Session) (limit : ℕ) → Follows s limit [] (empty_set s.number limit)
+-- the same of words of two bytes
+abbrev pub HasMet : (SessionGroup → ℕ → List ℕ) → Session → List Pair → ℕ → SessionGroup → Packets → Type 0
+HasMet made s pairs group g p = HasMetBy 2 made s pairs group g p
+
+abbrev pub Follows : (SessionGroup → ℕ → List ℕ) → Session → ℕ → List Pair → KeptSet → Type 0
+Follows made s limit pairs kept = FollowsBy 2 made s limit pairs kept
+
+-- the packets of the group before the frame
+abbrev pub group_before : ℕ → KeptSet → Fields → Packets
+group_before word kept f = unwrap_or (open_group kept f.group) (no_packets_of word (header_of f))
+
+module _ {word : ℕ} (made : SessionGroup → ℕ → List ℕ) where
+  pub follows_nothing : (s : Session) (limit : ℕ) → FollowsBy word made s limit [] (empty_set s.number limit)
   follows_nothing s limit = record {
     session = refl;
     limit_is = refl;
-    rising = (empty_sound {word = 2} s.number limit).rising;
+    rising = (empty_sound {word = word} s.number limit).rising;
     opened = λ group p e. absurd (none-some p e);
     closed = λ group e number. refl;
     told = All-nil (λ (p : Packets). p.header.groups ≡ length s.groups);
@@ -72,7 +84,7 @@ module _ (made : SessionGroup → ℕ → List ℕ) where
   -- the same, where the same of the group was met
   pub met_same : (s : Session) (before now : List Pair) (group : ℕ) (g : SessionGroup) (p : Packets)
       → ((number : ℕ) → has_pair now group number ≡ has_pair before group number)
-      → HasMet s before group g p → HasMet s now group g p
+      → HasMetBy word made s before group g p → HasMetBy word made s now group g p
   met_same s before now group g p same has = record {
     header = has.header;
     word = has.word;
@@ -82,7 +94,7 @@ module _ (made : SessionGroup → ℕ → List ℕ) where
 
   -- how many are kept of the group
   pub count_met_in : (s : Session) (pairs : List Pair) (group : ℕ) (g : SessionGroup) (p : Packets)
-      → HasMet s pairs group g p → count_in p ≡ distinct_met pairs group g.packets
+      → HasMetBy word made s pairs group g p → count_in p ≡ distinct_met pairs group g.packets
   count_met_in s pairs group g p has =
       count_slots p.slots (has_pair pairs group) 0
       (λ i n at lt. ap is_some (has.each i) ∙ known (has_pair pairs group i) (made g i)
@@ -93,18 +105,14 @@ module _ (made : SessionGroup → ℕ → List ℕ) where
       known true payload = refl
       known false payload = refl
 
-  -- the packets of the group before the frame
-  abbrev pub group_before : KeptSet → Fields → Packets
-  group_before kept f = unwrap_or (open_group kept f.group) (no_packets (header_of f))
-
   pub has_met_before : (s : Session) (limit : ℕ) (pairs : List Pair) (kept : KeptSet) (f : Fields) (g : SessionGroup)
-      → Follows s limit pairs kept
+      → FollowsBy word made s limit pairs kept
       → slice_get s.groups f.group ≡ Some g → header_of f ≡ header_in s f.group g
-      → HasMet s pairs f.group g (group_before kept f)
+      → HasMetBy word made s pairs f.group g (group_before word kept f)
   has_met_before s limit pairs kept f g follows at is = by (open_group kept f.group) refl
     where
       by : (o : Option Packets) → open_group kept f.group ≡ o
-          → HasMet s pairs f.group g (unwrap_or o (no_packets (header_of f)))
+          → HasMetBy word made s pairs f.group g (unwrap_or o (no_packets_of word (header_of f)))
       by None e = record {
         header = is;
         word = refl;
@@ -122,4 +130,4 @@ module _ (made : SessionGroup → ℕ → List ℕ) where
       by (Some p) e =
           let has = follows.opened f.group p e in
           let same : has.0 ≡ g = same_Some has.0 g (sym has.1 ∙ at) in
-          subst (λ (x : SessionGroup). HasMet s pairs f.group x p) same has.2
+          subst (λ (x : SessionGroup). HasMetBy word made s pairs f.group x p) same has.2

@@ -1,0 +1,4 @@
+pub mod Begun
+pub mod DatagramsSoFar
+pub mod FilesRead
+pub mod Stops

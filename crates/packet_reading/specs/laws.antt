@@ -1,0 +1,3 @@
+pub mod BegunLaws
+pub mod ReadLaws
+pub mod SessionLaws
