@@ -1,8 +1,8 @@
 -- What `repair` leaves at each of its ends. This project's own.
-use Rattle.std.specs.Prelude.{◌≡◌, ◌≢◌, ◌⊎◌, ℕ, ◌<◌, List, length, map, Some}
+use Rattle.std.specs.Prelude.{◌≡◌, ◌≢◌, ◌⊎◌, ℕ, ◌<◌, List, [], ◌∷◌, length, map, Some}
 use Rattle.pet_base.specs.declared.limits.TheConstants.{MAX_SESSION}
 use Rattle.pet_base.specs.Seen.{Seen, Files, Blame, HadFault}
-use Rattle.outside_files.specs.Uses.{reading, writing}
+use Rattle.outside_files.specs.Uses.{reading, writing, Failed}
 use Rattle.outside_routes.specs.RouteFaults.{AimedFailed}
 use Rattle.outside_routes.specs.Sending.{Routes}
 use Rattle.outside_routes.specs.Way.{Way, OnFile, OnLink}
@@ -79,19 +79,28 @@ Repairs store to old new LinkFault =
 Repairs store to old new (BadStore at kind) = HasBadStore old.place.files store (At at kind) × SentNothing old new
 Repairs store to old new (Unlike group number) = StopsUnlike store to group number old new
 
--- The premises of the headline: memory was found, neither the place nor the link had a fault of this call, and the
--- file
--- is the store of a session's packets, whose messages have the byte 0 past each odd end.
-pub record CanRepair (s : Session) (pairs : List Pair) (files : Files) (store : List ℕ) (to : Way) (old new : Routes)
-    (end : RepairEnd) : Type 0 where
-  pub memory : end ≢ NoMemory
-  pub place : HadFault old.place new.place (MayBlame store to old.place) → ⊥
-  pub link : AimedFailed to old.link new.link → ⊥
+-- The place tells its files, and this one is the store of a session's packets, whose messages have the byte 0 past
+-- each odd end.
+pub record HasSessionStore (s : Session) (pairs : List Pair) (files : Files) (store : List ℕ) (old : Seen) : Type 0 where
   pub session : IsSession 2 s
   pub fits : Fits s MAX_SESSION
   pub zeros : HaveZeroEnds s
-  pub told : old.place.files ≡ Some files
+  pub told : old.files ≡ Some files
   pub found : files store ≡ Some (pairs_store s pairs)
+
+-- the files that are used: the store is read, and TO is written where it is one
+abbrev pub uses : List ℕ → Way → List Blame
+uses store (OnFile to) = reading store ∷ writing to ∷ []
+uses store (OnLink address) = reading store ∷ []
+
+-- The premises of the headline: memory was found, neither the place nor the link had a fault of this call, and the
+-- store is so.
+pub record CanRepair (s : Session) (pairs : List Pair) (files : Files) (store : List ℕ) (to : Way) (old new : Routes)
+    (end : RepairEnd) : Type 0 where
+  pub memory : end ≢ NoMemory
+  pub well : Failed (uses store to) old.place new.place → ⊥
+  pub link : AimedFailed to old.link new.link → ⊥
+  pub given : HasSessionStore s pairs files store old.place
 
 -- TO has the session's packets of the complete groups, by group, then number.
 pub record RepairsSession (s : Session) (pairs : List Pair) (to : Way) (old new : Routes)

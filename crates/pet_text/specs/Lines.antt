@@ -22,6 +22,11 @@ unwrapped_text bytes = codes "unwrapped " ++ decimal bytes ++ codes "\n"
 abbrev pub wrapped_text : ℕ → List ℕ
 wrapped_text bytes = codes "wrapped " ++ decimal bytes ++ codes "\n"
 
+-- how many groups were whole, and how many packets of them were sent
+abbrev pub repaired_text : ℕ → ℕ → List ℕ
+repaired_text groups packets =
+    codes "repaired " ++ decimal groups ++ codes " datagrams " ++ decimal packets ++ codes "\n"
+
 -- how many datagrams the migrated store has
 abbrev pub migrated_text : ℕ → List ℕ
 migrated_text datagrams = codes "migrated " ++ decimal datagrams ++ codes "\n"

@@ -12,7 +12,7 @@ use Rattle.pet_text.specs.declared.end.End.{End}
 use Rattle.pet_text.specs.declared.end.End.TheVariants.{File, Udp}
 use Rattle.pet_text.specs.declared.words.Command.{Command}
 use Rattle.pet_text.specs.declared.words.Command.TheVariants.{Plan, Check, Send, Receive, Merge, Video, Unwrap, Wrap}
-use Rattle.pet_text.specs.declared.words.Command.TheVariants.{Migrate, Replay, Sample}
+use Rattle.pet_text.specs.declared.words.Command.TheVariants.{Migrate, Replay, Sample, Repair}
 
 -- the texts of the words
 abbrev pub texts_of : List (String Global) → List (List ℕ)
@@ -97,6 +97,11 @@ send_files stream priority (File to) =
     is_name stream && (is_name priority && (not (bytes_eq to stream) && not (bytes_eq to priority)))
 send_files stream priority (Udp address) = is_name stream && is_name priority
 
+-- a file that is read, and another that is written, or an address
+abbrev pub repair_files : List ℕ → End → Bool
+repair_files store (File to) = is_name store && not (bytes_eq to store)
+repair_files store (Udp address) = is_name store
+
 -- two files that are written, each another than the other, and than a file that is read
 abbrev pub receive_files : End → List ℕ → List ℕ → Bool
 receive_files (File from) layers store =
@@ -122,6 +127,7 @@ names_files (Wrap file out) = other_files file out
 names_files (Migrate store out) = other_files store out
 names_files (Replay stream priority script) = three_files stream priority script
 names_files (Sample seed groups) = true
+names_files (Repair store to) = repair_files store to
 
 -- the command, where it so names its files
 abbrev pub if_named : Command → Option Command
@@ -149,6 +155,11 @@ sample_of None groups = None
 sample_of (Some seed) None = None
 sample_of (Some seed) (Some groups) = if_named (Sample seed groups)
 
+-- `repair STORE TO`
+abbrev pub repair_of : List ℕ → Option End → Option Command
+repair_of store None = None
+repair_of store (Some to) = if_named (Repair store to)
+
 -- The command of the words, where they have the form of one. Datagrams are received at any port, also at one that is to be
 -- found, which is port 0; they are sent to a port of another number.
 abbrev pub command_of : List (List ℕ) → Option Command
@@ -158,6 +169,7 @@ command_of (word ∷ first ∷ second ∷ []) =
     else if bytes_eq word (codes "wrap") then if_named (Wrap first second)
     else if bytes_eq word (codes "migrate") then if_named (Migrate first second)
     else if bytes_eq word (codes "sample") then sample_of (plain_number first) (groups_of second)
+    else if bytes_eq word (codes "repair") then repair_of first (end_of 1 second)
     else None
 command_of (word ∷ first ∷ second ∷ third ∷ []) =
     if bytes_eq word (codes "check") then if_named (Check first second third)

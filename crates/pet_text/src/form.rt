@@ -1,7 +1,7 @@
 //! What the words of a command give, before their texts are copied.
 ghost use Rattle.std.specs.Prelude.{◌≡◌, [], ◌∷◌, option_map};
 ghost use Rattle.std.specs.Str.{bytes_eq};
-ghost use Rattle.pet_text.specs.Words.{texts_of, end_of, session_of, id_of, plain_number, groups_of, send_files, receive_files, merge_files, if_named, send_of, receive_of, unwrap_of, sample_of, command_of};
+ghost use Rattle.pet_text.specs.Words.{texts_of, end_of, session_of, id_of, plain_number, groups_of, send_files, receive_files, merge_files, if_named, send_of, receive_of, unwrap_of, sample_of, repair_files, repair_of, command_of};
 ghost use Rattle.pet_text.specs.declared.words.Command.TheVariants.{Plan, Check, Merge, Video, Wrap, Migrate, Replay};
 ghost use Rattle.pet_text.specs.inside.Forms.{command_in};
 ghost use Rattle.pet_text.specs.Ends.{end_in};
@@ -65,6 +65,10 @@ pub(crate) enum Form<'a> {
         seed: u64,
         groups: u32,
     },
+    Repair {
+        store: &'a str,
+        to: Route<'a>,
+    },
 }
 
 /// The form that the words have, where they have one.
@@ -104,6 +108,8 @@ fn two_words<'a>(word: &str, first: &'a str, second: &'a str) -> Option<Form<'a>
         migrate_words(first, second)
     } else if same(word, "sample") {
         sample_words(first, second)
+    } else if same(word, "repair") {
+        repair_words(first, second)
     } else {
         None
     }
@@ -318,6 +324,30 @@ fn sample_words<'a>(seed: &str, groups: &str) -> Option<Form<'a>>
         seed: read_plain(seed)?,
         groups: read_groups(groups)?,
     })
+}
+
+/// The words behind `repair`.
+fn repair_words<'a>(store: &'a str, to: &'a str) -> Option<Form<'a>>
+    ensures { option_map command_in result ≡ repair_of store.now (end_of 1 to.now) }
+{
+    let to = read_end(to, 1)?;
+    if !are_repair_files(store, to) {
+        return None;
+    }
+    Some(Form::Repair { store, to })
+}
+
+/// Whether the store has a name, and a file that is written another.
+fn are_repair_files(store: &str, to: Route<'_>) -> bool
+    ensures { result ≡ repair_files store.now (end_in to.entry) }
+{
+    if store.is_empty() {
+        return false;
+    }
+    match to {
+        Route::File(to) => !same(to, store),
+        Route::Udp(_) => true,
+    }
 }
 
 /// Whether two texts are one.

@@ -1,7 +1,7 @@
 //! The printed lines.
 ghost use Rattle.std.specs.Prelude.{◌≡◌, []};
 ghost use Rattle.text_plan.specs.PlanLines.{least_text, send_text};
-ghost use Rattle.pet_text.specs.Lines.{receive_text, merged_text, video_text, unwrapped_text, wrapped_text, migrated_text};
+ghost use Rattle.pet_text.specs.Lines.{receive_text, merged_text, video_text, unwrapped_text, wrapped_text, migrated_text, repaired_text};
 
 use arrayvec::ArrayVec;
 use text_pieces::{append_count, append_session, append_text, number_line};
@@ -82,4 +82,17 @@ pub fn migrated_line(datagrams: u32, into: &mut ArrayVec<u8, 64>)
     ensures { into.new.items ≡ migrated_text datagrams }
 {
     number_line("migrated ", u64::from(datagrams), into);
+}
+
+/// Leaves the line of `repair` in `into`, which must be empty: how many groups were whole, and how many packets of them were
+/// sent. It takes no memory.
+pub fn repaired_line(groups: u32, packets: u32, into: &mut ArrayVec<u8, 64>)
+    requires { into.old.items ≡ [] }
+    ensures { into.new.items ≡ repaired_text groups packets }
+{
+    append_text("repaired ", into);
+    append_count(groups, into);
+    append_text(" datagrams ", into);
+    append_count(packets, into);
+    append_text("\n", into);
 }

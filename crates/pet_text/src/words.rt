@@ -1,6 +1,6 @@
 //! The command words.
 ghost use Rattle.std.specs.Prelude.{◌≡◌, ◌↔◌, Err, None, Some, IfOk};
-ghost use Rattle.pet_text.specs.declared.words.Command.TheVariants.{Plan, Check, Send, Receive, Merge, Video, Unwrap, Wrap, Migrate, Replay, Sample};
+ghost use Rattle.pet_text.specs.declared.words.Command.TheVariants.{Plan, Check, Send, Receive, Merge, Video, Unwrap, Wrap, Migrate, Replay, Sample, Repair};
 ghost use Rattle.pet_text.specs.Words.{texts_of, command_of};
 ghost use Rattle.pet_text.specs.inside.Forms.{command_in};
 ghost use Rattle.pet_text.specs.Ends.{end_in};
@@ -105,6 +105,13 @@ pub enum Command {
         /// How many groups the stream has, from 1 to 100.
         groups: u32,
     },
+    /// Sends all packets of the groups of which a store shows every layer.
+    Repair {
+        /// The file of the store.
+        store: Name,
+        /// Where the datagrams go to; a file differs from that of the store.
+        to: End,
+    },
 }
 
 /// Why there is no command.
@@ -171,6 +178,7 @@ fn own_command(alloc: Global, form: Form<'_>) -> Result<Command, AllocError>
             script,
         } => own_replay(alloc, stream, priority, script),
         Form::Sample { seed, groups } => Ok(Command::Sample { seed, groups }),
+        Form::Repair { store, to } => own_repair(alloc, store, to),
     }
 }
 
@@ -291,4 +299,12 @@ fn own_replay(
         priority,
         script,
     })
+}
+
+fn own_repair(alloc: Global, store: &str, to: Route<'_>) -> Result<Command, AllocError>
+    ensures { IfOk result (λ command. command ≡ Repair store.now (end_in to.entry)) }
+{
+    let store = Name::new(alloc, store)?;
+    let to = own_end(alloc, to)?;
+    Ok(Command::Repair { store, to })
 }

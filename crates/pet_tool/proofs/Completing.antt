@@ -1,5 +1,5 @@
 -- What each command completes follows from what it does.
-use Rattle.std.proofs.Common.{◌≡◌, ℕ, Bool, true, false, List, [], ◌∷◌, ◌++◌, ◌⊎◌, length, Option, None, Some, refl}
+use Rattle.std.proofs.Common.{◌≡◌, ℕ, Bool, true, false, List, [], ◌∷◌, ◌++◌, ◌⊎◌, length, map, Option, None, Some, refl}
 use Rattle.std.proofs.Common.{sym, ap, append_assoc, subst, ◌∙◌, inl, inr, ◌≢◌}
 use Rattle.std.proofs.lemmas.List.Elements.{All-contains}
 use Rattle.std.specs.Prelude.{if◌then◌else◌}
@@ -12,6 +12,8 @@ use Rattle.pet_base.specs.Seen.{Files, Seen, with_file}
 use Rattle.outside_files.specs.Uses.{reading, writing, Failed}
 use Rattle.outside_files.specs.Wrote.{Wrote}
 use Rattle.outside_files.specs.laws.PrintedLaws.{Rose-before, Rose-since}
+use Rattle.field_elements.specs.Gf16.{gf16_coding}
+use Rattle.packet_frame.specs.Frame.{text}
 use Rattle.packet_session.specs.Session.{IsSession, Session}
 use Rattle.packet_session.specs.Datagrams.{datagrams_text, IsItsDatagram}
 use Rattle.packet_session.specs.laws.SentLaws.{sent_are_packets}
@@ -49,34 +51,40 @@ use Rattle.command_video.specs.VideosSession.{HasStoreOf, VideosSession}
 use Rattle.command_video.specs.laws.SessionVideo.{completes_video}
 use Rattle.command_video.specs.StreamVideo.{stream_video}
 use Rattle.packet_met.specs.Met.{Pair, all_shown, met_in}
-use Rattle.command_send.specs.Sends.{IsAimedAt, IsSentOf, Sends, packets_file, packets_in, sent_line_text}
+use Rattle.command_send.specs.Sends.{IsAimedAt, IsSentOf, Sends, packets_file, packets_in, routes_in, sent_line_text}
 use Rattle.command_send.specs.SendsSession.{SendsAll, uses}
 use Rattle.command_send.specs.declared.session.Sent.{Sent as SentNumbers}
 use Rattle.command_send.specs.laws.EndLaws.{sends_session}
+use Rattle.pet_repair.specs.Repaired.{complete_packets}
+use Rattle.pet_repair.specs.Repairs.{Repairs, uses as repair_uses}
+use Rattle.pet_repair.specs.SentTo.{SentTo}
+use Rattle.pet_repair.specs.laws.SessionRepaired.{completes_repair}
 use Rattle.text_status.specs.declared.status.Status.{Status}
 use Rattle.text_status.specs.declared.status.Status.TheVariants.{Done, Incomplete, OutFault, TurnsSpent}
 use Rattle.pet_text.specs.declared.words.Command.{Command}
 use Rattle.pet_text.specs.declared.words.Command.TheVariants.{Plan, Check, Send, Receive, Merge, Video, Unwrap, Wrap}
-use Rattle.pet_text.specs.declared.words.Command.TheVariants.{Migrate, Replay, Sample}
+use Rattle.pet_text.specs.declared.words.Command.TheVariants.{Migrate, Replay, Sample, Repair}
 use Rattle.outside_routes.specs.RouteFaults.{AimedFailed, BoundFailed}
-use Rattle.outside_routes.specs.Sending.{Sent}
+use Rattle.outside_routes.specs.Sending.{Routes, Sent}
 use Rattle.outside_routes.specs.Way.{Way, OnFile, OnLink}
 use Rattle.pet_text.specs.Ends.{way_in}
 use Rattle.text_status.specs.Statuses.{fault_text}
 use Rattle.pet_text.specs.Lines.{video_text}
 use Rattle.pet_tool.specs.Completes.{Completes, CompletesPlan, CompletesCheck, CompletesSend, CompletesMerge}
-use Rattle.pet_tool.specs.Completes.{CompletesMigrate, CompletesReplay, CompletesSample}
+use Rattle.pet_tool.specs.Completes.{CompletesMigrate, CompletesReplay, CompletesSample, CompletesRepair}
 use Rattle.pet_tool.specs.declared.end.End.{End}
 use Rattle.pet_tool.specs.declared.end.End.TheVariants as end
-use Rattle.pet_tool.specs.Does.{Does, Runs, OnFiles, OnRead, OnCountedRead, OnMemory}
+use Rattle.pet_tool.specs.Does.{Does, Runs, OnFiles, OnRead, OnCountedRead, OnMemory, OnRoutes}
 use Rattle.pet_tool.specs.Lines.{line_of, line_of_plan, line_of_check, line_of_send, line_of_merge, line_of_video}
-use Rattle.pet_tool.specs.Lines.{line_of_receive, line_of_migrate, line_of_replay, line_of_sample, totals_text}
+use Rattle.pet_tool.specs.Lines.{line_of_receive, line_of_migrate, line_of_replay, line_of_sample, line_of_repair}
+use Rattle.pet_tool.specs.Lines.{totals_text}
 use Rattle.pet_tool.proofs.SystemCompleted.{unwrap_completes, wrap_completes}
 use Rattle.pet_tool.proofs.Telling.{ended_as, told, Told}
 use Rattle.pet_tool.specs.Headline.{Headline, HasWhatWasSent, NamesWhatItStores, ReceivesWhatWasSent}
 use Rattle.pet_tool.specs.Headline.{session_numbers}
 use Rattle.pet_tool.specs.Statuses.{status_of, status_of_plan, status_of_check, status_of_send, status_of_receive}
 use Rattle.pet_tool.specs.Statuses.{status_of_merge, status_of_video, status_of_migrate, status_of_replay, status_of_sample}
+use Rattle.pet_tool.specs.Statuses.{status_of_repair}
 use Rattle.pet_tool.specs.Undisturbed.{IsUndisturbed, EndsWith}
 
 -- the lines and then that of the status which the end has
@@ -378,6 +386,31 @@ sample_completes seed groups before after status runs = λ calm.
       done_with end.Sample before runs.between after runs.end status _ runs.did.written said made.1 refl,
     )
 
+-- what the line of the end and that of the status leave of files and of the link
+same_routes : (between after : OutsideSeen) → after.place ≡ between.place → after.link ≡ between.link
+    → routes_in after ≡ routes_in between
+same_routes between after place link = λ i. record { place = place i; link = link i }
+
+repair_completes : (store : List ℕ) (to : Way) (before after : OutsideSeen) (status : Status)
+    → Runs end.Repair (OnRoutes (Repairs store to)) before after status
+    → CompletesRepair store to before after status
+repair_completes store to before after status runs = λ s files pairs calm given.
+    let said = told (line_of_repair runs.end) (status_of_repair runs.end) runs.between after status runs.tells
+    (λ rose. calm.calm.well.out (subst (λ (n : ℕ). Rose n after.out_faults) runs.did.out_faults rose)) in
+    let done = completes_repair store to (routes_in before) (routes_in runs.between) runs.end runs.did.did s pairs files
+    (record {
+      memory = λ none. calm.calm.memory (said.ended ∙ ap status_of_repair none);
+      well = λ had. calm.calm.well.place
+          (subst (λ (now : Seen). Failed (repair_uses store to) before.place now) (sym said.place) had);
+      link = λ had. calm.link (subst (λ (l : LinkSeen). AimedFailed to before.link l) (sym said.link) had);
+      given = given;
+    }) in (
+      subst (λ (now : Routes). SentTo to (map text (complete_packets gf16_coding s pairs)) (routes_in before) now)
+          (sym (same_routes runs.between after said.place said.link)) done.sent,
+      done_with end.Repair before runs.between after runs.end status _ runs.did.written said
+          (ap status_of_repair done.ended) (ap line_of_repair done.ended),
+    )
+
 -- what `video` completed, and what was told of it
 module _ (store out : List ℕ) (before after : OutsideSeen) (status : Status)
     (runs : Runs end.Video (OnFiles (Videos store out)) before after status) (p b : List ℕ) (files : Files)
@@ -442,3 +475,5 @@ completes (Some (Replay stream priority script)) before after status runs =
     replay_completes stream priority script before after status runs
 completes (Some (Sample seed groups)) before after status runs =
     sample_completes seed groups before after status runs
+completes (Some (Repair store to)) before after status runs =
+    repair_completes store (way_in to) before after status runs

@@ -36,16 +36,20 @@ use Rattle.command_send.specs.declared.command.SendEnd.TheVariants as send
 use Rattle.command_receive.specs.Failures.{end_of_place as receive_place, end_of_link as receive_link}
 use Rattle.command_receive.specs.declared.command.ReceiveEnd.{ReceiveEnd}
 use Rattle.command_receive.specs.declared.command.ReceiveEnd.TheVariants as receive
+use Rattle.pet_repair.specs.Failures.{repair_of_place, repair_of_link}
+use Rattle.pet_repair.specs.declared.repair.RepairEnd.{RepairEnd}
+use Rattle.pet_repair.specs.declared.repair.RepairEnd.TheVariants as repair
 use Rattle.text_status.specs.declared.status.Status.{Status}
 use Rattle.text_status.specs.declared.status.Status.TheVariants.{Done}
 use Rattle.pet_tool.specs.declared.end.End.{End}
 use Rattle.pet_tool.specs.Does.{Runs}
 use Rattle.pet_tool.specs.Lines.{line_of, line_of_plan, line_of_check, line_of_send, line_of_merge, line_of_video}
 use Rattle.pet_tool.specs.Lines.{line_of_unwrap, line_of_wrap, line_of_migrate, line_of_replay, line_of_sample}
-use Rattle.pet_tool.specs.Lines.{line_of_receive, totals_text}
+use Rattle.pet_tool.specs.Lines.{line_of_receive, line_of_repair, totals_text}
 use Rattle.pet_tool.specs.Statuses.{of_place, of_link, status_of, status_of_session, status_of_plan, status_of_check}
 use Rattle.pet_tool.specs.Statuses.{status_of_send, status_of_receive, status_of_merge, status_of_video}
 use Rattle.pet_tool.specs.Statuses.{status_of_unwrap, status_of_wrap, status_of_migrate, status_of_replay, status_of_sample}
+use Rattle.pet_tool.specs.Statuses.{status_of_repair}
 use Rattle.pet_tool.specs.Told.{Tells}
 use Rattle.pet_tool.proofs.Telling.{strikes}
 
@@ -147,6 +151,15 @@ replay_agrees (replay.BadScript line) = unlined refl refl
 pub sample_agrees : (end : SampleEnd) → Agrees false false (line_of_sample end) (status_of_sample end)
 sample_agrees (sample.Done text) = lined text.items
 sample_agrees sample.NoMemory = unlined refl refl
+
+pub repair_agrees : (end : RepairEnd)
+    → Agrees (repair_of_place end) (repair_of_link end) (line_of_repair end) (status_of_repair end)
+repair_agrees (repair.Done groups datagrams) = lined (line_of_repair (repair.Done groups datagrams))
+repair_agrees repair.NoMemory = unlined refl refl
+repair_agrees repair.PlaceFault = unlined refl refl
+repair_agrees repair.LinkFault = unlined refl refl
+repair_agrees (repair.BadStore at kind) = unlined refl refl
+repair_agrees (repair.Unlike group number) = unlined refl refl
 
 pub send_agrees : (end : SendEnd) → Agrees (send_place end) (send_link end) (line_of_send end) (status_of_send end)
 send_agrees (send.Done sent) = lined (line_of_send (send.Done sent))

@@ -13,10 +13,11 @@ use Rattle.mpeg_system.specs.declared.wrap_files.WrapEnd.TheVariants as wrap
 use Rattle.command_migrate.specs.declared.command.MigrateEnd.TheVariants as migrate
 use Rattle.command_replay.specs.declared.command.ReplayEnd.TheVariants as replay
 use Rattle.command_sample.specs.declared.command.SampleEnd.TheVariants as sample
+use Rattle.pet_repair.specs.declared.repair.RepairEnd.TheVariants as repair
 use Rattle.text_status.specs.declared.status.Status.TheVariants.{NoMemory}
 use Rattle.pet_text.specs.declared.words.Command.{Command}
 use Rattle.pet_text.specs.declared.words.Command.TheVariants.{Plan, Check, Send, Receive, Merge, Video, Unwrap, Wrap}
-use Rattle.pet_text.specs.declared.words.Command.TheVariants.{Migrate, Replay, Sample}
+use Rattle.pet_text.specs.declared.words.Command.TheVariants.{Migrate, Replay, Sample, Repair}
 use Rattle.command_receive.specs.laws.SessionReceived.{nothing_received}
 use Rattle.pet_text.specs.Ends.{way_in}
 use Rattle.pet_text.specs.declared.end.End.TheVariants.{File, Udp}
@@ -151,6 +152,13 @@ module _ (before after : OutsideSeen) (status : Status) (tells : Tells [] NoMemo
     end = sample.NoMemory;
     did =
         record { place = refl; link = refl; written = refl; out_faults = refl; cost = omega arith; did = tt };
+    tells = tells;
+    once = no_failure;
+  }
+  no_memory (Repair store to) = record {
+    between = before;
+    end = repair.NoMemory;
+    did = record { written = refl; out_faults = refl; did = inl (refl, refl) };
     tells = tells;
     once = no_failure;
   }

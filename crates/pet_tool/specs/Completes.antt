@@ -1,10 +1,12 @@
 -- When each command is done, and what it then does; for `receive` this is the headline. This project's own.
-use Rattle.std.specs.Prelude.{◌≡◌, ℕ, ◌<◌, ◌≤◌, true, List, [], ◌∷◌, ◌++◌, length, Option, None, Some, Ok}
+use Rattle.std.specs.Prelude.{◌≡◌, ℕ, ◌<◌, ◌≤◌, true, List, [], ◌∷◌, ◌++◌, length, map, Option, None, Some, Ok}
 use Rattle.pet_base.specs.declared.limits.TheConstants.{MAX_REPLAY_SESSION, MAX_STREAM}
 use Rattle.pet_base.specs.declared.event.Event.{Event}
 use Rattle.pet_base.specs.OutsideSeen.{OutsideSeen}
 use Rattle.outside_files.specs.Uses.{reading, writing}
 use Rattle.pet_base.specs.Seen.{Files, with_file}
+use Rattle.field_elements.specs.Gf16.{gf16_coding}
+use Rattle.packet_frame.specs.Frame.{text}
 use Rattle.packet_session.specs.Session.{Session}
 use Rattle.packet_met.specs.Gf16.{met_frames}
 use Rattle.packet_met.specs.Met.{Pair, all_shown}
@@ -19,22 +21,25 @@ use Rattle.command_video.specs.VideosSession.{HasStoreOf}
 use Rattle.stream_session.specs.Accepted.{session_of}
 use Rattle.stream_session.specs.Sessions.{IsGiven, IsGivenWithin, tables_in}
 use Rattle.command_plan.specs.SessionPlan.{session_plan}
-use Rattle.command_send.specs.Sends.{sent_line_text}
+use Rattle.command_send.specs.Sends.{sent_line_text, routes_in}
 use Rattle.command_send.specs.SendsSession.{SendsAll, uses}
 use Rattle.outside_routes.specs.RouteFaults.{AimedFailed}
 use Rattle.outside_routes.specs.Way.{Way}
+use Rattle.pet_repair.specs.Repaired.{complete_packets, complete_groups}
+use Rattle.pet_repair.specs.Repairs.{HasSessionStore, uses as repair_uses}
+use Rattle.pet_repair.specs.SentTo.{SentTo}
 use Rattle.text_plan.specs.PlanLines.{least_text}
 use Rattle.mpeg_system.specs.declared.refusal.System.{System}
 use Rattle.mpeg_system.specs.declared.refusal.System.TheVariants.{TooLong}
 use Rattle.mpeg_system.specs.Completes.{HasFile}
 use Rattle.mpeg_system.specs.Videos.{refusal_of, video_of}
 use Rattle.mpeg_system.specs.Wrapped.{wrapped}
-use Rattle.pet_text.specs.Lines.{merged_text, video_text, unwrapped_text, wrapped_text, migrated_text}
+use Rattle.pet_text.specs.Lines.{merged_text, video_text, unwrapped_text, wrapped_text, migrated_text, repaired_text}
 use Rattle.text_status.specs.declared.status.Status.{Status}
 use Rattle.text_status.specs.declared.status.Status.TheVariants.{Done, BadSystem}
 use Rattle.pet_text.specs.declared.words.Command.{Command}
 use Rattle.pet_text.specs.declared.words.Command.TheVariants.{Plan, Check, Send, Receive, Merge, Video, Unwrap, Wrap}
-use Rattle.pet_text.specs.declared.words.Command.TheVariants.{Migrate, Replay, Sample}
+use Rattle.pet_text.specs.declared.words.Command.TheVariants.{Migrate, Replay, Sample, Repair}
 use Rattle.pet_text.specs.Ends.{way_in}
 use Rattle.pet_tool.specs.Headline.{MeetsHeadline}
 use Rattle.pet_tool.specs.Undisturbed.{IsUndisturbed, IsUndisturbedOn, EndsWith}
@@ -135,6 +140,17 @@ CompletesReplay stream priority script before after status =
     → script_in p b t ≡ Ok events
     → EndsWith Done (replay_text (session_of p b) events) before after status
 
+-- of the store of packets of a session, whose messages have the byte 0 past each odd end, all packets of the complete
+-- groups are sent
+abbrev pub CompletesRepair : List ℕ → Way → OutsideSeen → OutsideSeen → Status → Type 0
+CompletesRepair store to before after status =
+    (s : Session) (files : Files) (pairs : List Pair)
+    → IsUndisturbedOn (AimedFailed to) (repair_uses store to) before after status
+    → HasSessionStore s pairs files store before.place
+    → SentTo to (map text (complete_packets gf16_coding s pairs)) (routes_in before) (routes_in after)
+    × EndsWith Done (repaired_text (complete_groups s pairs) (length (complete_packets gf16_coding s pairs)))
+    before after status
+
 -- a sample is made and received, whatever its seed
 abbrev pub CompletesSample : ℕ → ℕ → OutsideSeen → OutsideSeen → Status → Type 0
 CompletesSample seed groups before after status =
@@ -159,3 +175,4 @@ Completes (Some (Migrate store out)) before after status = CompletesMigrate stor
 Completes (Some (Replay stream priority script)) before after status =
     CompletesReplay stream priority script before after status
 Completes (Some (Sample seed groups)) before after status = CompletesSample seed groups before after status
+Completes (Some (Repair store to)) before after status = CompletesRepair store (way_in to) before after status

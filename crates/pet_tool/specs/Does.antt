@@ -12,15 +12,17 @@ use Rattle.command_receive.specs.Receives.{Receives}
 use Rattle.command_replay.specs.Replays.{Replays}
 use Rattle.command_sample.specs.Samples.{SampleEnds}
 use Rattle.command_sample.specs.SampleSteps.{sample_steps}
-use Rattle.command_send.specs.Sends.{Sends}
+use Rattle.command_send.specs.Sends.{Sends, routes_in}
 use Rattle.command_video.specs.Videos.{Videos}
 use Rattle.mpeg_system.specs.Unwraps.{Unwraps}
 use Rattle.mpeg_system.specs.Wraps.{Wraps}
+use Rattle.outside_routes.specs.Sending.{Routes}
+use Rattle.pet_repair.specs.Repairs.{Repairs}
 use Rattle.text_status.specs.declared.status.Status.{Status}
 use Rattle.text_status.specs.declared.status.Status.TheVariants.{Usage}
 use Rattle.pet_text.specs.declared.words.Command.{Command}
 use Rattle.pet_text.specs.declared.words.Command.TheVariants.{Plan, Check, Send, Receive, Merge, Video, Unwrap, Wrap}
-use Rattle.pet_text.specs.declared.words.Command.TheVariants.{Migrate, Replay, Sample}
+use Rattle.pet_text.specs.declared.words.Command.TheVariants.{Migrate, Replay, Sample, Repair}
 use Rattle.pet_text.specs.Ends.{way_in}
 use Rattle.text_status.specs.Statuses.{fault_text}
 use Rattle.pet_tool.specs.declared.end.End.{End}
@@ -61,6 +63,13 @@ pub record OnCountedRead {E : Type 0} (Did : Seen → Seen → E → Type 0) (be
   pub only : OnFiles Did before after end
   pub files : after.place.files ≡ before.place.files
 
+-- a command that reads files and sends on a way: it prints nothing
+pub record OnRoutes {E : Type 0} (Did : Routes → Routes → E → Type 0) (before after : OutsideSeen)
+    (end : E) : Type 0 where
+  pub written : after.written ≡ before.written
+  pub out_faults : after.out_faults ≡ before.out_faults
+  pub did : Did (routes_in before) (routes_in after) end
+
 -- a command that uses memory alone, and counts so many steps at most
 pub record OnMemory {E : Type 0} (Did : E → Type 0) (most : ℕ) (before after : OutsideSeen) (end : E) : Type 0 where
   pub place : after.place ≡ before.place
@@ -98,3 +107,5 @@ Does (Some (Replay stream priority script)) before after status =
     Runs end.Replay (OnCountedRead (λ old new. Replays old new stream priority script)) before after status
 Does (Some (Sample seed groups)) before after status =
     Runs end.Sample (OnMemory (SampleEnds seed groups) (sample_steps seed groups)) before after status
+Does (Some (Repair store to)) before after status =
+    Runs end.Repair (OnRoutes (Repairs store (way_in to))) before after status

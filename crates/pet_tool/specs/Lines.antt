@@ -24,10 +24,13 @@ use Rattle.command_replay.specs.declared.command.ReplayEnd.{ReplayEnd}
 use Rattle.command_replay.specs.declared.command.ReplayEnd.TheVariants as replay
 use Rattle.command_sample.specs.declared.command.SampleEnd.{SampleEnd}
 use Rattle.command_sample.specs.declared.command.SampleEnd.TheVariants as sample
+use Rattle.pet_repair.specs.declared.repair.RepairEnd.{RepairEnd}
+use Rattle.pet_repair.specs.declared.repair.RepairEnd.TheVariants as repair
 use Rattle.pet_text.specs.Lines.{receive_text, merged_text, video_text, unwrapped_text, wrapped_text, migrated_text}
+use Rattle.pet_text.specs.Lines.{repaired_text}
 use Rattle.pet_tool.specs.declared.end.End.{End}
 use Rattle.pet_tool.specs.declared.end.End.TheVariants.{Usage, NoMemory, Plan, Check, Send, Receive, Merge, Video}
-use Rattle.pet_tool.specs.declared.end.End.TheVariants.{Unwrap, Wrap, Migrate, Replay, Sample}
+use Rattle.pet_tool.specs.declared.end.End.TheVariants.{Unwrap, Wrap, Migrate, Replay, Sample, Repair}
 
 abbrev pub line_of_plan : PlanEnd → List ℕ
 line_of_plan (plan.Done text) = text.items
@@ -123,6 +126,14 @@ abbrev pub line_of_sample : SampleEnd → List ℕ
 line_of_sample (sample.Done text) = text.items
 line_of_sample sample.NoMemory = []
 
+abbrev pub line_of_repair : RepairEnd → List ℕ
+line_of_repair (repair.Done groups datagrams) = repaired_text groups datagrams
+line_of_repair repair.NoMemory = []
+line_of_repair repair.PlaceFault = []
+line_of_repair repair.LinkFault = []
+line_of_repair (repair.BadStore at kind) = []
+line_of_repair (repair.Unlike group number) = []
+
 -- the line of the port, which `receive` prints itself, is no line of its end
 abbrev pub line_of : End → List ℕ
 line_of Usage = []
@@ -138,3 +149,4 @@ line_of (Wrap end) = line_of_wrap end
 line_of (Migrate end) = line_of_migrate end
 line_of (Replay end) = line_of_replay end
 line_of (Sample end) = line_of_sample end
+line_of (Repair end) = line_of_repair end

@@ -25,6 +25,8 @@ use Rattle.command_replay.specs.declared.command.ReplayEnd.{ReplayEnd}
 use Rattle.command_replay.specs.declared.command.ReplayEnd.TheVariants as replay
 use Rattle.command_sample.specs.declared.command.SampleEnd.{SampleEnd}
 use Rattle.command_sample.specs.declared.command.SampleEnd.TheVariants as sample
+use Rattle.pet_repair.specs.declared.repair.RepairEnd.{RepairEnd}
+use Rattle.pet_repair.specs.declared.repair.RepairEnd.TheVariants as repair
 use Rattle.pet_tool.specs.declared.end.End.{End}
 use Rattle.pet_tool.specs.declared.end.End.TheVariants as end
 use Rattle.text_status.specs.declared.status.PlanKind.TheVariants as kind
@@ -33,6 +35,7 @@ use Rattle.text_status.specs.declared.status.Status.TheVariants.{Done, Usage, No
 use Rattle.text_status.specs.declared.status.Status.TheVariants.{BadStream, BadPriority, BadPlan, BadStore, OtherSession}
 use Rattle.text_status.specs.declared.status.Status.TheVariants.{Clash, Incomplete, TurnsSpent, BadTable, NotLeast}
 use Rattle.text_status.specs.declared.status.Status.TheVariants.{Changed, Full, BadSystem, AlreadyNew, TooWide, BadScript}
+use Rattle.text_status.specs.declared.status.Status.TheVariants.{Unlike}
 
 -- of a session's refusal
 abbrev pub status_of_session : SessionFault → Status
@@ -136,6 +139,15 @@ abbrev pub status_of_sample : SampleEnd → Status
 status_of_sample (sample.Done text) = Done
 status_of_sample sample.NoMemory = NoMemory
 
+-- the one store is the first
+abbrev pub status_of_repair : RepairEnd → Status
+status_of_repair (repair.Done groups datagrams) = Done
+status_of_repair repair.NoMemory = NoMemory
+status_of_repair repair.PlaceFault = PlaceFault
+status_of_repair repair.LinkFault = LinkFault
+status_of_repair (repair.BadStore at kind) = BadStore 1 at kind
+status_of_repair (repair.Unlike group number) = Unlike group number
+
 abbrev pub status_of : End → Status
 status_of end.Usage = Usage
 status_of end.NoMemory = NoMemory
@@ -150,6 +162,7 @@ status_of (end.Wrap e) = status_of_wrap e
 status_of (end.Migrate e) = status_of_migrate e
 status_of (end.Replay e) = status_of_replay e
 status_of (end.Sample e) = status_of_sample e
+status_of (end.Repair e) = status_of_repair e
 
 -- which statuses tell of a failure of the place, and which of one of the link
 abbrev pub of_place : Status → Bool
@@ -175,6 +188,7 @@ of_place (BadSystem fault) = false
 of_place AlreadyNew = false
 of_place (BadScript line) = false
 of_place (TooWide group) = false
+of_place (Unlike group number) = false
 
 abbrev pub of_link : Status → Bool
 of_link Done = false
@@ -199,3 +213,4 @@ of_link (BadSystem fault) = false
 of_link AlreadyNew = false
 of_link (BadScript line) = false
 of_link (TooWide group) = false
+of_link (Unlike group number) = false

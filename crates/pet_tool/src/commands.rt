@@ -16,8 +16,10 @@ ghost use Rattle.command_video.specs.Videos.{Videos};
 ghost use Rattle.mpeg_system.specs.Unwraps.{Unwraps};
 ghost use Rattle.mpeg_system.specs.Wraps.{Wraps};
 ghost use Rattle.outside_routes.specs.Way.{way_of};
+ghost use Rattle.pet_repair.specs.Repairs.{Repairs};
+ghost use Rattle.pet_repair.specs.SentTo.{way_at};
 ghost use Rattle.pet_text.specs.Words.{command_of};
-ghost use Rattle.pet_tool.specs.Does.{Does, Runs, OnFiles, OnRead, OnCountedRead, OnMemory};
+ghost use Rattle.pet_tool.specs.Does.{Does, Runs, OnFiles, OnRead, OnCountedRead, OnMemory, OnRoutes};
 ghost use Rattle.pet_tool.specs.Lines.{line_of};
 ghost use Rattle.pet_tool.specs.Told.{Tells};
 ghost use Rattle.pet_tool.specs.Statuses.{status_of};
@@ -35,6 +37,7 @@ use command_video::video;
 use mpeg_system::{unwrap_loop, wrap_loop};
 use outside_routes::Route;
 use pet_base::{Link, Outside, Place, Sink};
+use pet_repair::repair_loop;
 use pet_text::{Command, Name};
 use std::alloc::Global;
 use std::sync::ledger::Ledger;
@@ -98,6 +101,7 @@ pub(crate) fn run_command<P: Place, K: Link, S: Sink, L: Ledger>(
             script,
         } => run_replay(alloc, stream, priority, script, outside),
         Command::Sample { seed, groups } => run_sample(alloc, *seed, *groups, outside),
+        Command::Repair { store, to } => run_repair(alloc, store.as_str(), to.route(), outside),
     }
 }
 
@@ -284,4 +288,38 @@ fn run_sample<P: Place, K: Link, S: Sink, L: Ledger>(
     ensures same { AreSame outside.old outside.new }
 {
     End::Sample(sample(alloc, seed, groups, outside.steps))
+}
+
+/// Runs `repair`.
+fn run_repair<P: Place, K: Link, S: Sink, L: Ledger>(
+    alloc: Global,
+    store: &str,
+    to: Route<'_>,
+    outside: &mut Outside<P, K, S, L>,
+) -> End
+    ensures does { (told : OutsideSeen) (status : Status) → Tells (line_of result) (status_of result) (seen outside.new) told status
+        → Runs End.Repair (OnRoutes (Repairs store.now (way_of to.entry))) (seen outside.old) told status }
+    ensures known { result ≢ End.Usage }
+    ensures same { AreSame outside.old outside.new }
+{
+    let (to, udp) = name_of(to);
+    End::Repair(repair_loop(
+        alloc,
+        store,
+        to,
+        udp,
+        outside.place,
+        outside.link,
+        outside.steps,
+    ))
+}
+
+/// The name or the address of a route, and whether it is an address.
+fn name_of(route: Route<'_>) -> (&str, bool)
+    ensures { way_at result.1 result.0.now ≡ way_of route }
+{
+    match route {
+        Route::File(name) => (name, false),
+        Route::Udp(address) => (address, true),
+    }
 }

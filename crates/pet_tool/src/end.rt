@@ -4,8 +4,8 @@ ghost use Rattle.pet_tool.specs.Lines.{line_of};
 ghost use Rattle.pet_tool.specs.Statuses.{status_of};
 
 use crate::statuses::{
-    check_status, merge_status, migrate_status, plan_status, receive_status, replay_status,
-    sample_status, send_status, unwrap_status, video_status, wrap_status,
+    check_status, merge_status, migrate_status, plan_status, receive_status, repair_status,
+    replay_status, sample_status, send_status, unwrap_status, video_status, wrap_status,
 };
 use arrayvec::ArrayVec;
 use command_merge::MergeEnd;
@@ -17,9 +17,10 @@ use command_sample::SampleEnd;
 use command_send::SendEnd;
 use command_video::VideoEnd;
 use mpeg_system::{UnwrapEnd, WrapEnd};
+use pet_repair::RepairEnd;
 use pet_text::{
-    Status, least_line, merged_line, migrated_line, receive_line, send_line, unwrapped_line,
-    video_line, wrapped_line,
+    Status, least_line, merged_line, migrated_line, receive_line, repaired_line, send_line,
+    unwrapped_line, video_line, wrapped_line,
 };
 
 /// How a run ended, before its line and that of its status are printed.
@@ -51,6 +52,8 @@ pub enum End {
     Replay(ReplayEnd),
     /// A run of `sample`.
     Sample(SampleEnd),
+    /// A run of `repair`.
+    Repair(RepairEnd),
 }
 
 /// The status of each end.
@@ -72,6 +75,7 @@ pub(crate) fn end_status(end: &End) -> Status
         End::Migrate(end) => migrate_status(end),
         End::Replay(end) => replay_status(end),
         End::Sample(end) => sample_status(end),
+        End::Repair(end) => repair_status(end),
     }
 }
 
@@ -98,6 +102,9 @@ pub(crate) fn end_line<'a>(end: &'a End, room: &'a mut ArrayVec<u8, 64>) -> &'a 
         End::Unwrap(UnwrapEnd::Done(bytes)) => unwrapped_line(*bytes, room),
         End::Wrap(WrapEnd::Done(bytes)) => wrapped_line(*bytes, room),
         End::Migrate(MigrateEnd::Done(packets)) => migrated_line(*packets, room),
+        End::Repair(RepairEnd::Done { groups, datagrams }) => {
+            repaired_line(*groups, *datagrams, room)
+        }
         End::Usage
         | End::NoMemory
         | End::Plan(_)
@@ -110,7 +117,8 @@ pub(crate) fn end_line<'a>(end: &'a End, room: &'a mut ArrayVec<u8, 64>) -> &'a 
         | End::Wrap(_)
         | End::Migrate(_)
         | End::Replay(_)
-        | End::Sample(_) => {}
+        | End::Sample(_)
+        | End::Repair(_) => {}
     }
     room.as_slice()
 }

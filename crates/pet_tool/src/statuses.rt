@@ -1,6 +1,6 @@
 //! The status of each end of each command.
 ghost use Rattle.std.specs.Prelude.{◌≡◌, ◌≢◌};
-ghost use Rattle.pet_tool.specs.Statuses.{status_of_plan, status_of_check, status_of_send, status_of_receive, status_of_merge, status_of_video, status_of_unwrap, status_of_wrap, status_of_migrate, status_of_replay, status_of_sample, status_of_session};
+ghost use Rattle.pet_tool.specs.Statuses.{status_of_plan, status_of_check, status_of_send, status_of_receive, status_of_merge, status_of_video, status_of_unwrap, status_of_wrap, status_of_migrate, status_of_replay, status_of_sample, status_of_repair, status_of_session};
 
 use command_merge::MergeEnd;
 use command_migrate::MigrateEnd;
@@ -12,6 +12,7 @@ use command_send::SendEnd;
 use command_video::VideoEnd;
 use mpeg_system::{UnwrapEnd, WrapEnd};
 use pet_base::MAX_GROUPS;
+use pet_repair::RepairEnd;
 use pet_text::{PlanKind, Status};
 use stream_session::SessionFault;
 
@@ -179,6 +180,21 @@ pub(crate) fn sample_status(end: &SampleEnd) -> Status
     match end {
         SampleEnd::Done(_) => Status::Done,
         SampleEnd::NoMemory => Status::NoMemory,
+    }
+}
+
+/// The status of each end of `repair`.
+pub(crate) fn repair_status(end: &RepairEnd) -> Status
+    ensures status { result ≡ status_of_repair end.now }
+    ensures known { result ≢ Status.Usage }
+{
+    match end {
+        RepairEnd::Done { .. } => Status::Done,
+        RepairEnd::NoMemory => Status::NoMemory,
+        RepairEnd::PlaceFault => Status::PlaceFault,
+        RepairEnd::LinkFault => Status::LinkFault,
+        RepairEnd::BadStore(at, kind) => Status::BadStore(1, *at, *kind),
+        RepairEnd::Unlike(group, number) => Status::Unlike(*group, *number),
     }
 }
 

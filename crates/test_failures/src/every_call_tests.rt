@@ -21,9 +21,11 @@ type Row = (
 
 const SENT: &str = "session a5ac9461b03bcf36 groups 1 datagrams 6\n";
 
+const REPAIRED: &str = "repaired 1 datagrams 6\n";
+
 const BOTH: &[(&str, Text)] = &[("l", Text::Layers), ("t", Text::Store)];
 
-static ROWS: [Row; 11] = [
+static ROWS: [Row; 13] = [
     (&["plan", "s", "f"], &[], test_example::PLAN, false),
     (&["check", "s", "f", "p"], &[], "least 1\n", false),
     (
@@ -75,6 +77,13 @@ static ROWS: [Row; 11] = [
         "migrated 6\n",
         false,
     ),
+    (
+        &["repair", "b", "file:o"],
+        &[("o", Text::Datagrams)],
+        REPAIRED,
+        false,
+    ),
+    (&["repair", "b", "udp:x:1"], &[], REPAIRED, true),
 ];
 
 /// A run that has ended.

@@ -85,16 +85,17 @@ fn store(alloc: Global) -> Result<Vec<u8>, AllocError> {
 }
 
 /// The names of `files`.
-pub(crate) const NAMES: [&str; 8] = ["s", "f", "p", "a", "m", "q", "e", "w"];
+pub(crate) const NAMES: [&str; 9] = ["s", "f", "p", "a", "b", "m", "q", "e", "w"];
 
-/// The files of the example: stream, priorities, plan, a store of no packet, one of the first version of all, datagrams, a script, and
-/// the stream wrapped. The calls of these numbers fail.
+/// The files of the example: stream, priorities, plan, a store of no packet, one of all, one of the first version of all, datagrams, a
+/// script, and the stream wrapped. The calls of these numbers fail.
 pub(crate) fn files(alloc: Global, failing: Vec<u64>) -> Result<MemoryPlace, NoMemory> {
     let mut place = MemoryPlace::new(alloc, failing);
     place.add("s", &STREAM)?;
     place.add("f", PRIORITIES.as_bytes())?;
     place.add("p", PLAN.as_bytes())?;
     place.add("a", &NOTHING)?;
+    place.add("b", &store(alloc)?)?;
     place.add("m", &old_store())?;
     place.add("q", &entries(alloc)?)?;
     place.add("e", b"give A 0 0\n")?;

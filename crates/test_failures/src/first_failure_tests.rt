@@ -134,7 +134,7 @@ fn calls_of(alloc: Global, words: &[&str], object: Object) -> Result<Option<u64>
 /// Words, and how many calls of the link and of the output they come to.
 type Row = (&'static [&'static str], [u64; 2]);
 
-static ROWS: [Row; 12] = [
+static ROWS: [Row; 14] = [
     (&["plan", "s", "f"], [0, 1]),
     (&["check", "s", "f", "p"], [0, 1]),
     (&["send", "s", "f", "file:d"], [0, 1]),
@@ -150,6 +150,8 @@ static ROWS: [Row; 12] = [
     (&["unwrap", "s", "e0", "o"], [0, 0]),
     (&["migrate", "m", "o"], [0, 1]),
     (&["replay", "s", "f", "e"], [0, 1]),
+    (&["repair", "a", "file:o"], [0, 1]),
+    (&["repair", "b", "udp:x:1"], [7, 1]),
 ];
 
 #[test]

@@ -11,6 +11,8 @@ pub use statuses::bad_line;
 #[cfg(test)]
 mod migrate_tests;
 #[cfg(test)]
+mod repair_run_tests;
+#[cfg(test)]
 mod run_fixtures;
 #[cfg(test)]
 mod run_tests;

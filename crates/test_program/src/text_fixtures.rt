@@ -39,7 +39,7 @@ const NONE: GroupMark = GroupMark {
 };
 
 /// Statuses with their numbers and lines.
-pub(crate) static FAULTS: [(Status, u8, &str); 24] = [
+pub(crate) static FAULTS: [(Status, u8, &str); 25] = [
     (Status::Incomplete, 12, "fault incomplete\n"),
     (Status::LinkFault, 4, "fault link\n"),
     (
@@ -81,6 +81,11 @@ pub(crate) static FAULTS: [(Status, u8, &str); 24] = [
     (Status::Full(4_294_967_295), 19, "fault full 4294967295\n"),
     (Status::AlreadyNew, 18, "fault version\n"),
     (Status::TooWide(65_534), 20, "fault wide 65534\n"),
+    (
+        Status::Unlike(65_534, 4_095),
+        21,
+        "fault unlike 65534 4095\n",
+    ),
     (Status::BadScript(0), 14, "fault script 0\n"),
     (
         Status::BadScript(18_446_744_073_709_551_615),

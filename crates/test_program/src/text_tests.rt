@@ -56,6 +56,7 @@ fn names_of(command: &Command) -> [&str; 4] {
             script.as_str(),
         ],
         Command::Sample { .. } => ["sample", "", "", ""],
+        Command::Repair { store, to } => ["repair", store.as_str(), text_of(to), ""],
     }
 }
 
@@ -70,7 +71,7 @@ fn text_of(end: &End) -> &str {
 fn is_by_link(command: &Command) -> bool {
     match command {
         Command::Receive { from, .. } => matches!(from, End::Udp(_)),
-        Command::Send { to, .. } => matches!(to, End::Udp(_)),
+        Command::Send { to, .. } | Command::Repair { to, .. } => matches!(to, End::Udp(_)),
         _ => false,
     }
 }
@@ -95,7 +96,7 @@ type Row = (
 const NAMED: Option<[u8; 8]> = Some([0, 1, 2, 3, 4, 5, 6, 7]);
 
 /// The words of each command, and addresses up to their last colon. Port 0, which is one that is to be found, is only received at.
-static READ: [Row; 27] = [
+static READ: [Row; 29] = [
     (
         &["receive", "file:a", SESSION, "b", "c"],
         ["receive", "a", "b", "c"],
@@ -148,6 +149,18 @@ static READ: [Row; 27] = [
         false,
     ),
     (&["sample", "0", "1"], ["sample", "", "", ""], None, false),
+    (
+        &["repair", "t", "file:o"],
+        ["repair", "t", "o", ""],
+        None,
+        false,
+    ),
+    (
+        &["repair", "x:1", "udp:x:1"],
+        ["repair", "x:1", "x:1", ""],
+        None,
+        true,
+    ),
     (
         &["send", "s", "f", "udp:x:1"],
         ["send", "s", "f", "x:1"],

@@ -9,7 +9,7 @@ use pet_text::{
     Command, End, GroupMark, Name, PlanFault, PlanKind, Repeat, ScriptFault, Status, WordsFault,
     bound_line, fault_line, least_line, lengths_line, merged_line, migrated_line, plan_group_line,
     plan_layer_line, plan_session_line, read_plan, read_script, read_words, receive_line,
-    sample_stream, send_line, unwrapped_line, video_line, wrapped_line,
+    repaired_line, sample_stream, send_line, unwrapped_line, video_line, wrapped_line,
 };
 use std::alloc::{AllocError, Global};
 use std::test::Fail;
@@ -41,6 +41,7 @@ fn names_of(command: &Command) -> (&str, &str) {
         }
         Command::Replay { stream, script, .. } => (stream.as_str(), script.as_str()),
         Command::Sample { .. } => ("", ""),
+        Command::Repair { store, to } => (store.as_str(), text_of(to)),
     }
 }
 
@@ -55,7 +56,7 @@ fn text_of(end: &End) -> &str {
 /// Words, and what they name first and last.
 type Row = (&'static [&'static str], &'static str, &'static str);
 
-static ROWS: [Row; 11] = [
+static ROWS: [Row; 12] = [
     (&["plan", "s", "f"], "s", "f"),
     (&["check", "s", "f", "p"], "s", "p"),
     (&["send", "s", "f", "file:d"], "s", "d"),
@@ -71,6 +72,7 @@ static ROWS: [Row; 11] = [
     (&["migrate", "t", "o"], "t", "o"),
     (&["replay", "s", "f", "e"], "s", "e"),
     (&["sample", "1", "4"], "", ""),
+    (&["repair", "t", "file:d"], "t", "d"),
 ];
 
 /// Whether the words of this row are read.
@@ -150,15 +152,18 @@ fn lines_of_plan_and_of_a_port(rt: HostRuntime) {
 /// A printed line, whose making is handed in.
 type Room = ArrayVec<u8, 64>;
 
-/// Whether the lines of `check`, `merge` and `migrate` are so.
+/// Whether the lines of `check`, `merge`, `migrate` and `repair` are so.
 fn counts_are_printed() -> bool {
     let (mut least, mut merged, mut migrated) = (Room::new(), Room::new(), Room::new());
+    let mut repaired = Room::new();
     least_line(3, &mut least);
     merged_line(7, &mut merged);
     migrated_line(6, &mut migrated);
+    repaired_line(1, 6, &mut repaired);
     least.as_slice() == b"least 3\n".as_slice()
         && merged.as_slice() == b"merged 7\n".as_slice()
         && migrated.as_slice() == b"migrated 6\n".as_slice()
+        && repaired.as_slice() == b"repaired 1 datagrams 6\n".as_slice()
 }
 
 /// Whether those of `video`, `unwrap`, `wrap`, `send` and `receive` are.
@@ -195,7 +200,7 @@ const MARK: GroupMark = GroupMark {
 };
 
 /// A status that comes of each of the kinds here.
-static TOLD: [(Status, u8, &str); 4] = [
+static TOLD: [(Status, u8, &str); 5] = [
     (Status::Done, 0, ""),
     (
         Status::BadPlan(PlanKind::Lines, 2),
@@ -203,6 +208,7 @@ static TOLD: [(Status, u8, &str); 4] = [
         "fault plan Lines 2\n",
     ),
     (Status::Changed(0, MARK, MARK), 17, "fault changed 0\n"),
+    (Status::Unlike(0, 5), 21, "fault unlike 0 5\n"),
     (
         Status::BadSystem(System::NoVideo),
         24,

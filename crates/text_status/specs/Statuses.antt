@@ -16,6 +16,7 @@ use Rattle.text_status.specs.declared.status.Status.TheVariants.{Done, Usage, No
 use Rattle.text_status.specs.declared.status.Status.TheVariants.{BadStream, BadPriority, BadPlan, BadStore, OtherSession}
 use Rattle.text_status.specs.declared.status.Status.TheVariants.{Clash, Incomplete, TurnsSpent, BadTable, NotLeast}
 use Rattle.text_status.specs.declared.status.Status.TheVariants.{Changed, Full, BadSystem, AlreadyNew, TooWide, BadScript}
+use Rattle.text_status.specs.declared.status.Status.TheVariants.{Unlike}
 
 abbrev pub code_of : Status → ℕ
 code_of Done = 0
@@ -40,6 +41,7 @@ code_of (BadSystem fault) = 24
 code_of AlreadyNew = 18
 code_of (TooWide group) = 20
 code_of (BadScript line) = 14
+code_of (Unlike group number) = 21
 
 -- the kind of a stream's refusal, its offset, and for a picture's type the type; want of memory is a status of its own
 abbrev pub scan_text : Scan → List ℕ
@@ -128,3 +130,4 @@ fault_text (BadSystem fault) = codes "fault system " ++ system_text fault ++ cod
 fault_text AlreadyNew = codes "fault version\n"
 fault_text (TooWide group) = codes "fault wide " ++ decimal group ++ codes "\n"
 fault_text (BadScript line) = codes "fault script " ++ decimal line ++ codes "\n"
+fault_text (Unlike group number) = codes "fault unlike " ++ decimal group ++ codes " " ++ decimal number ++ codes "\n"

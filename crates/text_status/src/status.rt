@@ -1,7 +1,7 @@
 //! How the program ends.
 ghost use Rattle.std.specs.Prelude.{◌≡◌, ◌+◌, ◌≤◌, [], ◌++◌, length, codes, decimal};
 ghost use Rattle.arrayvec.specs.ArrayVec.{array_vec_len};
-ghost use Rattle.text_status.specs.declared.status.Status.TheVariants.{BadStream, BadPriority, BadPlan, BadStore, Clash, BadSystem};
+ghost use Rattle.text_status.specs.declared.status.Status.TheVariants.{BadStream, BadPriority, BadPlan, BadStore, Clash, BadSystem, Unlike};
 ghost use Rattle.text_status.specs.Statuses.{code_of, scan_text, system_text, priority_text, plan_kind_text, store_kind_text, fault_text};
 
 use arrayvec::ArrayVec;
@@ -104,10 +104,12 @@ pub enum Status {
     /// This line of the script, counted from 1, is the first that is no event of the session; 0 where the script has more
     /// than 1,048,576 bytes.
     BadScript(u64),
+    /// The packet of this group and number is kept with another payload than the group's other packets give.
+    Unlike(u32, u16),
 }
 
 impl Status {
-    /// The exit status of the program, from 0 to 20, and 24.
+    /// The exit status of the program, from 0 to 21, and 24.
     pub fn code(&self) -> u8
         ensures { result ≡ code_of self.now }
     {
@@ -134,6 +136,7 @@ impl Status {
             Status::AlreadyNew => 18,
             Status::TooWide(_) => 20,
             Status::BadScript(_) => 14,
+            Status::Unlike(_, _) => 21,
         }
     }
 }
@@ -166,6 +169,7 @@ pub fn fault_line(status: &Status, into: &mut ArrayVec<u8, 64>)
         Status::AlreadyNew => append_text("fault version\n", into),
         Status::TooWide(group) => number_line("fault wide ", u64::from(*group), into),
         Status::BadScript(line) => number_line("fault script ", *line, into),
+        Status::Unlike(group, number) => unlike_fault(*group, *number, into),
     }
 }
 
@@ -329,6 +333,18 @@ fn clash_fault(group: u32, number: u16, into: &mut ArrayVec<u8, 64>)
     ensures { into.new.items ≡ fault_text (Clash group number) }
 {
     append_text("fault clash ", into);
+    append_number(u64::from(group), into);
+    append_text(" ", into);
+    append_number(u64::from(number), into);
+    append_text("\n", into);
+}
+
+/// The line of a packet that is not the one that its group gives.
+fn unlike_fault(group: u32, number: u16, into: &mut ArrayVec<u8, 64>)
+    requires { into.old.items ≡ [] }
+    ensures { into.new.items ≡ fault_text (Unlike group number) }
+{
+    append_text("fault unlike ", into);
     append_number(u64::from(group), into);
     append_text(" ", into);
     append_number(u64::from(number), into);

@@ -1,6 +1,7 @@
 -- The store of a session's packets is repaired, from what each end tells.
 use Rattle.std.proofs.Common.{◌≡◌, ℕ, zero, suc, ◌+◌, ◌<◌, Bool, cond, List, [], ◌∷◌, ◌++◌, length, map}
-use Rattle.std.proofs.Common.{All, None, Some, refl, sym, ap, ap₂, subst, ◌∙◌, arith, leb}
+use Rattle.std.proofs.Common.{All, None, Some, refl, sym, ap, ap₂, subst, ◌∙◌, arith, inl, inr}
+use Rattle.std.proofs.Common.{leb}
 use Rattle.std.specs.Prelude.{count_by, slice_get, ◌≤◌}
 use Rattle.std.specs.List.{flat_map, list_all, enumerate_from, range_with_len}
 use Rattle.std.proofs.lemmas.List.{length-map}
@@ -8,9 +9,11 @@ use Rattle.std.proofs.lemmas.List.Elements.{All-contains}
 use Rattle.std.proofs.lemmas.List.Sums.{sum_by-cons}
 use Rattle.stripe_plan.specs.Layers.{count_of}
 use Rattle.pet_base.specs.declared.limits.TheConstants.{MAX_SESSION}
-use Rattle.pet_base.specs.Seen.{Files}
+use Rattle.pet_base.specs.Seen.{Seen, Blame, Files}
+use Rattle.pet_base.specs.laws.SeenLaws.{HadFault-since}
+use Rattle.outside_files.specs.Uses.{IsOneOf}
 use Rattle.outside_routes.specs.Sending.{Routes}
-use Rattle.outside_routes.specs.Way.{Way}
+use Rattle.outside_routes.specs.Way.{Way, OnFile, OnLink}
 use Rattle.field_elements.specs.Gf16.{gf16_coding}
 use Rattle.packet_frame.specs.Frame.{Fields, text}
 use Rattle.packet_session.specs.Session.{Session, SessionGroup, packet_of, packets_of, IsPacketOf}
@@ -28,7 +31,8 @@ use Rattle.packet_met.specs.laws.StoreRead.{IsStoreOf, store_is, read_so, not_re
 use Rattle.packet_relay.specs.Relay.{all_layers}
 use Rattle.packet_rebuild.specs.laws.RebuiltLaws.{open_of}
 use Rattle.pet_repair.specs.Repaired.{IsUnlike, is_whole, on_end, complete_packets, complete_groups}
-use Rattle.pet_repair.specs.Repairs.{HasState, RepairsStore, Repairs, CanRepair, RepairsSession, CompletesRepair}
+use Rattle.pet_repair.specs.Repairs.{HasState, RepairsStore, MayBlame, Repairs, CanRepair, RepairsSession}
+use Rattle.pet_repair.specs.Repairs.{CompletesRepair, uses}
 use Rattle.pet_repair.specs.SentTo.{SentTo}
 use Rattle.pet_repair.specs.declared.repair.RepairEnd.{RepairEnd}
 use Rattle.pet_repair.specs.declared.repair.RepairEnd.TheVariants.{Done, NoMemory, PlaceFault, LinkFault, BadStore}
@@ -102,13 +106,20 @@ module _ (s : Session) (a b : List Pair)
   same_groups : complete_groups s a ≡ complete_groups s b
   same_groups = groups_from s.groups 0 each_layers
 
+-- a file that a failure may be at is one of those that are used
+is_used : (store : List ℕ) (to : Way) (old : Seen) (blame : Blame) → MayBlame store to old blame
+    → IsOneOf (uses store to) blame
+is_used store (OnFile to) old blame (inl is) = inl is
+is_used store (OnFile to) old blame (inr is) = inr is.0
+is_used store (OnLink address) old blame is = is
+
 no_some : {P : Type 0} (n : ℕ) → None ≡ Some n → P
 no_some n e = cc
 
 module _ (s : Session) (pairs : List Pair) (files : Files) (store : List ℕ) (to : Way) (old new : Routes)
     (whole : RepairEnd) (can : CanRepair s pairs files store to old new whole) where
   one : (set : KeptSet) × IsStoreOf s pairs set
-  one = store_is s pairs can.session can.fits
+  one = store_is s pairs can.given.session can.given.fits
 
   met : List Pair
   met = one.1.is_met.met
@@ -117,14 +128,14 @@ module _ (s : Session) (pairs : List Pair) (files : Files) (store : List ℕ) (t
   unfolding met one
   follows h =
       subst (Follows (made gf16_coding) s MAX_SESSION met)
-      (sym (read_so s files old.place.files store pairs one.0 (kept_set h.state) can.told can.found one.1 h.file))
+      (sym (read_so s files old.place.files store pairs one.0 (kept_set h.state) can.given.told can.given.found one.1 h.file))
       one.1.is_met.follows
 
   -- what was sent, and the numbers
   sent_all : (r : RepairsStore store to old new) → on_end r.groups ≡ map text (complete_packets gf16_coding s pairs)
   unfolding met one
   sent_all r =
-      texts_are (λ a. a < 65536) gf16_coding s MAX_SESSION met r.held.state refl can.session can.zeros
+      texts_are (λ a. a < 65536) gf16_coding s MAX_SESSION met r.held.state refl can.given.session can.given.zeros
       (follows r.held) r.groups r.are
       ∙ ap (map text) (same_packets s met pairs one.1.is_met.same)
 
@@ -133,7 +144,7 @@ module _ (s : Session) (pairs : List Pair) (files : Files) (store : List ℕ) (t
       ≡ complete_groups s pairs
   unfolding met one
   counted h =
-      count_is (λ a. a < 65536) gf16_coding s MAX_SESSION met h.state refl can.session can.zeros (follows h)
+      count_is (λ a. a < 65536) gf16_coding s MAX_SESSION met h.state refl can.given.session can.given.zeros (follows h)
       ∙ same_groups s met pairs one.1.is_met.same
 
   -- no packet is unlike
@@ -143,10 +154,10 @@ module _ (s : Session) (pairs : List Pair) (files : Files) (store : List ℕ) (t
   like_all h group number is =
       let p = open_of (kept_set h.state) group is.encoder.header is.is_its.header in
       let at = (follows h).opened group p.0 p.1 in
-      let its = encoder_in (λ a. a < 65536) gf16_coding s MAX_SESSION met h.state refl can.session can.zeros
+      let its = encoder_in (λ a. a < 65536) gf16_coding s MAX_SESSION met h.state refl can.given.session can.given.zeros
       (follows h) group at.0 at.1 is.encoder is.is_its in
-      no_some number (sym (never_unlike (λ a. a < 65536) gf16_coding s MAX_SESSION met h.state refl can.session
-      can.zeros (follows h) group at.0 at.1 is.encoder its) ∙ is.unlike)
+      no_some number (sym (never_unlike (λ a. a < 65536) gf16_coding s MAX_SESSION met h.state refl can.given.session
+      can.given.zeros (follows h) group at.0 at.1 is.encoder its) ∙ is.unlike)
 
   repaired : (end : RepairEnd) → whole ≡ end → Repairs store to old new end → RepairsSession s pairs to old new end
   unfolding met one
@@ -159,10 +170,12 @@ module _ (s : Session) (pairs : List Pair) (files : Files) (store : List ℕ) (t
             (repairs.2 ∙ ap length (sent_all r) ∙ length-map (complete_packets gf16_coding s pairs) text);
       }
   repaired NoMemory is repairs = absurd (can.memory is)
-  repaired PlaceFault is repairs = absurd (can.place repairs.0)
+  repaired PlaceFault is repairs =
+      absurd (can.well (HadFault-since old.place old.place new.place _ _ (omega arith) (is_used store to old.place)
+      repairs.0))
   repaired LinkFault is repairs = absurd (can.link repairs.0)
   repaired (BadStore at kind) is repairs =
-      not_refused s files old.place.files store pairs one.0 (At at kind) can.told can.found one.1 repairs.0
+      not_refused s files old.place.files store pairs one.0 (At at kind) can.given.told can.given.found one.1 repairs.0
   repaired (Unlike group number) is repairs = absurd (like_all repairs.held group number repairs.unlike)
 
 -- the headline follows from what `repair` does

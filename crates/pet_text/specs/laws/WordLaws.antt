@@ -9,9 +9,10 @@ use Rattle.pet_text.specs.declared.end.End.{End}
 use Rattle.pet_text.specs.declared.end.End.TheVariants.{File, Udp}
 use Rattle.pet_text.specs.declared.words.Command.{Command}
 use Rattle.pet_text.specs.declared.words.Command.TheVariants.{Plan, Check, Send, Receive, Merge, Video, Unwrap, Wrap}
-use Rattle.pet_text.specs.declared.words.Command.TheVariants.{Migrate, Replay, Sample}
+use Rattle.pet_text.specs.declared.words.Command.TheVariants.{Migrate, Replay, Sample, Repair}
 use Rattle.pet_text.specs.Words.{is_name, digit_of, end_of, session_of, id_of, some_groups, plain_number, groups_of}
-use Rattle.pet_text.specs.Words.{names_files, if_named, send_of, receive_of, unwrap_of, sample_of, command_of}
+use Rattle.pet_text.specs.Words.{names_files, if_named, send_of, receive_of, unwrap_of, sample_of, repair_of}
+use Rattle.pet_text.specs.Words.{command_of}
 use Rattle.pet_text.specs.inside.WrittenFiles.{writes_others}
 
 -- the id of `unwrap` is that of a video, from E0 to EF, and the groups of `sample` are from 1 to 100
@@ -108,6 +109,10 @@ module _ (c : Command) where
   by_sample (Some seed) None is e = by_none e
   by_sample (Some seed) (Some groups) is e = by_named (Sample seed groups) (is groups refl) e
 
+  by_repair : (store : List ℕ) (end : Option End) → repair_of store end ≡ Some c → HasForm c
+  by_repair store None e = by_none e
+  by_repair store (Some to) e = by_named (Repair store to) tt e
+
   either : (t : Bool) (answer others : Option Command) → (answer ≡ Some c → HasForm c)
       → (others ≡ Some c → HasForm c) → cond t answer others ≡ Some c → HasForm c
   either true answer others met unmet e = met e
@@ -123,7 +128,8 @@ module _ (c : Command) where
       (either (bytes_eq word (codes "wrap")) _ _ (by_named (Wrap first second) tt)
       (either (bytes_eq word (codes "migrate")) _ _ (by_named (Migrate first second) tt)
       (either (bytes_eq word (codes "sample")) _ _
-      (by_sample (plain_number first) (groups_of second) (groups_in second)) by_none))))
+      (by_sample (plain_number first) (groups_of second) (groups_in second))
+      (either (bytes_eq word (codes "repair")) _ _ (by_repair first (end_of 1 second)) by_none)))))
       e
   has_form (word ∷ first ∷ second ∷ third ∷ []) e =
       either (bytes_eq word (codes "check")) _ _ (by_named (Check first second third) tt)
@@ -160,6 +166,8 @@ others (Wrap file out) e = behind file out (not (bytes_eq out file)) e
 others (Migrate store out) e = behind store out (not (bytes_eq out store)) e
 others (Replay stream priority script) e = refl
 others (Sample seed groups) e = refl
+others (Repair store (Udp address)) e = refl
+others (Repair store (File to)) e = (and_parts (is_name store) (not (bytes_eq to store)) e).1
 
 -- the words of a command name no file twice that it writes
 pub written_differ : (c : Command) (words : List (List ℕ)) → command_of words ≡ Some c → writes_others c ≡ true
