@@ -1,4 +1,5 @@
 pub mod Words
+pub mod KeepWords
 pub mod Ends
 pub mod Lines
 pub mod inside

@@ -1,3 +1,4 @@
 pub mod Forms
 pub mod PlainNumbers
 pub mod WrittenFiles
+pub mod KeepForms

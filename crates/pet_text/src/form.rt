@@ -229,7 +229,7 @@ fn receive_words<'a>(
 }
 
 /// Whether the two files that are written have names, each another than the other and than a file that is read.
-fn are_receive_files(from: Route<'_>, layers: &str, store: &str) -> bool
+pub(crate) fn are_receive_files(from: Route<'_>, layers: &str, store: &str) -> bool
     ensures { result ≡ receive_files (end_in from.entry) layers.now store.now }
 {
     if layers.is_empty() || store.is_empty() {

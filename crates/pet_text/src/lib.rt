@@ -9,6 +9,7 @@
 
 mod end;
 mod form;
+mod keep_words;
 mod lines;
 mod name;
 mod numbers;
@@ -16,6 +17,7 @@ mod session;
 mod words;
 
 pub use end::End;
+pub use keep_words::{KeepWords, read_keep_words};
 pub use lines::{
     least_line, merged_line, migrated_line, receive_line, repaired_line, send_line, unwrapped_line,
     video_line, wrapped_line,
