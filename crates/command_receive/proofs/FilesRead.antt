@@ -1,5 +1,5 @@
 -- What stands in LAYERS and STORE, from what was read and what stands in STORE then.
-use Rattle.std.proofs.Common.{◌≡◌, ◌⊎◌, ◌<◌, ℕ, List, [], ◌∷◌, None, Some, sym, ap, subst, ◌∙◌, arith, inl, inr}
+use Rattle.std.proofs.Common.{◌≡◌, ◌⊎◌, ◌<◌, ℕ, List, [], ◌∷◌, None, Some, ap, subst, ◌∙◌, arith, inl, inr}
 use Rattle.pet_base.specs.OutsideSeen.{OutsideSeen}
 use Rattle.outside_files.specs.Wrote.{File, Wrote}
 use Rattle.outside_files.specs.laws.WroteLaws.{Wrote-as_front, Wrote-then}

@@ -1,5 +1,5 @@
 -- What a reading leaves that stops early, by where it stops.
-use Rattle.std.proofs.Common.{◌≡◌, ℕ, ◌≤◌, List, refl, inl, inr, arith}
+use Rattle.std.proofs.Common.{◌≡◌, ℕ, ◌≤◌, List, refl, inl, inr}
 use Rattle.std.specs.Prelude.{Result, IfErr, IsErrAnd}
 use Rattle.pet_base.specs.declared.place.Side.TheVariants.{Read, Written}
 use Rattle.pet_base.specs.OutsideSeen.{OutsideSeen}

@@ -61,7 +61,6 @@ pub enum ByteEnd {
 /// Reads the datagrams of FROM, a file or an address, and writes the layers of a session of the byte profile to LAYERS as they are
 /// shown; it answers the numbers of that. It prints nothing but the port at which a link receives, before LAYERS is made. The first
 /// failure of a file, of the link or of the output ends it.
-#[tactic(auto, using(crate::specs::laws::BytesLaws::completes_bytes))]
 pub fn breceive_loop<P: Place, K: Link, S: Sink, L: Ledger>(
     alloc: Global,
     from: &str,

@@ -33,7 +33,7 @@ use Rattle.command_receive.specs.laws.NamedLaws.{names_what_it_stores}
 use Rattle.command_receive.specs.Opened.{IsBoundTo, PrintedPort}
 use Rattle.command_receive.specs.Receives.{Receives, port_line, uses_of}
 use Rattle.command_receive.specs.ReceivesSession.{HasPacketsOf, ReceivesSession, session_totals}
-use Rattle.command_receive.specs.declared.reading.Totals.{Totals}
+use Rattle.packet_reading.specs.declared.reading.Totals.{Totals}
 use Rattle.command_receive.specs.laws.LineLaws.{port_then}
 use Rattle.command_receive.specs.laws.SessionReceived.{completes_receive}
 use Rattle.command_merge.specs.Merges.{Merges}

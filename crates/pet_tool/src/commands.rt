@@ -316,7 +316,7 @@ fn run_repair<P: Place, K: Link, S: Sink, L: Ledger>(
 
 /// The name or the address of a route, and whether it is an address.
 fn name_of(route: Route<'_>) -> (&str, bool)
-    ensures { way_at result.1 result.0.now ≡ way_of route }
+    ensures { way_at result.1 result.0.now ≡ way_of route.entry }
 {
     match route {
         Route::File(name) => (name, false),

@@ -1,13 +1,11 @@
 -- The headline, from what each end tells.
-use Rattle.std.proofs.Common.{◌≡◌, ℕ, ◌<◌, Bool, true, false, cond, List, [], ◌∷◌, ◌++◌, length, Option, None, Some, refl, sym}
+use Rattle.std.proofs.Common.{◌≡◌, ℕ, ◌<◌, Bool, true, false, cond, List, [], ◌∷◌, length, Option, Some, refl, sym}
 use Rattle.std.proofs.Common.{ap, subst, ◌∙◌, arith, inl, inr}
-use Rattle.std.specs.Prelude.{All, option_map, IfSome}
+use Rattle.std.specs.Prelude.{All, option_map}
 use Rattle.std.proofs.lemmas.Bool.{false_from_ne_true}
-use Rattle.std.proofs.lemmas.List.{append-nil, length-append}
 use Rattle.pet_base.specs.declared.limits.TheConstants.{MAX_SESSION, MAX_DATAGRAMS}
 use Rattle.pet_base.specs.Causes.{Rose}
 use Rattle.outside_routes.specs.Way.{Way, OnFile, OnLink}
-use Rattle.outside_routes.specs.Coming.{HaveCome}
 use Rattle.command_receive.specs.Opened.{IsBoundTo, PortFailed, PrintedPort}
 use Rattle.pet_base.specs.OutsideSeen.{OutsideSeen}
 use Rattle.pet_base.specs.Seen.{Blame, Files, HadFault, with_file}
@@ -19,24 +17,21 @@ use Rattle.pet_receive.specs.ShownBytes.{IsComplete}
 use Rattle.packet_verdicts.specs.Union.{frames_in}
 use Rattle.field_elements.specs.Gf16.{gf16_coding}
 use Rattle.packet_met.specs.Kept.{kept_of}
-use Rattle.packet_met.specs.Met.{met_in, all_shown, count_met, count_shown, layers_text}
+use Rattle.packet_met.specs.Met.{met_in, all_shown, layers_text}
 use Rattle.packet_met.specs.MetStore.{session_store}
 use Rattle.packet_met.specs.laws.FramesAreMet.{kept_frames}
-use Rattle.packet_met.specs.laws.AllDatagrams.{follows_all, text_is}
-use Rattle.packet_met.specs.laws.CountsAreMet.{kept_is, shown_is, complete_is}
 use Rattle.packet_met.specs.laws.DatagramMore.{made, IsPlain}
 use Rattle.packet_met.specs.laws.FewestStripesLaws.{all_carry_fewest}
 use Rattle.packet_met.specs.laws.KeptIsMet.{Follows}
 use Rattle.command_receive.specs.declared.command.ReceiveEnd.{ReceiveEnd}
 use Rattle.command_receive.specs.declared.command.ReceiveEnd.TheVariants.{Done, NoMemory, PlaceFault, LinkFault}
 use Rattle.command_receive.specs.declared.command.ReceiveEnd.TheVariants.{OutFault, Incomplete, TurnsSpent}
-use Rattle.store_text.specs.Files.{HasFile}
 use Rattle.store_text.specs.Store.{store_of, store_text}
-use Rattle.command_receive.specs.Receives.{AreRead, IsBoundAtEnd, IsRead, IsUseInTurn, layers_file, kept_file}
+use Rattle.command_receive.specs.Receives.{IsBoundAtEnd, IsUseInTurn, layers_file, kept_file}
 use Rattle.command_receive.specs.Receives.{AreTotals, uses_of, Reads, EndsReceive, Receives}
 use Rattle.packet_reading.specs.declared.reading.Totals.{Totals}
 use Rattle.packet_reading.specs.laws.SessionLaws as L
-use Rattle.command_receive.specs.ReceivesSession.{HasDatagrams, HasPacketsOf, CanReceive, ReceivesSession}
+use Rattle.command_receive.specs.ReceivesSession.{HasPacketsOf, CanReceive, ReceivesSession}
 use Rattle.command_receive.specs.ReceivesSession.{CompletesReceive, session_end, session_totals}
 
 -- what may be blamed in its turn is one of the files that are used

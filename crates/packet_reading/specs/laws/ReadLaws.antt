@@ -1,5 +1,5 @@
 -- What was read of FROM, in other words. For the proofs of callers.
-use Rattle.std.proofs.Common.{◌≡◌, ℕ, ◌<◌, ◌≤◌, List, [], ◌∷◌, ◌++◌, length, Option, None, Some, Result, Ok, Err, sym, ap}
+use Rattle.std.proofs.Common.{◌≡◌, ℕ, ◌<◌, ◌≤◌, List, [], ◌++◌, length, Option, None, Some, Result, Ok, Err, sym, ap}
 use Rattle.std.proofs.Common.{refl, subst, arith, ◌∙◌, inl, inr}
 use Rattle.std.specs.Prelude.{IfSome, IfErr, IsErrAnd, OnOk}
 use Rattle.std.proofs.lemmas.List.{append-nil, length-append}

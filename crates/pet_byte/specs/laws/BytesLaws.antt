@@ -1,6 +1,6 @@
 -- The headline, from what each end tells.
 use Rattle.std.proofs.Common.{◌≡◌, ℕ, ◌<◌, Bool, true, false, cond, List, [], ◌∷◌, length, Option, Some, refl, sym}
-use Rattle.std.proofs.Common.{ap, subst, ◌∙◌, arith, inl, inr}
+use Rattle.std.proofs.Common.{ap, subst, ◌∙◌, arith, inl}
 use Rattle.std.specs.Prelude.{option_map}
 use Rattle.std.proofs.lemmas.Bool.{false_from_ne_true}
 use Rattle.pet_base.specs.declared.limits.TheConstants.{MAX_DATAGRAMS}
@@ -14,7 +14,7 @@ use Rattle.outside_routes.specs.Way.{Way, OnFile, OnLink}
 use Rattle.gf8.specs.Gf8.{gf8_coding}
 use Rattle.packet_frame.specs.declared.format.TheConstants.{BYTE_FORMAT}
 use Rattle.packet_session.specs.Session.{Session}
-use Rattle.packet_met.specs.Met.{met_by, all_shown, layers_text_in}
+use Rattle.packet_met.specs.Met.{met_by, all_shown}
 use Rattle.packet_met.specs.laws.FewestStripesLaws.{all_carry_fewest_in}
 use Rattle.packet_reading.specs.Layers.{layers_file}
 use Rattle.packet_reading.specs.Opened.{IsBoundTo, IsOpeningUse, PortFailed, PrintedPort}

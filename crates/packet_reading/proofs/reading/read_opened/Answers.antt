@@ -1,4 +1,4 @@
-use Rattle.std.proofs.Common.{ℕ, List, ◌≡◌, refl, ap, sym, subst, ◌∙◌}
+use Rattle.std.proofs.Common.{ℕ, List, refl, ap, sym, subst, ◌∙◌}
 use Rattle.pet_base.specs.Lent.{seen}
 use Rattle.pet_base.specs.OutsideSeen.{OutsideSeen, outside_seen}
 use Rattle.outside_routes.specs.Way.{way_of}
