@@ -2,5 +2,8 @@ pub mod Failures
 pub mod SentTo
 pub mod Repaired
 pub mod Repairs
+pub mod Arrival
+pub mod Relays
+pub mod RelaysSession
 pub mod inside
 pub mod laws

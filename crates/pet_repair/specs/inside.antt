@@ -1,2 +1,5 @@
 pub mod Groups
 pub mod Handed
+pub mod Arrivals
+pub mod RelaySoFar
+pub mod RelayEnds

@@ -5,10 +5,15 @@
 //! group, and the check of what is kept against it, are those of `packet_rebuild`.
 #![tactic(auto)]
 
+mod again;
+mod arriving;
+mod relay;
+mod relaying;
 mod repair;
 mod repairing;
 mod sending;
 mod whole;
 
 pub use packet_rebuild::{RepairFault, encoder_of, first_unlike};
+pub use relay::{RelayEnd, relay_loop};
 pub use repair::{RepairEnd, repair_loop};

@@ -1,0 +1,111 @@
+-- The packets of a group that are not kept are sent and kept one after the other, and range by range.
+use Rattle.std.proofs.Common.{◌≡◌, ℕ, ◌+◌, ◌-◌, ◌≤◌, true, false, List, [], ◌∷◌, ◌++◌, length-append, map, None}
+use Rattle.std.proofs.Common.{refl, sym, ap, subst, ◌∙◌, arith}
+use Rattle.std.specs.Prelude.{is_none}
+use Rattle.field_elements.specs.Gf16.{gf16_coding}
+use Rattle.packet_frame.specs.Frame.{IsFrame, text}
+use Rattle.packet_frame.specs.Refusals.{fields_of}
+use Rattle.packet_frame.specs.laws.Laws.{reads_frames}
+use Rattle.packet_met.specs.laws.KeptDatagram.{kept_frame}
+use Rattle.packet_session.specs.Encoding.{Encoding, frame_of}
+use Rattle.packet_verdicts.specs.KeptSet.{KeptSet, IsKeptSet, kept_in_all, payload_of}
+use Rattle.packet_verdicts.specs.Verdicts.{verdict_of, is_kept, after}
+use Rattle.packet_verdicts.specs.laws.KeptSetLaws.{keepable, all_keep, after_kept, verdict_read}
+use Rattle.packet_rebuild.specs.Rebuilding.{HasRebuilt, IsOpenFor}
+use Rattle.packet_rebuild.specs.Repairs.{made_again, keep_all}
+use Rattle.packet_rebuild.specs.laws.RebuiltLaws.{rebuilt_none, rebuilt_then, rebuilt_had, rebuilt_one, verdict_kept}
+use Rattle.outside_routes.specs.Way.{Way}
+use Rattle.outside_routes.specs.Sending.{Routes, AreFirstDatagrams, Sends, SendsPart}
+use Rattle.outside_routes.specs.laws.SendingLaws.{sends_nothing, sends_then, part_after, part_within}
+use Rattle.pet_repair.specs.inside.Arrivals.{SendsAgain}
+
+-- one packet more is kept
+pub kept_more : (set : KeptSet) (d : List ℕ) → IsKeptSet set → is_kept (verdict_of set d) ≡ true
+    → kept_in_all (after set d) ≡ kept_in_all set + 1
+kept_more set d sound kept =
+    let fine = kept_frame set d kept in
+    ap kept_in_all (after_kept set d kept)
+    ∙ all_keep set sound (fields_of d) (reads_frames d fine)
+    (keepable set (fields_of d) (ap is_kept (sym (verdict_read set d fine)) ∙ kept))
+
+module _ (way : Way) (e : Encoding) where
+  pub again_none : (set : KeptSet) (first : ℕ) (now : Routes) → SendsAgain way set e first 0 set now now
+  again_none set first now = record {
+    sent = [];
+    rebuilt = rebuilt_none gf16_coding e set first;
+    more = omega arith;
+    sends = sends_nothing way now now refl refl;
+  }
+
+  pub again_then : (set mid now : KeptSet) (first a next b k : ℕ) (r0 r1 r2 : Routes)
+      → r1.place.target ≡ r0.place.target → SendsAgain way set e first a mid r0 r1 → next ≡ first + a
+      → SendsAgain way mid e next b now r1 r2 → k ≡ a + b → SendsAgain way set e first k now r0 r2
+  again_then set mid now first a next b k r0 r1 r2 same one at two total = record {
+    sent = one.sent ++ two.sent;
+    rebuilt =
+        rebuilt_then gf16_coding e set mid now first a next b k one.sent two.sent one.rebuilt at two.rebuilt total;
+    more = omega (arith, one.more, two.more, length-append one.sent two.sent);
+    sends = sends_then way one.sent two.sent r0 r1 r2 same one.sends two.sends;
+  }
+
+  -- those of a range, and then those of another
+  made_behind : (set mid : KeptSet) (first a next b k : ℕ) (sent : List (List ℕ))
+      → HasRebuilt gf16_coding set e first a sent mid → next ≡ first + a → k ≡ a + b
+      → sent ++ map text (made_again gf16_coding mid e next b) ≡ map text (made_again gf16_coding set e first k)
+  made_behind set mid first a next b k sent has at total =
+      (rebuilt_then gf16_coding e set mid (keep_all mid (made_again gf16_coding mid e next b)) first a next b k sent
+      (map text (made_again gf16_coding mid e next b)) has at (record { sent_is = refl; kept = refl }) total).sent_is
+
+  -- the first of them
+  made_first : (set : KeptSet) (first n k : ℕ) → n ≤ k
+      → AreFirstDatagrams (map text (made_again gf16_coding set e first n))
+      (map text (made_again gf16_coding set e first k))
+  made_first set first n k le =
+      let mid = keep_all set (made_again gf16_coding set e first n) in
+      let total : k ≡ n + (k - n) = omega (arith, le) in (
+        map text (made_again gf16_coding mid e (first + n) (k - n)),
+        sym (made_behind set mid first n (first + n) (k - n) k (map text (made_again gf16_coding set e first n))
+            (record { sent_is = refl; kept = refl }) refl total),
+      )
+
+  pub again_part : (set mid : KeptSet) (first a next b k : ℕ) (r0 r1 r2 : Routes)
+      → r1.place.target ≡ r0.place.target → SendsAgain way set e first a mid r0 r1 → next ≡ first + a → a + b ≤ k
+      → SendsPart way (map text (made_again gf16_coding mid e next b)) r1 r2
+      → SendsPart way (map text (made_again gf16_coding set e first k)) r0 r2
+  again_part set mid first a next b k r0 r1 r2 same one at le part =
+      part_within way (map text (made_again gf16_coding set e first (a + b)))
+      (map text (made_again gf16_coding set e first k)) r0 r2 (made_first set first (a + b) k le)
+      (subst (λ (ds : List (List ℕ)). SendsPart way ds r0 r2)
+      (made_behind set mid first a next b (a + b) one.sent one.rebuilt at refl)
+      (part_after way one.sent (map text (made_again gf16_coding mid e next b)) r0 r1 r2 same one.sends part))
+
+  -- one packet, that is kept already
+  pub again_had : (set : KeptSet) (n : ℕ) (now : Routes) → is_none (payload_of set e.header.group n) ≡ false
+      → SendsAgain way set e n 1 set now now
+  again_had set n now there = record {
+    sent = [];
+    rebuilt = rebuilt_had gf16_coding e set n there;
+    more = omega arith;
+    sends = sends_nothing way now now refl refl;
+  }
+
+  -- and one that is not
+  module _ (set : KeptSet) (n : ℕ) (frame : List ℕ) (opened : IsOpenFor set e)
+      (is : IsFrame (frame_of gf16_coding e n)) (absent : payload_of set e.header.group n ≡ None)
+      (same : frame ≡ text (frame_of gf16_coding e n)) where
+    pub again_one : (now : KeptSet) (r0 r1 : Routes) → now ≡ after set frame → Sends way (frame ∷ []) r0 r1
+        → SendsAgain way set e n 1 now r0 r1
+    again_one now r0 r1 kept sends = record {
+      sent = frame ∷ [];
+      rebuilt = rebuilt_one gf16_coding e set now n frame opened is absent same kept;
+      more =
+          ap kept_in_all kept
+          ∙ kept_more set frame opened.sound (verdict_kept gf16_coding e set n frame opened is absent same);
+      sends = sends;
+    }
+
+    pub part_one : (r0 r1 : Routes) → SendsPart way (frame ∷ []) r0 r1
+        → SendsPart way (map text (made_again gf16_coding set e n 1)) r0 r1
+    part_one r0 r1 part =
+        subst (λ (ds : List (List ℕ)). SendsPart way ds r0 r1)
+        (rebuilt_one gf16_coding e set (after set frame) n frame opened is absent same refl).sent_is part

@@ -1,0 +1,405 @@
+-- What was relayed since FROM was begun and TO made ready, seen from before the command began.
+use Rattle.std.proofs.Common.{◌≡◌, ◌⊎◌, ◌↔◌, ℕ, ◌≤◌, List, [], ◌∷◌, ◌++◌, Option, true, false}
+use Rattle.std.proofs.Common.{refl, sym, ap, subst, ◌∙◌, arith, inl, inr}
+use Rattle.std.specs.Prelude.{IsTrue, IfSome, option_map}
+use Rattle.std.specs.Io.KnownBytes.{append_known}
+use Rattle.pet_base.specs.declared.place.Side.TheVariants.{Read, Written}
+use Rattle.pet_base.specs.Entries.{datagrams}
+use Rattle.pet_base.specs.LinkSeen.{LinkSeen}
+use Rattle.pet_base.specs.OutsideSeen.{OutsideSeen}
+use Rattle.pet_base.specs.Seen.{Seen, Blame, Names}
+use Rattle.pet_base.specs.laws.SeenLaws.{Blames-named, HadFault-since}
+use Rattle.outside_files.specs.Uses.{Failed, IsOneOf}
+use Rattle.outside_files.specs.laws.PrintedLaws.{Rose-since}
+use Rattle.outside_routes.specs.Bound.{bound_text}
+use Rattle.outside_routes.specs.Coming.{coming, HasInput, HaveCome, KeepsFeed}
+use Rattle.outside_routes.specs.RouteFaults.{AimedFailed, BoundFailed, IsFailure, ReceivingFailed, stop_of_route}
+use Rattle.outside_routes.specs.Sending.{Routes, AreFirstDatagrams, IsOpened, IsUnopened, OnlyOpens, CreatingFailed}
+use Rattle.outside_routes.specs.Sending.{IsOpen, SendingFailed}
+use Rattle.outside_routes.specs.Way.{Way, OnFile, OnLink}
+use Rattle.outside_routes.specs.declared.fault.RouteFailed.{RouteFailed}
+use Rattle.outside_routes.specs.declared.fault.RouteFailed.TheVariants as failed
+use Rattle.outside_routes.specs.declared.fault.RouteStop.{RouteStop}
+use Rattle.outside_routes.specs.declared.fault.RouteStop.TheVariants as stop
+use Rattle.packet_reading.specs.Begun.{Begun, Begins, EnteringFailed, StopsBeginning}
+use Rattle.packet_reading.specs.Opened.{KeepsLink, PrintedPort}
+use Rattle.packet_reading.specs.Layers.{HaveLeft, IsReadFirst}
+use Rattle.packet_reading.specs.laws.BegunLaws.{is_read, link_failed, there}
+use Rattle.pet_receive.specs.Arrivals.{ReceiverState, kept_set}
+use Rattle.pet_receive.specs.ShownBytes.{IsComplete}
+use Rattle.packet_met.specs.Kept.{nothing_of}
+use Rattle.packet_verdicts.specs.KeptSet.{kept_in_all}
+use Rattle.pet_repair.specs.Repaired.{on_end}
+use Rattle.pet_repair.specs.Relays.{Relays, RelaysFront, RelaysToUnlike, IsReadTo, HasNotBegun}
+use Rattle.pet_repair.specs.Relays.{relay_uses, routes_of, EndsRelay}
+use Rattle.pet_repair.specs.SentTo.{SentTo, SentFront}
+use Rattle.pet_repair.specs.declared.arriving.RelayStop.{RelayStop}
+use Rattle.pet_repair.specs.declared.arriving.RelayStop.TheVariants.{Route, Unlike}
+use Rattle.pet_repair.specs.declared.relay.RelayEnd.{RelayEnd}
+use Rattle.pet_repair.specs.declared.relay.RelayEnd.TheVariants as end
+use Rattle.pet_repair.specs.declared.relaying.Relaying.{Relaying}
+use Rattle.pet_repair.specs.Failures.{relay_end_of_place, relay_end_of_link}
+use Rattle.pet_repair.specs.inside.Arrivals.{StandsIn, relay_of_place, relay_of_link}
+use Rattle.pet_repair.specs.inside.Handed.{Handed, HandedPart}
+use Rattle.pet_repair.specs.inside.RelayEnds.{OnlyBegins, IsRelayingOf, IsEndOf, end_of_relay}
+use Rattle.pet_repair.specs.inside.RelaySoFar.{RelayedAll, CameFirst, CameTo, RelayedPart, RelayedTo, IsRelayUse}
+use Rattle.pet_repair.specs.inside.RelaySoFar.{KeepsAddresses, StopsRelaying}
+use Rattle.pet_repair.proofs.HandedOn.{sent_to, sent_front, sent_since, front_since, aimed_failed}
+use Rattle.pet_repair.proofs.RelayedMore.{receiving_since}
+
+-- the link has sent nothing while FROM was begun, and is aimed where it was
+sent_kept : (from : Way) (old new : LinkSeen) → KeepsLink from old new → new.sent ≡ old.sent
+sent_kept (OnFile name) old new keeps = ap (λ (l : LinkSeen). l.sent) keeps
+sent_kept (OnLink address) old new keeps = keeps.0
+
+aimed_kept : (from : Way) (old new : LinkSeen) → KeepsLink from old new → new.aimed ≡ old.aimed
+aimed_kept (OnFile name) old new keeps = ap (λ (l : LinkSeen). l.aimed) keeps
+aimed_kept (OnLink address) old new keeps = keeps.1
+
+-- the port was printed at which the link still receives
+printed_later : (from : Way) (before mid new : OutsideSeen) → new.written ≡ mid.written → new.link.port ≡ mid.link.port
+    → PrintedPort from before mid → PrintedPort from before new
+printed_later (OnFile name) before mid new written port printed = written ∙ printed
+printed_later (OnLink address) before mid new written port printed =
+    written ∙ printed ∙ ap (λ (p : ℕ). append_known before.written (bound_text p)) (sym port)
+
+feed_later : (from : Way) (old mid new : LinkSeen) → new.feed ≡ mid.feed → KeepsFeed from old mid → KeepsFeed from old new
+feed_later (OnFile name) old mid new feed keeps = tt
+feed_later (OnLink address) old mid new feed keeps = feed ∙ keeps
+
+coming_opened : (from : Way) (mid opened : Routes) → OnlyOpens mid opened
+    → coming from opened.place opened.link ≡ coming from mid.place mid.link
+coming_opened (OnFile name) mid opened opens = ap (option_map datagrams) opens.input.rest
+coming_opened (OnLink address) mid opened opens = opens.link.feed
+
+aimed_before : (to : Way) (before mid new : LinkSeen) → before.faults ≤ mid.faults → AimedFailed to mid new
+    → AimedFailed to before new
+aimed_before (OnFile name) before mid new later failed = failed
+aimed_before (OnLink address) before mid new later failed =
+    record { rose = Rose-since before.faults mid.faults new.faults later failed.rose; blame = failed.blame }
+
+-- which file is blamed
+used : (from to : Way) (before mid : OutsideSeen) (opened : Routes) → Begun from before mid
+    → mid.place.files ≡ before.place.files → OnlyOpens (routes_of mid) opened → IsOpened to (routes_of mid) opened
+    → (b : Blame) → IsRelayUse from to opened.place b → IsOneOf (relay_uses from to) b
+used (OnFile name) (OnFile other) before mid opened begun files opens is b (inl read) =
+    inl (Blames-named before.place.files opened.place.source name Read b
+    (subst (λ (o : Option (List ℕ)). Names before.place.files o name) (sym opens.input.source) begun.source) read)
+used (OnFile name) (OnFile other) before mid opened begun files opens is b (inr written) =
+    inr (Blames-named mid.place.files opened.place.target other Written b is.target written)
+used (OnFile name) (OnLink address) before mid opened begun files opens is b read =
+    Blames-named before.place.files opened.place.source name Read b
+    (subst (λ (o : Option (List ℕ)). Names before.place.files o name) (sym opens.input.source) begun.source) read
+used (OnLink address) (OnFile other) before mid opened begun files opens is b written =
+    Blames-named mid.place.files opened.place.target other Written b is.target written
+used (OnLink address) (OnLink other) before mid opened begun files opens is b none = absurd none
+
+-- TO could not be made ready
+creating_used : (from to : Way) (before old new : Seen) → before.faults ≤ old.faults → CreatingFailed to old new
+    → Failed (relay_uses from to) before new
+creating_used (OnFile name) (OnFile other) before old new later failed =
+    HadFault-since before old new _ _ later (λ b is. inr is) failed
+creating_used (OnLink address) (OnFile other) before old new later failed =
+    HadFault-since before old new _ _ later (λ b is. is) failed
+creating_used from (OnLink address) before old new later failed = absurd failed
+
+-- FROM could not be begun
+entering_used : (from to : Way) (old new : Seen) → EnteringFailed from old new → Failed (relay_uses from to) old new
+entering_used (OnFile name) (OnFile other) old new failed = HadFault-since old old new _ _ (omega arith) (λ b is. inl is) failed
+entering_used (OnFile name) (OnLink address) old new failed = failed
+entering_used (OnLink address) to old new failed = absurd failed
+
+module _ (from : Way) (session : List ℕ) (to : Way) (before mid : OutsideSeen) (only : OnlyBegins from before mid) where
+  -- nothing has begun
+  not_begun : HasNotBegun from before mid
+  not_begun = record { untouched = only.untouched; sent = sent_kept from before.link mid.link only.others.link }
+
+  pub stops_beginning : (s : RouteStop) → StopsBeginning from before mid s
+      → EndsRelay from session to before mid (end_of_relay (Route s))
+  stops_beginning stop.NoMemory stops = inl (not_begun, stops.1)
+  stops_beginning stop.Place stops = (
+    entering_used from to before.place mid.place stops.2,
+    inl not_begun,
+    printed_none from stops.1 stops.2,
+  )
+    where
+      printed_none : (w : Way) → mid.written ≡ before.written → EnteringFailed w before.place mid.place
+          → PrintedPort w before mid
+      printed_none (OnFile name) written failed = written
+      printed_none (OnLink address) written failed = absurd failed
+  stops_beginning stop.Link stops = (inl stops.2, inl (not_begun, inl stops.1))
+  stops_beginning stop.Out stops = (not_begun, stops.1)
+
+  module _ (begins : Begins from before mid) (opened : Routes) (new : OutsideSeen)
+      (opens : OnlyOpens (routes_of mid) opened) (written : new.written ≡ mid.written) where
+    -- TO was not made ready
+    module _ (place : new.place ≡ opened.place) (link : new.link ≡ opened.link)
+        (unopened : IsUnopened to (routes_of mid) opened) where
+      same : routes_of new ≡ opened
+      same = λ i. record { place = place i; link = link i }
+
+      files_same : (w : Way) → IsUnopened w (routes_of mid) opened → opened.place.files ≡ mid.place.files
+      files_same (OnFile name) is = is.0
+      files_same (OnLink address) is = ap (λ (p : Seen). p.files) is.0
+
+      unbegun : HasNotBegun from before new
+      unbegun = record {
+        untouched = record {
+          files = ap (λ (p : Seen). p.files) place ∙ files_same to unopened ∙ only.untouched.files;
+          feed =
+              feed_later from before.link mid.link new.link
+              (ap (λ (l : LinkSeen). l.feed) link ∙ opens.link.feed) only.untouched.feed;
+        };
+        sent =
+            ap (λ (l : LinkSeen). l.sent) link ∙ opens.link.sent
+            ∙ sent_kept from before.link mid.link only.others.link;
+      }
+
+      still_printed : PrintedPort from before new
+      still_printed =
+          printed_later from before mid new written (ap (λ (l : LinkSeen). l.port) link ∙ opens.link.port)
+          begins.printed
+
+      pub stops_opening : (f : RouteFailed)
+          → IsFailure (CreatingFailed to mid.place opened.place) (AimedFailed to mid.link opened.link) f
+          → EndsRelay from session to before new (end_of_relay (Route (stop_of_route f)))
+      stops_opening failed.Place cause = (
+        creating_used from to before.place mid.place new.place only.others.place_later
+            (subst (λ (p : Seen). CreatingFailed to mid.place p) (sym place) cause),
+        inl unbegun,
+        still_printed,
+      )
+      stops_opening failed.Link cause = (
+        inr (aimed_before to before.link mid.link new.link only.others.link_later
+            (subst (λ (l : LinkSeen). AimedFailed to mid.link l) (sym link) cause)),
+        inl (unbegun, inr still_printed),
+      )
+
+    module _ (is_opened : IsOpened to (routes_of mid) opened) (keeps : KeepsAddresses opened.link new.link)
+        (start : ReceiverState ℕ) (empty : kept_set start ≡ nothing_of session) (stands : StandsIn start) where
+      printed : PrintedPort from before new
+      printed = printed_later from before mid new written (keeps.port ∙ opens.link.port) begins.printed
+
+      sent_all : (ds : List (List ℕ)) → Handed to ds opened (routes_of new)
+          → SentTo to ds (routes_of before) (routes_of new)
+      sent_all ds handed =
+          sent_since to ds (routes_of before) (routes_of mid) (routes_of new) only.untouched.files
+          (sent_kept from before.link mid.link only.others.link) (aimed_kept from before.link mid.link only.others.link)
+          (sent_to to ds (routes_of mid) opened (routes_of new) is_opened keeps.aimed handed)
+
+      sent_part : (ds : List (List ℕ)) → HandedPart to ds opened (routes_of new)
+          → SentFront to ds (routes_of before) (routes_of new)
+      sent_part ds handed =
+          front_since to ds (routes_of before) (routes_of mid) (routes_of new) only.untouched.files
+          (sent_kept from before.link mid.link only.others.link) (aimed_kept from before.link mid.link only.others.link)
+          (sent_front to ds (routes_of mid) opened (routes_of new) is_opened keeps.aimed handed)
+
+      -- all datagrams of FROM
+      pub relays : (n : ℕ) (r : ReceiverState ℕ) → RelayedAll from to start n opened (routes_of new) r
+          → Relays from session to before new
+      relays n r all =
+          let so_far = all.so_far in
+          record {
+            read = so_far.read;
+            few = omega (arith, so_far.many, all.few);
+            input =
+                is_read from n so_far.read before mid new new begins.begun refl so_far.many
+                (subst (λ (o : Option (List (List ℕ))). HaveCome so_far.read o (coming from new.place new.link))
+                (coming_opened from (routes_of mid) opened opens) so_far.rest) all.ended;
+            relayed = record {
+              start = start;
+              stands = stands;
+              empty = empty;
+              sent = so_far.sent;
+              now = r;
+              arrived = so_far.arrived;
+            };
+            sent = sent_all (on_end so_far.sent) so_far.handed;
+          }
+
+      pub relays_with : (n : ℕ) (r : ReceiverState ℕ) (x : Relaying)
+          → RelayedAll from to start n opened (routes_of new) r → x.read ≡ n
+          → x.sent ≡ kept_in_all (kept_set r) → (IsTrue x.complete ↔ IsComplete (kept_set r))
+          → (k : Relays from session to before new) × IsRelayingOf k x × PrintedPort from before new
+      unfolding relays
+      relays_with n r x all read sent complete = (
+        relays n r all,
+        record {
+          counts = (
+            read ∙ sym all.so_far.many,
+            omega (arith, sent, all.so_far.more, ap kept_in_all empty),
+          );
+          complete = complete;
+        },
+        printed,
+      )
+
+      input_first : (w : Way) (read : List (List ℕ)) → Begun w before mid → KeepsFeed w before.link mid.link
+          → CameFirst w read opened (routes_of new) → IsReadFirst w read before new
+      input_first (OnFile name) read begun feed came =
+          there before.place.files name (λ bytes. AreFirstDatagrams read (datagrams bytes)) begun.found
+          (subst (λ (o : Option (List ℕ)). IfSome o (λ bytes. AreFirstDatagrams read (datagrams bytes)))
+          (opens.input.rest ∙ begun.rest) came)
+      input_first (OnLink address) read begun feed came =
+          subst (λ (o : Option (List (List ℕ))). HaveLeft read o new.link.feed) (opens.link.feed ∙ feed) came
+
+      input_to : (w : Way) (read : List (List ℕ)) → Begun w before mid → KeepsFeed w before.link mid.link
+          → CameTo w read opened (routes_of new) → IsReadTo w read before new
+      input_to (OnFile name) read begun feed came =
+          there before.place.files name (λ bytes. AreFirstDatagrams read (datagrams bytes)) begun.found
+          (subst (λ (o : Option (List ℕ)). IfSome o (λ bytes. AreFirstDatagrams read (datagrams bytes)))
+          (opens.input.rest ∙ begun.rest) came)
+      input_to (OnLink address) read begun feed came =
+          subst (λ (o : Option (List (List ℕ))). HaveCome read o new.link.feed) (opens.link.feed ∙ feed) came
+
+      front : RelayedPart from to start opened (routes_of new) → RelaysFront from session to before new
+      front part = record {
+        read = part.read;
+        next = part.next;
+        one = part.one;
+        few = part.few;
+        input = input_first from (part.read ++ part.next) begins.begun only.untouched.feed part.came;
+        relayed = record {
+          start = start;
+          stands = stands;
+          empty = empty;
+          sent = part.sent;
+          now = part.state;
+          arrived = part.arrived;
+        };
+        more = part.more;
+        may = part.may;
+        sent = sent_part (on_end part.sent ++ part.more) part.handed;
+      }
+
+      to_unlike : (group number : ℕ) → RelayedTo from to start opened (routes_of new) group number
+          → RelaysToUnlike from session to group number before new
+      to_unlike group number is = record {
+        read = is.read;
+        last = is.last;
+        few = is.few;
+        input = input_to from (is.read ++ is.last ∷ []) begins.begun only.untouched.feed is.came;
+        relayed = record {
+          start = start;
+          stands = stands;
+          empty = empty;
+          sent = is.sent;
+          now = is.state;
+          arrived = is.arrived;
+        };
+        stopped = is.stopped;
+        sent = sent_all (on_end is.sent ++ is.last ∷ []) is.handed;
+      }
+
+      pub stops_relaying : (s : RelayStop) → StopsRelaying from to start opened (routes_of new) s
+          → EndsRelay from session to before new (end_of_relay s)
+      stops_relaying (Unlike group number) is = (to_unlike group number is, printed)
+      stops_relaying (Route stop.NoMemory) is = inr (front is.1, printed)
+      stops_relaying (Route stop.Place) is = (
+        HadFault-since before.place opened.place new.place _ _ (omega (arith, only.others.place_later, opens.place_later))
+            (used from to before mid opened begins.begun only.untouched.files opens is_opened) is.0,
+        inr (front is.1),
+        printed,
+      )
+      stops_relaying (Route stop.Link) is = (why is.0, inr (front is.1, printed))
+        where
+          why : ReceivingFailed from opened.link new.link ⊎ SendingFailed to opened.link new.link
+              → BoundFailed from before.link new.link ⊎ AimedFailed to before.link new.link
+          why (inl failed) =
+              inl (link_failed from before mid new begins.begun only.others.link_later
+              (receiving_since from mid.link opened.link new.link opens.link.bound opens.link_later failed))
+          why (inr failed) =
+              inr (aimed_before to before.link mid.link new.link only.others.link_later
+              (aimed_failed to (routes_of mid) opened (routes_of new) is_opened opens.link_later failed))
+      stops_relaying (Route stop.Out) is = absurd is.0
+
+-- the end by the numbers
+pub ends_relay : (from : Way) (session : List ℕ) (to : Way) (before after : OutsideSeen) (x : Relaying) (e : RelayEnd)
+    → IsEndOf x e → (k : Relays from session to before after) × IsRelayingOf k x × PrintedPort from before after
+    → EndsRelay from session to before after e
+ends_relay from session to before after x (end.Done read sent) is done = (
+  done.0,
+  omega (arith, done.0.few, done.1.counts.0, is.2),
+  done.1.complete.0 is.3,
+  (is.0 ∙ done.1.counts.0, is.1 ∙ done.1.counts.1),
+  done.2,
+)
+ends_relay from session to before after x (end.Incomplete read sent) is done = (
+  done.0,
+  omega (arith, done.0.few, done.1.counts.0, is.2),
+  λ all. let no : false ≡ true = sym is.3 ∙ done.1.complete.1 all in absurd cc,
+  (is.0 ∙ done.1.counts.0, is.1 ∙ done.1.counts.1),
+  done.2,
+)
+ends_relay from session to before after x (end.TurnsSpent read sent) is done = (
+  done.0,
+  sym done.1.counts.0 ∙ is.2,
+  (is.0 ∙ done.1.counts.0, is.1 ∙ done.1.counts.1),
+  done.2,
+)
+ends_relay from session to before after x end.NoMemory is done = absurd is
+ends_relay from session to before after x end.PlaceFault is done = absurd is
+ends_relay from session to before after x end.LinkFault is done = absurd is
+ends_relay from session to before after x end.OutFault is done = absurd is
+ends_relay from session to before after x (end.Unlike group number) is done = absurd is
+
+-- what is read and written once TO is ready
+pub input_opened : (from : Way) (mid opened : Routes) → OnlyOpens mid opened → HasInput from mid.place
+    → HasInput from opened.place
+input_opened (OnFile name) mid opened opens is = opens.input.has_input ∙ is
+input_opened (OnLink address) mid opened opens is = tt
+
+pub open_opened : (to : Way) (mid opened : Routes) → IsOpened to mid opened → IsOpen to opened
+open_opened (OnFile name) mid opened is = is.output
+open_opened (OnLink address) mid opened is = tt
+
+-- for want of memory nothing was done
+pub nothing_relayed : (from : Way) (session : List ℕ) (to : Way) (now : OutsideSeen)
+    → EndsRelay from session to now now end.NoMemory
+nothing_relayed (OnFile name) session to now =
+    inl (record { untouched = record { files = refl; feed = tt }; sent = refl }, refl)
+nothing_relayed (OnLink address) session to now =
+    inl (record { untouched = record { files = refl; feed = refl }; sent = refl }, refl)
+
+-- an end with numbers tells of no failure
+pub no_place : (x : Relaying) (e : RelayEnd) → IsEndOf x e → relay_end_of_place e ≡ false
+no_place x (end.Done read sent) is = refl
+no_place x (end.Incomplete read sent) is = refl
+no_place x (end.TurnsSpent read sent) is = refl
+no_place x end.NoMemory is = absurd is
+no_place x end.PlaceFault is = absurd is
+no_place x end.LinkFault is = absurd is
+no_place x end.OutFault is = absurd is
+no_place x (end.Unlike group number) is = absurd is
+
+pub no_link : (x : Relaying) (e : RelayEnd) → IsEndOf x e → relay_end_of_link e ≡ false
+no_link x (end.Done read sent) is = refl
+no_link x (end.Incomplete read sent) is = refl
+no_link x (end.TurnsSpent read sent) is = refl
+no_link x end.NoMemory is = absurd is
+no_link x end.PlaceFault is = absurd is
+no_link x end.LinkFault is = absurd is
+no_link x end.OutFault is = absurd is
+no_link x (end.Unlike group number) is = absurd is
+
+-- and that of a stop of what the stop does
+pub stop_place : (s : RelayStop) → relay_end_of_place (end_of_relay s) ≡ relay_of_place s
+stop_place (Route stop.NoMemory) = refl
+stop_place (Route stop.Place) = refl
+stop_place (Route stop.Link) = refl
+stop_place (Route stop.Out) = refl
+stop_place (Unlike group number) = refl
+
+pub stop_link : (s : RelayStop) → relay_end_of_link (end_of_relay s) ≡ relay_of_link s
+stop_link (Route stop.NoMemory) = refl
+stop_link (Route stop.Place) = refl
+stop_link (Route stop.Link) = refl
+stop_link (Route stop.Out) = refl
+stop_link (Unlike group number) = refl
+
+-- by the texts of the ends
+pub relays_at : (from a to b : Way) (session : List ℕ) (before after : OutsideSeen) (e : RelayEnd) → from ≡ a → to ≡ b
+    → EndsRelay from session to before after e → EndsRelay a session b before after e
+relays_at from a to b session before after e p q ends =
+    subst (λ (w : Way). EndsRelay w session b before after e) p
+    (subst (λ (w : Way). EndsRelay from session w before after e) q ends)

@@ -1,0 +1,81 @@
+use Rattle.std.proofs.Common.{◌≡◌, ◌+◌, ◌≤◌, map, refl, ap, arith, ◌∙◌}
+use Rattle.pet_base.specs.laws.Through.{on_any_err}
+use Rattle.field_elements.specs.Gf16.{gf16_coding}
+use Rattle.packet_frame.specs.Frame.{text}
+use Rattle.packet_frame.specs.declared.frame.Header.{Header}
+use Rattle.outside_routes.specs.Sending.{routes}
+use Rattle.outside_routes.specs.Way.{way_of}
+use Rattle.outside_routes.specs.laws.SendingLaws.{part_nothing, grows_same, grows_then, grows_open}
+use Rattle.packet_rebuild.specs.Repairs.{made_again}
+use Rattle.pet_receive.specs.Arrivals.{kept_set}
+use Rattle.pet_repair.proofs.AgainSent.{again_none, again_then, again_part}
+use Rattle.pet_repair.proofs.again.put_others.Goals as goal
+
+pub loop-first-init : goal.loop-first-init
+loop-first-init g c =
+    let r = routes g.P.Place g.K.Link c.args.place.now c.args.link.now in
+    record {
+      within = omega arith;
+      again = again_none (way_of c.args.to) c.args.encoder.now (kept_set c.args.receiver.now) 0 r;
+      opened = c.requires.opened;
+      stands = c.requires.stands;
+      others = grows_same r;
+      calm_place = refl;
+      calm_link = refl;
+    }
+
+pub returns-in_err-make_range-clause-part : goal.returns-in_err-make_range-clause-part
+returns-in_err-make_range-clause-part g c =
+    let e = c.args.encoder.now in
+    let packets : c.packets-packets.result ≡ e.header.table.packets =
+    c.packets-packets.ensures.value ∙ ap (λ (h : Header). h.table.packets) c.header.ensures.value in
+    let mid = kept_set c.loop-first.receiver in
+    let before = routes g.P.Place g.K.Link c.loop-first.place c.loop-first.link in
+    on_any_err c.from_residual.result
+    (again_part (way_of c.args.to) e (kept_set c.args.receiver.now) mid 0 c.loop-first.first c.loop-first.first 0
+    e.header.table.packets (routes g.P.Place g.K.Link c.args.place.now c.args.link.now) before before
+    c.loop-first.invariant.others.place.target c.loop-first.invariant.again (omega arith)
+    (omega (arith, c.loop-first.invariant.within, packets))
+    (part_nothing (way_of c.args.to) (map text (made_again gf16_coding mid e c.loop-first.first 0)) before before refl
+    refl))
+
+pub put_others_of-requires-clause-open : goal.put_others_of-requires-clause-open
+put_others_of-requires-clause-open g c =
+    grows_open (way_of c.args.to) (routes g.P.Place g.K.Link c.args.place.now c.args.link.now)
+    (routes g.P.Place g.K.Link c.loop-first.place c.loop-first.link) c.loop-first.invariant.others c.requires.open
+
+pub returns-in_err-put_others_of-clause-part : goal.returns-in_err-put_others_of-clause-part
+returns-in_err-put_others_of-clause-part g c =
+    let e = c.args.encoder.now in
+    let packets : c.packets-packets.result ≡ e.header.table.packets =
+    c.packets-packets.ensures.value ∙ ap (λ (h : Header). h.table.packets) c.header.ensures.value in
+    let within : c.loop-first.first + c.min-count.result ≤ e.header.table.packets =
+    omega (arith, c.min-count.ensures, c.from.ensures, c.loop-first.invariant.within, packets) in
+    on_any_err c.from_residual-in_err-put_others_of.result
+    (again_part (way_of c.args.to) e (kept_set c.args.receiver.now) (kept_set c.loop-first.receiver) 0
+    c.loop-first.first c.loop-first.first c.min-count.result e.header.table.packets
+    (routes g.P.Place g.K.Link c.args.place.now c.args.link.now)
+    (routes g.P.Place g.K.Link c.loop-first.place c.loop-first.link)
+    (routes g.P.Place g.K.Link c.put_others_of.new.place c.put_others_of.new.link)
+    c.loop-first.invariant.others.place.target c.loop-first.invariant.again (omega arith) within
+    c.in_err-put_others_of.ensures.part)
+
+pub loop-first-preserved : goal.loop-first-preserved
+loop-first-preserved g c =
+    let e = c.args.encoder.now in
+    let first = routes g.P.Place g.K.Link c.args.place.now c.args.link.now in
+    let before = routes g.P.Place g.K.Link c.loop-first.place c.loop-first.link in
+    let after = routes g.P.Place g.K.Link c.put_others_of.new.place c.put_others_of.new.link in
+    record {
+      within = omega (arith, c.min-count.ensures, c.from.ensures, c.loop-first.invariant.within);
+      again =
+          again_then (way_of c.args.to) e (kept_set c.args.receiver.now) (kept_set c.loop-first.receiver)
+          (kept_set c.put_others_of.new.receiver) 0 c.loop-first.first c.loop-first.first c.min-count.result
+          (c.loop-first.first + c.min-count.result) first before after c.loop-first.invariant.others.place.target
+          c.loop-first.invariant.again (omega arith) c.in_ok-put_others_of.ensures.again refl;
+      opened = c.in_ok-put_others_of.ensures.opened;
+      stands = c.in_ok-put_others_of.ensures.stands;
+      others = grows_then first before after c.loop-first.invariant.others c.put_others_of.ensures.others;
+      calm_place = c.in_ok-put_others_of.ensures.once_place ∙ c.loop-first.invariant.calm_place;
+      calm_link = c.in_ok-put_others_of.ensures.once_link ∙ c.loop-first.invariant.calm_link;
+    }

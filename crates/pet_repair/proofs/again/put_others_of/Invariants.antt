@@ -1,0 +1,20 @@
+use Rattle.std.proofs.Common.{◌≡◌, ◌*◌}
+use Rattle.outside_routes.specs.Sending.{routes, OnlyGrows}
+use Rattle.outside_routes.specs.Way.{way_of}
+use Rattle.pet_receive.specs.Arrivals.{kept_set}
+use Rattle.packet_rebuild.specs.Rebuilding.{IsOpenFor}
+use Rattle.pet_repair.specs.inside.Arrivals.{SendsAgain, StandsIn}
+use Rattle.pet_repair.proofs.again.put_others_of.Given as goal
+
+abbrev pub invariant-loop-p : goal.invariant-loop-p
+invariant-loop-p g l = record {
+  spot : l.at ≡ l.p * l.length;
+  again : SendsAgain (way_of l.to) (kept_set l.initial.receiver) l.encoder l.first l.p (kept_set l.receiver)
+      (routes g.P.Place g.K.Link l.initial.place l.initial.link) (routes g.P.Place g.K.Link l.place l.link);
+  opened : IsOpenFor (kept_set l.receiver) l.encoder;
+  stands : StandsIn l.receiver;
+  others : OnlyGrows (routes g.P.Place g.K.Link l.initial.place l.initial.link)
+      (routes g.P.Place g.K.Link l.place l.link);
+  calm_place : (g.P.Place.seen l.place).faults ≡ (g.P.Place.seen l.initial.place).faults;
+  calm_link : (g.K.Link.seen l.link).faults ≡ (g.K.Link.seen l.initial.link).faults;
+}

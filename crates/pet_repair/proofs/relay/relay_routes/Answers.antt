@@ -1,0 +1,43 @@
+use Rattle.std.proofs.Common.{sym, subst}
+use Rattle.pet_base.specs.Lent.{seen}
+use Rattle.pet_base.specs.LinkSeen.{LinkStops}
+use Rattle.pet_base.specs.Seen.{PlaceStops}
+use Rattle.outside_routes.specs.Way.{way_of}
+use Rattle.pet_repair.specs.Failures.{relay_end_of_place, relay_end_of_link}
+use Rattle.pet_repair.specs.Relays.{EndsRelay}
+use Rattle.pet_repair.proofs.RelayBegun.{ends_relay, no_place, no_link, stop_place, stop_link}
+use Rattle.pet_repair.proofs.relay.relay_routes.Goals as goal
+
+pub returns-in-Ok-clause-relays : goal.returns-in-Ok-clause-relays
+returns-in-Ok-clause-relays g c =
+    ends_relay (way_of c.args.from) c.args.session (way_of c.args.to) (seen c.args.outside.now) (seen c.relay.new.outside)
+    c.in-Ok.relaying c.end_after.result c.end_after.ensures c.in-Ok.ensures.done
+
+pub returns-in-Ok-clause-once_place : goal.returns-in-Ok-clause-once_place
+returns-in-Ok-clause-once_place g c =
+    subst (λ b. PlaceStops b (seen c.args.outside.now).place (seen c.relay.new.outside).place)
+    (sym (no_place c.in-Ok.relaying c.end_after.result c.end_after.ensures)) c.in-Ok.ensures.once_place
+
+pub returns-in-Ok-clause-once_link : goal.returns-in-Ok-clause-once_link
+returns-in-Ok-clause-once_link g c =
+    subst (λ b. LinkStops b (seen c.args.outside.now).link (seen c.relay.new.outside).link)
+    (sym (no_link c.in-Ok.relaying c.end_after.result c.end_after.ensures)) c.in-Ok.ensures.once_link
+
+pub returns-in-Err-clause-relays : goal.returns-in-Err-clause-relays
+returns-in-Err-clause-relays g c =
+    subst (EndsRelay (way_of c.args.from) c.args.session (way_of c.args.to) (seen c.args.outside.now)
+    (seen c.relay.new.outside)) (sym c.stopped.ensures) c.in-Err.ensures.stopped
+
+pub returns-in-Err-clause-once_place : goal.returns-in-Err-clause-once_place
+returns-in-Err-clause-once_place g c =
+    subst (λ e. PlaceStops (relay_end_of_place e) (seen c.args.outside.now).place (seen c.relay.new.outside).place)
+    (sym c.stopped.ensures)
+    (subst (λ b. PlaceStops b (seen c.args.outside.now).place (seen c.relay.new.outside).place)
+    (sym (stop_place c.in-Err.stop)) c.in-Err.ensures.once_place)
+
+pub returns-in-Err-clause-once_link : goal.returns-in-Err-clause-once_link
+returns-in-Err-clause-once_link g c =
+    subst (λ e. LinkStops (relay_end_of_link e) (seen c.args.outside.now).link (seen c.relay.new.outside).link)
+    (sym c.stopped.ensures)
+    (subst (λ b. LinkStops b (seen c.args.outside.now).link (seen c.relay.new.outside).link)
+    (sym (stop_link c.in-Err.stop)) c.in-Err.ensures.once_link)

@@ -1,0 +1,53 @@
+use Rattle.std.proofs.lemmas.Result.{IfOk-weaker, IfErr-weaker}
+use Rattle.pet_base.specs.Lent.{seen}
+use Rattle.outside_routes.specs.Way.{way_of}
+use Rattle.outside_routes.specs.declared.fault.RouteStop.TheVariants as stop
+use Rattle.packet_reading.specs.laws.BegunLaws.{begun_input}
+use Rattle.pet_repair.specs.Relays.{EndsRelay}
+use Rattle.pet_repair.specs.declared.arriving.RelayStop.TheVariants.{Route}
+use Rattle.pet_repair.specs.inside.RelayEnds.{OnlyBegins, end_of_relay}
+use Rattle.pet_repair.proofs.ArrivalMade.{err_is}
+use Rattle.pet_repair.proofs.RelayBegun.{nothing_relayed, stops_beginning}
+use Rattle.pet_repair.proofs.relaying.relay.Goals as goal
+
+pub returns-in_err-buffer-clause-stopped : goal.returns-in_err-buffer-clause-stopped
+returns-in_err-buffer-clause-stopped g c =
+    err_is (λ s. EndsRelay (way_of c.args.from) c.args.session (way_of c.args.to) (seen c.args.outside.now)
+    (seen c.args.outside.now) (end_of_relay s)) c.from_residual.result (Route stop.NoMemory) c.from_residual.ensures.1
+    (nothing_relayed (way_of c.args.from) c.args.session (way_of c.args.to) (seen c.args.outside.now))
+
+pub returns-in_err-field-clause-stopped : goal.returns-in_err-field-clause-stopped
+returns-in_err-field-clause-stopped g c =
+    err_is (λ s. EndsRelay (way_of c.args.from) c.args.session (way_of c.args.to) (seen c.args.outside.now)
+    (seen c.args.outside.now) (end_of_relay s)) c.from_residual-in_err-field.result (Route stop.NoMemory)
+    c.from_residual-in_err-field.ensures.1
+    (nothing_relayed (way_of c.args.from) c.args.session (way_of c.args.to) (seen c.args.outside.now))
+
+pub returns-in_err-begin-clause-stopped : goal.returns-in_err-begin-clause-stopped
+returns-in_err-begin-clause-stopped g c =
+    let s = c.in_err-begin.field-0.0 in
+    err_is (λ s. EndsRelay (way_of c.args.from) c.args.session (way_of c.args.to) (seen c.args.outside.now)
+    (seen c.begin.new.outside) (end_of_relay s)) c.from_residual-in_err-begin.result (Route s)
+    c.from_residual-in_err-begin.ensures.1
+    (stops_beginning (way_of c.args.from) c.args.session (way_of c.args.to) (seen c.args.outside.now)
+    (seen c.begin.new.outside) (record { untouched = c.begin.ensures.untouched; others = c.begin.ensures.others }) s
+    c.in_err-begin.ensures.stop)
+
+pub relay_begun-requires-clause-input : goal.relay_begun-requires-clause-input
+relay_begun-requires-clause-input g c =
+    begun_input (way_of c.args.from) (seen c.args.outside.now) (seen c.begin.new.outside)
+    c.in_ok-begin.ensures.begins.begun
+
+pub returns-clause-done : goal.returns-clause-done
+returns-clause-done g c =
+    let only : OnlyBegins (way_of c.args.from) (seen c.args.outside.now) (seen c.begin.new.outside) =
+    record { untouched = c.begin.ensures.untouched; others = c.begin.ensures.others } in
+    IfOk-weaker c.relay_begun.result _ _
+    (λ x done. done (seen c.args.outside.now) c.in_ok-begin.ensures.begins only) c.relay_begun.ensures.done
+
+pub returns-clause-stopped : goal.returns-clause-stopped
+returns-clause-stopped g c =
+    let only : OnlyBegins (way_of c.args.from) (seen c.args.outside.now) (seen c.begin.new.outside) =
+    record { untouched = c.begin.ensures.untouched; others = c.begin.ensures.others } in
+    IfErr-weaker c.relay_begun.result _ _
+    (λ s stops. stops (seen c.args.outside.now) c.in_ok-begin.ensures.begins only) c.relay_begun.ensures.stopped

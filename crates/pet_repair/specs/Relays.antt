@@ -1,0 +1,126 @@
+-- What `relay` leaves at each of its ends. This project's own.
+use Rattle.std.specs.Prelude.{◌≡◌, ◌⊎◌, ℕ, ◌+◌, ◌<◌, ◌≤◌, List, [], ◌∷◌, ◌++◌, length}
+use Rattle.pet_base.specs.declared.limits.TheConstants.{MAX_DATAGRAMS}
+use Rattle.pet_base.specs.Entries.{datagrams}
+use Rattle.pet_base.specs.OutsideSeen.{OutsideSeen}
+use Rattle.pet_base.specs.Seen.{Blame}
+use Rattle.outside_files.specs.Printed.{Unprinted}
+use Rattle.outside_files.specs.Uses.{reading, writing, Failed}
+use Rattle.outside_routes.specs.Coming.{HaveCome}
+use Rattle.outside_routes.specs.RouteFaults.{AimedFailed, BoundFailed}
+use Rattle.outside_routes.specs.Sending.{Routes, AreFirstDatagrams}
+use Rattle.outside_routes.specs.Way.{Way, OnFile, OnLink}
+use Rattle.store_text.specs.Files.{HasFile}
+use Rattle.packet_reading.specs.Opened.{IsUntouched, PortFailed, PrintedPort}
+use Rattle.packet_reading.specs.Layers.{IsRead, IsReadFirst}
+use Rattle.field_elements.specs.Gf16.{gf16_coding}
+use Rattle.pet_receive.specs.Arrivals.{ReceiverState, kept_set}
+use Rattle.pet_receive.specs.ShownBytes.{IsComplete}
+use Rattle.packet_met.specs.Kept.{nothing_of}
+use Rattle.pet_repair.specs.Arrival.{Stands, MayGive, IsStopped, HaveArrived}
+use Rattle.pet_repair.specs.Repaired.{on_end}
+use Rattle.pet_repair.specs.SentTo.{SentTo, SentFront}
+use Rattle.pet_repair.specs.declared.relay.RelayEnd.{RelayEnd}
+use Rattle.pet_repair.specs.declared.relay.RelayEnd.TheVariants.{Done, NoMemory, PlaceFault, LinkFault, OutFault}
+use Rattle.pet_repair.specs.declared.relay.RelayEnd.TheVariants.{Incomplete, TurnsSpent, Unlike}
+
+-- what is seen of the files and of the link
+abbrev pub routes_of : OutsideSeen → Routes
+routes_of outside = record { place = outside.place; link = outside.link }
+
+-- Datagrams were relayed, one after the other, by a receiver that had kept nothing of the session: what they sent, arrival by
+-- arrival, and what is kept of it.
+pub record Relayed (session : List ℕ) (read : List (List ℕ)) : Type 0 where
+  pub start : ReceiverState ℕ
+  pub stands : Stands (λ a. a < 65536) gf16_coding start
+  pub empty : kept_set start ≡ nothing_of session
+  pub sent : List (List (List ℕ))
+  pub now : ReceiverState ℕ
+  pub arrived : HaveArrived (λ a. a < 65536) gf16_coding start read sent now
+
+-- The datagrams of FROM were relayed, and TO has what they sent.
+pub record Relays (from : Way) (session : List ℕ) (to : Way) (before after : OutsideSeen) : Type 0 where
+  pub read : List (List ℕ)
+  pub few : length read ≤ MAX_DATAGRAMS
+  pub input : IsRead from read before after
+  pub relayed : Relayed session read
+  pub sent : SentTo to (on_end relayed.sent) (routes_of before) (routes_of after)
+
+-- what may be sent of at most one datagram more
+abbrev pub MayGiveNext : ReceiverState ℕ → List (List ℕ) → List (List ℕ) → Type 0
+MayGiveNext r [] sent = sent ≡ []
+MayGiveNext r (d ∷ ds) sent = MayGive (λ a. a < 65536) gf16_coding r d sent
+
+-- The first datagrams of FROM were relayed, and TO has a front of what they sent, and of what one more may send.
+pub record RelaysFront (from : Way) (session : List ℕ) (to : Way) (before after : OutsideSeen) : Type 0 where
+  pub read : List (List ℕ)
+  pub next : List (List ℕ)
+  pub one : length next ≤ 1
+  pub few : length read + length next ≤ MAX_DATAGRAMS
+  pub input : IsReadFirst from (read ++ next) before after
+  pub relayed : Relayed session read
+  pub more : List (List ℕ)
+  pub may : MayGiveNext relayed.now next more
+  pub sent : SentFront to (on_end relayed.sent ++ more) (routes_of before) (routes_of after)
+
+-- FROM is there and these are its first datagrams; or exactly these have left the link
+abbrev pub IsReadTo : Way → List (List ℕ) → OutsideSeen → OutsideSeen → Type 0
+IsReadTo (OnFile name) read before after =
+    HasFile before.place.files name (λ bytes. AreFirstDatagrams read (datagrams bytes))
+IsReadTo (OnLink address) read before after = HaveCome read before.link.feed after.link.feed
+
+-- At the last datagram that was read its group was to be made again, but a kept packet of it is not the one that its encoder
+-- makes. TO has what came before, and that datagram; nothing of that group was made again.
+pub record RelaysToUnlike (from : Way) (session : List ℕ) (to : Way) (group number : ℕ)
+    (before after : OutsideSeen) : Type 0 where
+  pub read : List (List ℕ)
+  pub last : List ℕ
+  pub few : length read < MAX_DATAGRAMS
+  pub input : IsReadTo from (read ++ last ∷ []) before after
+  pub relayed : Relayed session read
+  pub stopped : IsStopped (λ a. a < 65536) gf16_coding relayed.now last group number
+  pub sent : SentTo to (on_end relayed.sent ++ last ∷ []) (routes_of before) (routes_of after)
+
+-- the numbers of what was relayed: how many datagrams were read, and how many were sent
+abbrev pub AreCounts : {from to : Way} {session : List ℕ} {before after : OutsideSeen}
+    → Relays from session to before after → ℕ → ℕ → Type 0
+AreCounts r read sent = (read ≡ length r.read) × (sent ≡ length (on_end r.relayed.sent))
+
+-- nothing has begun: no file has changed, no datagram has left the link, and none was sent
+pub record HasNotBegun (from : Way) (before after : OutsideSeen) : Type 0 where
+  pub untouched : IsUntouched from before after
+  pub sent : after.link.sent ≡ before.link.sent
+
+-- the files that are used: FROM is read, and TO is written, each where it is one
+abbrev pub relay_uses : Way → Way → List Blame
+relay_uses (OnFile from) (OnFile to) = reading from ∷ writing to ∷ []
+relay_uses (OnFile from) (OnLink address) = reading from ∷ []
+relay_uses (OnLink address) (OnFile to) = writing to ∷ []
+relay_uses (OnLink address) (OnLink other) = []
+
+-- At an end with numbers the datagrams of FROM were relayed, and TO has all that they sent. Where memory, the place or the link failed
+-- TO has a front of it, or nothing has begun. Nothing is printed but the line of the port of a link FROM, before TO is made
+-- ready.
+abbrev pub EndsRelay : Way → List ℕ → Way → OutsideSeen → OutsideSeen → RelayEnd → Type 0
+EndsRelay from session to before after (Done read sent) =
+    (r : Relays from session to before after) × (length r.read < MAX_DATAGRAMS)
+    × IsComplete (kept_set r.relayed.now) × AreCounts r read sent × PrintedPort from before after
+EndsRelay from session to before after (Incomplete read sent) =
+    (r : Relays from session to before after) × (length r.read < MAX_DATAGRAMS)
+    × (IsComplete (kept_set r.relayed.now) → ⊥) × AreCounts r read sent × PrintedPort from before after
+EndsRelay from session to before after (TurnsSpent read sent) =
+    (r : Relays from session to before after) × (length r.read ≡ MAX_DATAGRAMS) × AreCounts r read sent
+    × PrintedPort from before after
+EndsRelay from session to before after (Unlike group number) =
+    RelaysToUnlike from session to group number before after × PrintedPort from before after
+EndsRelay from session to before after OutFault = HasNotBegun from before after × PortFailed from before after
+EndsRelay from session to before after NoMemory =
+    (HasNotBegun from before after × Unprinted before after)
+    ⊎ (RelaysFront from session to before after × PrintedPort from before after)
+EndsRelay from session to before after PlaceFault =
+    Failed (relay_uses from to) before.place after.place
+    × (HasNotBegun from before after ⊎ RelaysFront from session to before after) × PrintedPort from before after
+EndsRelay from session to before after LinkFault =
+    (BoundFailed from before.link after.link ⊎ AimedFailed to before.link after.link)
+    × ((HasNotBegun from before after × (Unprinted before after ⊎ PrintedPort from before after))
+    ⊎ (RelaysFront from session to before after × PrintedPort from before after))

@@ -1,0 +1,103 @@
+-- What a relay has read and sent so far, since FROM was begun and TO was made ready. This project's own.
+use Rattle.std.specs.Prelude.{◌≡◌, ◌⊎◌, ℕ, ◌+◌, ◌<◌, ◌≤◌, List, [], ◌∷◌, ◌++◌, length, IfSome}
+use Rattle.pet_base.specs.declared.limits.TheConstants.{MAX_DATAGRAMS}
+use Rattle.pet_base.specs.Causes.{Blames}
+use Rattle.pet_base.specs.Entries.{datagrams}
+use Rattle.pet_base.specs.declared.place.Side.TheVariants.{Read, Written}
+use Rattle.pet_base.specs.Seen.{Seen, Blame, HadFault, KeepsNames}
+use Rattle.pet_base.specs.LinkSeen.{LinkSeen}
+use Rattle.outside_routes.specs.Way.{Way, OnFile, OnLink}
+use Rattle.outside_routes.specs.Coming.{coming, HaveCome}
+use Rattle.outside_routes.specs.RouteFaults.{IsStop, ReceivingFailed}
+use Rattle.outside_routes.specs.Sending.{Routes, AreFirstDatagrams, SendingFailed}
+use Rattle.packet_reading.specs.Layers.{HaveLeft}
+use Rattle.pet_receive.specs.Arrivals.{ReceiverState, kept_set}
+use Rattle.packet_verdicts.specs.KeptSet.{kept_in_all}
+use Rattle.pet_repair.specs.Repaired.{on_end}
+use Rattle.pet_repair.specs.Relays.{MayGiveNext}
+use Rattle.pet_repair.specs.inside.Arrivals.{HaveArrivedIn, IsStoppedIn}
+use Rattle.pet_repair.specs.inside.Handed.{Handed, HandedPart}
+use Rattle.pet_repair.specs.declared.arriving.RelayStop.{RelayStop}
+use Rattle.pet_repair.specs.declared.arriving.RelayStop.TheVariants.{Route, Unlike}
+
+-- the datagrams that have come since, of those that were to come first, were relayed
+pub record RelayedSoFar (from to : Way) (start : ReceiverState ℕ) (n : ℕ) (first now : Routes)
+    (r : ReceiverState ℕ) : Type 0 where
+  pub read : List (List ℕ)
+  pub sent : List (List (List ℕ))
+  pub many : length read ≡ n
+  pub rest : HaveCome read (coming from first.place first.link) (coming from now.place now.link)
+  pub arrived : HaveArrivedIn start read sent r
+  pub more : kept_in_all (kept_set r) ≡ kept_in_all (kept_set start) + length (on_end sent)
+  pub handed : Handed to (on_end sent) first now
+
+-- the same, where none is left to come or 16,777,216 have come
+pub record RelayedAll (from to : Way) (start : ReceiverState ℕ) (n : ℕ) (first now : Routes)
+    (r : ReceiverState ℕ) : Type 0 where
+  pub so_far : RelayedSoFar from to start n first now r
+  pub few : n ≤ MAX_DATAGRAMS
+  pub ended : n < MAX_DATAGRAMS → IfSome (coming from now.place now.link) (λ more. more ≡ [])
+
+-- these datagrams stand at the front of the input, or have left the link, maybe with one more
+abbrev pub CameFirst : Way → List (List ℕ) → Routes → Routes → Type 0
+CameFirst (OnFile name) read first now = IfSome first.place.rest (λ bytes. AreFirstDatagrams read (datagrams bytes))
+CameFirst (OnLink address) read first now = HaveLeft read first.link.feed now.link.feed
+
+-- or exactly these have left it
+abbrev pub CameTo : Way → List (List ℕ) → Routes → Routes → Type 0
+CameTo (OnFile name) read first now = IfSome first.place.rest (λ bytes. AreFirstDatagrams read (datagrams bytes))
+CameTo (OnLink address) read first now = HaveCome read first.link.feed now.link.feed
+
+-- a front of what some datagrams that came first sent, and of what one more may send
+pub record RelayedPart (from to : Way) (start : ReceiverState ℕ) (first now : Routes) : Type 0 where
+  pub read : List (List ℕ)
+  pub sent : List (List (List ℕ))
+  pub state : ReceiverState ℕ
+  pub arrived : HaveArrivedIn start read sent state
+  pub next : List (List ℕ)
+  pub one : length next ≤ 1
+  pub few : length read + length next ≤ MAX_DATAGRAMS
+  pub came : CameFirst from (read ++ next) first now
+  pub more : List (List ℕ)
+  pub may : MayGiveNext state next more
+  pub handed : HandedPart to (on_end sent ++ more) first now
+
+-- what some datagrams sent, and the next one itself, which makes its group whole with a packet that is unlike
+pub record RelayedTo (from to : Way) (start : ReceiverState ℕ) (first now : Routes) (group number : ℕ) : Type 0 where
+  pub read : List (List ℕ)
+  pub sent : List (List (List ℕ))
+  pub state : ReceiverState ℕ
+  pub arrived : HaveArrivedIn start read sent state
+  pub last : List ℕ
+  pub few : length read < MAX_DATAGRAMS
+  pub came : CameTo from (read ++ last ∷ []) first now
+  pub stopped : IsStoppedIn state last group number
+  pub handed : Handed to (on_end sent ++ last ∷ []) first now
+
+-- the input, where a file is read, or the output, where one is written
+abbrev pub IsRelayUse : Way → Way → Seen → Blame → Type 0
+IsRelayUse (OnFile from) (OnFile to) place blame = Blames Read place.source blame ⊎ Blames Written place.target blame
+IsRelayUse (OnFile from) (OnLink address) place blame = Blames Read place.source blame
+IsRelayUse (OnLink address) (OnFile to) place blame = Blames Written place.target blame
+IsRelayUse (OnLink address) (OnLink other) place blame = ⊥
+
+-- where the relaying stopped, and why
+abbrev pub StopsRelaying : Way → Way → ReceiverState ℕ → Routes → Routes → RelayStop → Type 0
+StopsRelaying from to start first now (Route stop) =
+    IsStop (HadFault first.place now.place (IsRelayUse from to first.place))
+    (ReceivingFailed from first.link now.link ⊎ SendingFailed to first.link now.link) ⊥ stop
+    × RelayedPart from to start first now
+StopsRelaying from to start first now (Unlike group number) = RelayedTo from to start first now group number
+
+-- the addresses of the link, and its port, are those that they were
+pub record KeepsAddresses (old new : LinkSeen) : Type 0 where
+  pub port : new.port ≡ old.port
+  pub bound : new.bound ≡ old.bound
+  pub aimed : new.aimed ≡ old.aimed
+
+-- what is as it was when the relaying began, while datagrams come and are sent
+pub record IsLater (first now : Routes) : Type 0 where
+  pub names : KeepsNames first.place now.place
+  pub keeps : KeepsAddresses first.link now.link
+  pub place : first.place.faults ≤ now.place.faults
+  pub link : first.link.faults ≤ now.link.faults
