@@ -20,11 +20,11 @@ module _ (from : Way) (session layers store : List ℕ) (before new stored : Out
   input_read = read_still from r.read before new stored link r.input
 
   -- the store of what the receiver has kept is that of what was read
-  kept_is : store_file store kept ≡ kept_file store session r.read
+  pub kept_is : store_file store kept ≡ kept_file store session r.read
   kept_is = ap (store_file store) same
 
   -- the whole reading, and the store
-  pub reads_all : stored.steps ≡ new.steps → Wrote (store_file store kept ∷ []) None new.place stored.place
+  abbrev pub reads_all : stored.steps ≡ new.steps → Wrote (store_file store kept ∷ []) None new.place stored.place
       → Reads from session layers store before stored
   reads_all counted written =
       let whole : Wrote (kept_file store session r.read ∷ []) None new.place stored.place =

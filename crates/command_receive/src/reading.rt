@@ -63,6 +63,7 @@ pub(crate) fn read_all<P: Place, K: Link, S: Sink, L: Ledger>(
         totals,
         complete,
     } = read;
-    write_store_file(alloc, &Receiver::of(receiver), store, outside.place)?;
+    let receiver = Receiver::of(receiver);
+    write_store_file(alloc, &receiver, store, outside.place)?;
     Ok(Reading { totals, complete })
 }

@@ -12,6 +12,7 @@ use Rattle.pet_base.specs.Seen.{Blame, Files, HadFault, with_file}
 use Rattle.pet_base.specs.laws.SeenLaws.{HadFault-since}
 use Rattle.outside_files.specs.Uses.{IsOneOf, Failed}
 use Rattle.outside_files.specs.Wrote.{with_files}
+use Rattle.packet_frame.specs.declared.format.TheConstants.{FORMAT}
 use Rattle.packet_session.specs.Session.{Session}
 use Rattle.pet_receive.specs.ShownBytes.{IsComplete}
 use Rattle.packet_verdicts.specs.Union.{frames_in}

@@ -62,7 +62,7 @@ returns-in_err-write_store_file-clause-stop g c =
     (kept_set c.in_ok-read.read.receiver) done.0 done.1.set refl (omega (arith, calm))
     (port_printed from before new after (receives_nothing from new.link) refl done.2)
     (subst (λ r. (after.place.files ≡ new.place.files)
-    ⊎ Wrote [] (Some (store_file c.args.store.now (kept_set r))) new.place after.place) c.of.ensures
+    ⊎ Wrote [] (Some (store_file c.args.store.now (kept_set r))) new.place after.place) c.of-receiver.ensures
     c.in_err-write_store_file.ensures.front) c.in_err-write_store_file.ensures.cause)
 
 pub returns-in_err-write_store_file-clause-bound : goal.returns-in_err-write_store_file-clause-bound
@@ -86,8 +86,8 @@ returns-clause-done g c =
     let done = c.in_ok-read.ensures.done in (
       reads_all from c.args.session c.args.layers.now c.args.store.now before new after
           (kept_set c.in_ok-read.read.receiver) done.0 done.1.set refl refl
-          (subst (λ r. Wrote (store_file c.args.store.now (kept_set r) ∷ []) None new.place after.place) c.of.ensures
-          c.in_ok-write_store_file.ensures.written),
+          (subst (λ r. Wrote (store_file c.args.store.now (kept_set r) ∷ []) None new.place after.place)
+          c.of-receiver.ensures c.in_ok-write_store_file.ensures.written),
       record { totals = done.1.totals; complete = done.1.complete },
       port_printed from before new after (receives_nothing from new.link) refl done.2,
     )
