@@ -15,11 +15,11 @@
 
 mod commands;
 mod end;
-mod standard_streams;
 mod starting;
 mod statuses;
 mod top;
 
 pub use end::End;
-pub use starting::{NoWords, start, start_words, words};
+pub use program_start::{NoWords, words};
+pub use starting::{start, start_words};
 pub use top::run;

@@ -7,52 +7,18 @@ ghost use Rattle.std.specs.Prelude.{◌≡◌, ◌<◌, ◌↔◌, None};
 ghost use Rattle.pet_text.specs.Words.{texts_of, command_of};
 ghost use Rattle.pet_tool.specs.Starts.{FindsNoMemory, Starts, StartsWords};
 
-use crate::standard_streams::hold_streams;
 use crate::top::run;
 use arrayvec::ArrayVec;
 use pet_base::{Sink, Steps};
 use pet_ends::{FilePlace, Printer, StandardOut, UdpLink};
 use pet_text::{Status, fault_line};
+use program_start::{NoWords, hold_streams, words};
 use std::alloc::Global;
-use std::env;
 use std::env::Env;
-use std::io::ErrorKind;
 use std::marker::Brand;
 use std::net::Net;
 use std::rt::Files;
 use std::sync::ledger::{Blank, Ledger};
-
-/// Why there are no words.
-#[derive(Clone, Copy, Debug, PartialEq, Eq)]
-pub enum NoWords {
-    /// A word is no UTF-8 text.
-    NotText,
-    /// No memory was found.
-    NoMemory,
-}
-
-/// The words after the program's name.
-pub fn words<R: Env + Alloc<A = Global>>(machine: &R) -> Result<Vec<String>, NoWords> {
-    let mut words = Vec::new(machine.alloc());
-    let all = match env::args(machine) {
-        Ok(all) => all,
-        Err(e) => return Err(no_words(e.kind())),
-    };
-    for word in all.skip(1) {
-        if words.push(word).is_err() {
-            return Err(NoWords::NoMemory);
-        }
-    }
-    Ok(words)
-}
-
-/// Why the words could not be read.
-fn no_words(kind: ErrorKind) -> NoWords {
-    match kind {
-        ErrorKind::OutOfMemory => NoWords::NoMemory,
-        _ => NoWords::NotText,
-    }
-}
 
 /// Runs the command that the program's words give, over this machine and this output, and gives the output back. Words that are
 /// no text have the form of no command. What is closed of the standard streams is held meanwhile, so that no file takes its number.
