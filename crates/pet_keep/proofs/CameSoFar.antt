@@ -1,0 +1,180 @@
+-- What has come so far, one datagram more, and what a crash then leaves.
+use Rattle.std.proofs.Common.{◌≡◌, ℕ, ◌+◌, ◌<◌, ◌≤◌, Bool, true, false, take, List, [], ◌∷◌, ◌++◌, Option, refl, sym}
+use Rattle.std.proofs.Common.{ap, subst, ◌∙◌, arith, inl, inr}
+use Rattle.std.specs.Prelude.{IfErr, IfSome, IsErrAnd, Result, Ok, Err}
+use Rattle.std.proofs.lemmas.List.{length_push}
+use Rattle.outside_disk.specs.Disk.{DiskSeen, Between, LeavesOnly}
+use Rattle.outside_disk.specs.laws.DiskLaws.{between_same, between_then, only_same, only_then, only_weaker}
+use Rattle.outside_routes.specs.Coming.{coming, HaveCome, KeepsFeed, TakesDatagram}
+use Rattle.outside_routes.specs.RouteFaults.{IsFailure, InputFailed, ReceivingFailed}
+use Rattle.outside_routes.specs.Way.{Way, OnFile, OnLink}
+use Rattle.outside_routes.specs.declared.fault.RouteFailed.{RouteFailed}
+use Rattle.outside_routes.specs.declared.fault.RouteFailed.TheVariants as failed
+use Rattle.outside_routes.specs.laws.ComingLaws.{come_front, come_more, come_nothing}
+use Rattle.packet_verdicts.specs.KeptSet.{KeptSet}
+use Rattle.packet_verdicts.specs.Verdicts.{after, after_all, after_all_in}
+use Rattle.packet_verdicts.specs.laws.KeptSetLaws.{after_more}
+use Rattle.pet_base.specs.LinkSeen.{LinkSeen}
+use Rattle.pet_base.specs.Seen.{OnlyReads, Seen}
+use Rattle.pet_base.specs.declared.entry.Entry.{Entry}
+use Rattle.pet_base.specs.declared.entry.Entry.TheVariants.{Datagram, End}
+use Rattle.pet_base.specs.declared.limits.TheConstants.{MAX_DATAGRAMS}
+use Rattle.store_journal.specs.declared.fault.KeepFault.{KeepFault}
+use Rattle.store_journal.specs.declared.fault.KeepFault.TheVariants as keep
+use Rattle.store_keeper.specs.Journal.{StandsFor, StandsWith, journal_of}
+use Rattle.store_keeper.specs.laws.KeepLaws.{after_limit, after_session}
+use Rattle.pet_keep.specs.Journaled.{AreFirst}
+use Rattle.pet_keep.specs.declared.stop.KeepStop.{KeepStop}
+use Rattle.pet_keep.specs.declared.stop.KeepStop.TheVariants as stop
+use Rattle.pet_keep.specs.inside.SoFar.{AllStand, CameAll, CameTo, IsKeepStop, StandsAfterFirst, StopsKeeping}
+use Rattle.pet_keep.specs.inside.SoFar.{of_failed, of_fault}
+
+pub came_start : (first : KeptSet) (all : Option (List (List ℕ))) → CameTo first 0 all all first
+unfolding after_all_in
+came_start first all = record { read = []; many = refl; rest = come_nothing all; kept = refl }
+
+module _ (first : KeptSet) (n : ℕ) (all left : Option (List (List ℕ))) (now : KeptSet)
+    (came : CameTo first n all left now) where
+  -- one datagram more
+  pub came_more : (len : ℕ) (into : List ℕ) (next_left : Option (List (List ℕ))) (next : KeptSet)
+      → TakesDatagram left (Datagram len) into next_left → next ≡ after now (take len into)
+      → CameTo first (n + 1) all next_left next
+  came_more len into next_left next step kept =
+      let d = take len into in
+      record {
+        read = came.read ++ d ∷ [];
+        many = omega (arith, length_push came.read d, came.many);
+        rest = come_more came.read all left next_left d came.rest step;
+        kept = kept ∙ ap (λ (set : KeptSet). after set d) came.kept ∙ sym (after_more first came.read d);
+      }
+
+  -- none is left to come
+  pub came_all : (into : List ℕ) (next_left : Option (List (List ℕ))) → n ≤ MAX_DATAGRAMS
+      → TakesDatagram left End into next_left → CameAll first n all next_left now
+  came_all into next_left few step = record {
+    so_far = record {
+      read = came.read;
+      many = came.many;
+      rest = subst (λ (o : Option (List (List ℕ))). HaveCome came.read all o) (sym step.0) came.rest;
+      kept = came.kept;
+    };
+    few = few;
+    ended = λ _. subst (λ (o : Option (List (List ℕ))). IfSome o (λ more. more ≡ [])) (sym step.0) step.1;
+  }
+
+  -- 16,777,216 have come
+  pub came_many : n ≡ MAX_DATAGRAMS → CameAll first MAX_DATAGRAMS all left now
+  came_many is =
+      subst (λ m. CameAll first m all left now) is
+      (record { so_far = came; few = omega (arith, is); ended = λ lt. absurd (omega (arith, is, lt)) })
+
+  -- nothing could be received
+  pub came_until : (failed : RouteFailed) (from : Way) (disk : DiskSeen) (place_before place_now : Seen)
+      (link_before link_now : LinkSeen) → n < MAX_DATAGRAMS → left ≡ coming from place_before link_before
+      → KeepsFeed from link_before link_now
+      → IsFailure (InputFailed from place_before place_now) (ReceivingFailed from link_before link_now) failed
+      → AllStand now disk → StopsKeeping first all (coming from place_now link_now) now disk (of_failed failed)
+  came_until failed.Place from disk place_before place_now link_before link_now few is feed cause stands = tt
+  came_until failed.Link (OnFile name) disk place_before place_now link_before link_now few is feed cause stands =
+      absurd cause
+  came_until failed.Link (OnLink address) disk place_before place_now link_before link_now few is feed cause stands =
+      record {
+        count = n;
+        so_far = record {
+          read = came.read;
+          many = came.many;
+          rest = subst (λ (o : Option (List (List ℕ))). HaveCome came.read all o) (is ∙ sym feed) came.rest;
+          kept = came.kept;
+        };
+        few = omega (arith, few);
+        stands = stands;
+      }
+
+  -- the datagrams that have come are the first ones
+  first_read : AreFirst came.read all
+  first_read = come_front came.read all left came.rest
+
+  stands_as : (a b : KeptSet) (c : List ℕ) → a ≡ b → StandsFor a c → StandsFor b c
+  stands_as a b c is stands = subst (λ (set : KeptSet). StandsFor set c) is stands
+
+  stands_after : (d c : List ℕ) → journal_of now.session now.limit c ≡ Ok (after now d) → StandsFor (after now d) c
+  stands_after d c is =
+      subst (λ (s : List ℕ). journal_of s (after now d).limit c ≡ Ok (after now d)) (sym (after_session now d))
+      (subst (λ (l : ℕ). journal_of now.session l c ≡ Ok (after now d)) (sym (after_limit now d)) is)
+
+  with_one : (d c : List ℕ) (next_left : Option (List (List ℕ))) → HaveCome (d ∷ []) left next_left
+      → StandsWith now d c → StandsAfterFirst first all c
+  with_one d c next_left step (inl before) =
+      (came.read, first_read, stands_as now (after_all first came.read) c came.kept before)
+  with_one d c next_left step (inr later) = (
+    came.read ++ d ∷ [],
+    come_front (came.read ++ d ∷ []) all next_left (come_more came.read all left next_left d came.rest step),
+    stands_as (after now d) (after_all first (came.read ++ d ∷ [])) c
+        (ap (λ (set : KeptSet). after set d) came.kept ∙ sym (after_more first came.read d))
+        (stands_after d c later.1),
+  )
+
+  -- what a crash leaves with one datagram more
+  pub leaves_more : (len : ℕ) (into : List ℕ) (next_left : Option (List (List ℕ))) (a b c : DiskSeen)
+      → TakesDatagram left (Datagram len) into next_left → Between (LeavesOnly (StandsAfterFirst first all)) a b
+      → Between (LeavesOnly (StandsWith now (take len into))) b c
+      → Between (LeavesOnly (StandsAfterFirst first all)) a c
+  leaves_more len into next_left a b c step so_far more =
+      let P = StandsAfterFirst first all in
+      let Q = StandsWith now (take len into) in
+      between_then (LeavesOnly P) (LeavesOnly Q) (LeavesOnly P)
+      (λ x y z p q. only_then P x y z p (only_weaker Q P y z (λ t. with_one (take len into) t next_left step) q))
+      a b c so_far more
+
+-- nothing was done
+pub leaves_none : (P : List ℕ → Type 0) (a : DiskSeen) → Between (LeavesOnly P) a a
+leaves_none P a = between_same (LeavesOnly P) (only_same P) a
+
+-- the stop that an answer has
+pub stop_is : {T : Type 0} (P : KeepStop → Type 0) (result : Result T KeepStop) (stop : KeepStop)
+    → IsErrAnd result (λ s. s ≡ stop) → P stop → IfErr result P
+stop_is P (Ok x) stop is p = tt
+stop_is P (Err e) stop is p = subst P (sym is) p
+
+-- why a datagram was not kept, of a keeper that was not stopped
+pub fault_cause : (fault : KeepFault) (rose : Type 0) → (fault ≡ keep.Stopped → ⊥) → (fault ≡ keep.DiskFault → rose)
+    → IsKeepStop ⊥ ⊥ ⊥ rose (of_fault fault)
+fault_cause keep.Stopped rose going told = absurd (going refl)
+fault_cause keep.NoMemory rose going told = tt
+fault_cause keep.DiskFault rose going told = told refl
+
+pub true_false : (b : Bool) → b ≡ true → b ≡ false → ⊥
+true_false b p q = cc
+
+-- no failure of a keeper is one of the link
+pub keeps_no_link : (why : KeepStop) (rose : Type 0) (first : KeptSet) (all left : Option (List (List ℕ))) (now : KeptSet)
+    (disk : DiskSeen) → IsKeepStop ⊥ ⊥ ⊥ rose why → StopsKeeping first all left now disk why
+keeps_no_link stop.NoMemory rose first all left now disk cause = tt
+keeps_no_link stop.Place rose first all left now disk cause = absurd cause
+keeps_no_link stop.Link rose first all left now disk cause = absurd cause
+keeps_no_link stop.Out rose first all left now disk cause = absurd cause
+keeps_no_link stop.Disk rose first all left now disk cause = tt
+
+-- only reading was done
+pub reads_same : (s : Seen) → OnlyReads s s
+reads_same s = record { files = refl; source = refl; target = refl; has_input = refl; has_output = refl }
+
+pub reads_then : (first before now : Seen) → OnlyReads first before → OnlyReads before now → OnlyReads first now
+reads_then first before now a b = record {
+  files = b.files ∙ a.files;
+  source = b.source ∙ a.source;
+  target = b.target ∙ a.target;
+  has_input = b.has_input ∙ a.has_input;
+  has_output = b.has_output ∙ a.has_output;
+}
+
+-- what a crash leaves where a datagram was not kept
+pub leaves_less : (first : KeptSet) (n : ℕ) (all left next_left : Option (List (List ℕ))) (now : KeptSet)
+    → CameTo first n all left now → (len : ℕ) (into : List ℕ) (e : Entry) (a b c : DiskSeen)
+    → e ≡ Datagram len → TakesDatagram left e into next_left
+    → Between (LeavesOnly (StandsAfterFirst first all)) a b
+    → Between (LeavesOnly (StandsWith now (take len into))) b c
+    → Between (LeavesOnly (StandsAfterFirst first all)) a c
+leaves_less first n all left next_left now came len into e a b c is step so_far more =
+    leaves_more first n all left now came len into next_left a b c
+    (subst (λ (x : Entry). TakesDatagram left x into next_left) is step) so_far more

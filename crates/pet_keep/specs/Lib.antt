@@ -1,0 +1,7 @@
+pub mod Statuses
+pub mod Journaled
+pub mod Keeps
+pub mod Runs
+pub mod Starts
+pub mod inside
+pub mod laws
