@@ -1,4 +1,7 @@
 //! The words of a program.
+ghost use Rattle.std.specs.Prelude.{◌≡◌, ◌↔◌};
+ghost use Rattle.std.specs.declared.io.ErrorKind.TheVariants.{OutOfMemory};
+
 use std::alloc::Global;
 use std::env;
 use std::env::Env;
@@ -29,7 +32,9 @@ pub fn words<R: Env + Alloc<A = Global>>(machine: &R) -> Result<Vec<String>, NoW
 }
 
 /// Why the words could not be read.
-fn no_words(kind: ErrorKind) -> NoWords {
+fn no_words(kind: ErrorKind) -> NoWords
+    ensures { (result ≡ NoWords.NoMemory) ↔ (kind ≡ OutOfMemory) }
+{
     match kind {
         ErrorKind::OutOfMemory => NoWords::NoMemory,
         _ => NoWords::NotText,
