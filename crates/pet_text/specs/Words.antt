@@ -12,7 +12,7 @@ use Rattle.pet_text.specs.declared.end.End.{End}
 use Rattle.pet_text.specs.declared.end.End.TheVariants.{File, Udp}
 use Rattle.pet_text.specs.declared.words.Command.{Command}
 use Rattle.pet_text.specs.declared.words.Command.TheVariants.{Plan, Check, Send, Receive, Merge, Video, Unwrap, Wrap}
-use Rattle.pet_text.specs.declared.words.Command.TheVariants.{Migrate, Replay, Sample, Repair}
+use Rattle.pet_text.specs.declared.words.Command.TheVariants.{Migrate, Replay, Sample, Repair, Breceive}
 
 -- the texts of the words
 abbrev pub texts_of : List (String Global) → List (List ℕ)
@@ -109,6 +109,11 @@ receive_files (File from) layers store =
     && (is_name store && (not (bytes_eq from layers) && (not (bytes_eq from store) && not (bytes_eq layers store))))
 receive_files (Udp address) layers store = is_name layers && (is_name store && not (bytes_eq layers store))
 
+-- a file that is written, another than one that is read
+abbrev pub breceive_files : End → List ℕ → Bool
+breceive_files (File from) layers = is_name layers && not (bytes_eq from layers)
+breceive_files (Udp address) layers = is_name layers
+
 -- two files that are read, maybe one and the same, and another file that is written
 abbrev pub merge_files : List ℕ → List ℕ → List ℕ → Bool
 merge_files first second out =
@@ -128,6 +133,7 @@ names_files (Migrate store out) = other_files store out
 names_files (Replay stream priority script) = three_files stream priority script
 names_files (Sample seed groups) = true
 names_files (Repair store to) = repair_files store to
+names_files (Breceive from session layers) = breceive_files from layers
 
 -- the command, where it so names its files
 abbrev pub if_named : Command → Option Command
@@ -143,6 +149,12 @@ abbrev pub receive_of : Option End → Option (List ℕ) → List ℕ → List �
 receive_of None session layers store = None
 receive_of (Some from) None layers store = None
 receive_of (Some from) (Some session) layers store = if_named (Receive from session layers store)
+
+-- `breceive FROM SESSION LAYERS`
+abbrev pub breceive_of : Option End → Option (List ℕ) → List ℕ → Option Command
+breceive_of None session layers = None
+breceive_of (Some from) None layers = None
+breceive_of (Some from) (Some session) layers = if_named (Breceive from session layers)
 
 -- `unwrap FILE ID OUT`
 abbrev pub unwrap_of : List ℕ → Option ℕ → List ℕ → Option Command
@@ -177,6 +189,7 @@ command_of (word ∷ first ∷ second ∷ third ∷ []) =
     else if bytes_eq word (codes "merge") then if_named (Merge first second third)
     else if bytes_eq word (codes "unwrap") then unwrap_of first (id_of second) third
     else if bytes_eq word (codes "replay") then if_named (Replay first second third)
+    else if bytes_eq word (codes "breceive") then breceive_of (end_of 0 first) (session_of second) third
     else None
 command_of (word ∷ first ∷ second ∷ third ∷ fourth ∷ []) =
     if bytes_eq word (codes "receive") then receive_of (end_of 0 first) (session_of second) third fourth else None

@@ -1,7 +1,7 @@
 //! What the words of a command give, before their texts are copied.
 ghost use Rattle.std.specs.Prelude.{◌≡◌, [], ◌∷◌, option_map};
 ghost use Rattle.std.specs.Str.{bytes_eq};
-ghost use Rattle.pet_text.specs.Words.{texts_of, end_of, session_of, id_of, plain_number, groups_of, send_files, receive_files, merge_files, if_named, send_of, receive_of, unwrap_of, sample_of, repair_files, repair_of, command_of};
+ghost use Rattle.pet_text.specs.Words.{texts_of, end_of, session_of, id_of, plain_number, groups_of, send_files, receive_files, merge_files, if_named, send_of, receive_of, unwrap_of, sample_of, repair_files, repair_of, breceive_files, breceive_of, command_of};
 ghost use Rattle.pet_text.specs.declared.words.Command.TheVariants.{Plan, Check, Merge, Video, Wrap, Migrate, Replay};
 ghost use Rattle.pet_text.specs.inside.Forms.{command_in};
 ghost use Rattle.pet_text.specs.Ends.{end_in};
@@ -69,6 +69,11 @@ pub(crate) enum Form<'a> {
         store: &'a str,
         to: Route<'a>,
     },
+    Breceive {
+        from: Route<'a>,
+        session: [u8; 8],
+        layers: &'a str,
+    },
 }
 
 /// The form that the words have, where they have one.
@@ -130,6 +135,8 @@ fn three_words<'a>(word: &str, first: &'a str, second: &'a str, third: &'a str) 
         unwrap_words(first, second, third)
     } else if same(word, "replay") {
         replay_words(first, second, third)
+    } else if same(word, "breceive") {
+        breceive_words(first, second, third)
     } else {
         None
     }
@@ -346,6 +353,36 @@ fn are_repair_files(store: &str, to: Route<'_>) -> bool
     }
     match to {
         Route::File(to) => !same(to, store),
+        Route::Udp(_) => true,
+    }
+}
+
+/// The words behind `breceive`.
+fn breceive_words<'a>(from: &'a str, session: &str, layers: &'a str) -> Option<Form<'a>>
+    ensures { option_map command_in result
+        ≡ breceive_of (end_of 0 from.now) (session_of session.now) layers.now }
+{
+    let from = read_end(from, 0)?;
+    let session = read_session(session)?;
+    if !are_breceive_files(from, layers) {
+        return None;
+    }
+    Some(Form::Breceive {
+        from,
+        session,
+        layers,
+    })
+}
+
+/// Whether the file that is written has a name, and is another than a file that is read.
+fn are_breceive_files(from: Route<'_>, layers: &str) -> bool
+    ensures { result ≡ breceive_files (end_in from.entry) layers.now }
+{
+    if layers.is_empty() {
+        return false;
+    }
+    match from {
+        Route::File(from) => !same(from, layers),
         Route::Udp(_) => true,
     }
 }

@@ -1,6 +1,6 @@
 //! The command words.
 ghost use Rattle.std.specs.Prelude.{◌≡◌, ◌↔◌, Err, None, Some, IfOk};
-ghost use Rattle.pet_text.specs.declared.words.Command.TheVariants.{Plan, Check, Send, Receive, Merge, Video, Unwrap, Wrap, Migrate, Replay, Sample, Repair};
+ghost use Rattle.pet_text.specs.declared.words.Command.TheVariants.{Plan, Check, Send, Receive, Merge, Video, Unwrap, Wrap, Migrate, Replay, Sample, Repair, Breceive};
 ghost use Rattle.pet_text.specs.Words.{texts_of, command_of};
 ghost use Rattle.pet_text.specs.inside.Forms.{command_in};
 ghost use Rattle.pet_text.specs.Ends.{end_in};
@@ -112,6 +112,15 @@ pub enum Command {
         /// Where the datagrams go to; a file differs from that of the store.
         to: End,
     },
+    /// Reads the datagrams of a session of the byte profile, and writes its layers as they are shown.
+    Breceive {
+        /// Where the datagrams come from.
+        from: End,
+        /// The number of the session.
+        session: [u8; 8],
+        /// The file that the layers are written to.
+        layers: Name,
+    },
 }
 
 /// Why there is no command.
@@ -179,6 +188,11 @@ fn own_command(alloc: Global, form: Form<'_>) -> Result<Command, AllocError>
         } => own_replay(alloc, stream, priority, script),
         Form::Sample { seed, groups } => Ok(Command::Sample { seed, groups }),
         Form::Repair { store, to } => own_repair(alloc, store, to),
+        Form::Breceive {
+            from,
+            session,
+            layers,
+        } => own_breceive(alloc, from, session, layers),
     }
 }
 
@@ -239,6 +253,23 @@ fn own_receive(
         session,
         layers,
         store,
+    })
+}
+
+fn own_breceive(
+    alloc: Global,
+    from: Route<'_>,
+    session: [u8; 8],
+    layers: &str,
+) -> Result<Command, AllocError>
+    ensures { IfOk result (λ command. command ≡ Breceive (end_in from.entry) session layers.now) }
+{
+    let from = own_end(alloc, from)?;
+    let layers = Name::new(alloc, layers)?;
+    Ok(Command::Breceive {
+        from,
+        session,
+        layers,
     })
 }
 

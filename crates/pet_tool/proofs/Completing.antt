@@ -1,6 +1,6 @@
 -- What each command completes follows from what it does.
 use Rattle.std.proofs.Common.{◌≡◌, ℕ, Bool, true, false, List, [], ◌∷◌, ◌++◌, ◌⊎◌, length, map, Option, None, Some, refl}
-use Rattle.std.proofs.Common.{sym, ap, append_assoc, subst, ◌∙◌, inl, inr, ◌≢◌}
+use Rattle.std.proofs.Common.{sym, ap, subst, ◌∙◌, inl, inr, ◌≢◌}
 use Rattle.std.proofs.lemmas.List.Elements.{All-contains}
 use Rattle.std.specs.Prelude.{if◌then◌else◌}
 use Rattle.std.specs.Io.KnownBytes.{append_known}
@@ -30,11 +30,10 @@ use Rattle.command_receive.specs.declared.command.ReceiveEnd.{ReceiveEnd}
 use Rattle.command_receive.specs.declared.command.ReceiveEnd.TheVariants as receive
 use Rattle.command_receive.specs.NamedLayers.{NamesStored, NamesWhatItStores as EndNames}
 use Rattle.command_receive.specs.laws.NamedLaws.{names_what_it_stores}
-use Rattle.command_receive.specs.Opened.{IsBoundTo, PrintedPort}
-use Rattle.command_receive.specs.Receives.{Receives, port_line, uses_of}
+use Rattle.command_receive.specs.Opened.{IsBoundTo}
+use Rattle.command_receive.specs.Receives.{Receives, uses_of}
 use Rattle.command_receive.specs.ReceivesSession.{HasPacketsOf, ReceivesSession, session_totals}
 use Rattle.packet_reading.specs.declared.reading.Totals.{Totals}
-use Rattle.command_receive.specs.laws.LineLaws.{port_then}
 use Rattle.command_receive.specs.laws.SessionReceived.{completes_receive}
 use Rattle.command_merge.specs.Merges.{Merges}
 use Rattle.command_merge.specs.laws.SessionMerged.{completes_merge}
@@ -63,7 +62,7 @@ use Rattle.text_status.specs.declared.status.Status.{Status}
 use Rattle.text_status.specs.declared.status.Status.TheVariants.{Done, Incomplete, OutFault, TurnsSpent}
 use Rattle.pet_text.specs.declared.words.Command.{Command}
 use Rattle.pet_text.specs.declared.words.Command.TheVariants.{Plan, Check, Send, Receive, Merge, Video, Unwrap, Wrap}
-use Rattle.pet_text.specs.declared.words.Command.TheVariants.{Migrate, Replay, Sample, Repair}
+use Rattle.pet_text.specs.declared.words.Command.TheVariants.{Migrate, Replay, Sample, Repair, Breceive}
 use Rattle.outside_routes.specs.RouteFaults.{AimedFailed, BoundFailed}
 use Rattle.outside_routes.specs.Sending.{Routes, Sent}
 use Rattle.outside_routes.specs.Way.{Way, OnFile, OnLink}
@@ -78,6 +77,8 @@ use Rattle.pet_tool.specs.Does.{Does, Runs, OnFiles, OnRead, OnCountedRead, OnMe
 use Rattle.pet_tool.specs.Lines.{line_of, line_of_plan, line_of_check, line_of_send, line_of_merge, line_of_video}
 use Rattle.pet_tool.specs.Lines.{line_of_receive, line_of_migrate, line_of_replay, line_of_sample, line_of_repair}
 use Rattle.pet_tool.specs.Lines.{totals_text}
+use Rattle.pet_tool.proofs.BytesCompleted.{breceive_completes}
+use Rattle.pet_tool.proofs.LinesTold.{ends_with, lines_told}
 use Rattle.pet_tool.proofs.SystemCompleted.{unwrap_completes, wrap_completes}
 use Rattle.pet_tool.proofs.Telling.{ended_as, told, Told}
 use Rattle.pet_tool.specs.Headline.{Headline, HasWhatWasSent, NamesWhatItStores, ReceivesWhatWasSent}
@@ -86,14 +87,6 @@ use Rattle.pet_tool.specs.Statuses.{status_of, status_of_plan, status_of_check, 
 use Rattle.pet_tool.specs.Statuses.{status_of_merge, status_of_video, status_of_migrate, status_of_replay, status_of_sample}
 use Rattle.pet_tool.specs.Statuses.{status_of_repair}
 use Rattle.pet_tool.specs.Undisturbed.{IsUndisturbed, EndsWith}
-
--- the lines and then that of the status which the end has
-ends_with : (status now : Status) (lines : List ℕ) (before after : OutsideSeen) → now ≡ status
-    → after.written ≡ append_known before.written (lines ++ fault_text now) → EndsWith status lines before after now
-ends_with status now lines before after ended printed = record {
-  ended = ended;
-  printed = printed ∙ ap (λ (s : Status). append_known before.written (lines ++ fault_text s)) ended;
-}
 
 -- what was told of a command that printed nothing itself, of which the line is known
 module _ {E : Type 0} (of : E → End) (before between after : OutsideSeen) (e : E) (status : Status) (line : List ℕ)
@@ -199,17 +192,6 @@ still_left s from layers store files ds before between after place link left = r
   listens = subst (IsBoundTo from before.link) (sym link) left.listens;
   fewest = left.fewest;
 }
-
--- the line of the port, that of the end, and that of the status
-lines_told : (from : Way) (line numbers of_status : List ℕ) (before between after : OutsideSeen)
-    → PrintedPort from before between → after.written ≡ append_known between.written (line ++ of_status)
-    → after.link ≡ between.link → line ≡ numbers
-    → after.written ≡ append_known before.written ((port_line from after.link ++ numbers) ++ of_status)
-lines_told from line numbers of_status before between after port printed link is =
-    port_then from (line ++ of_status) before between after.written port printed
-    ∙ ap (append_known before.written) (sym (append_assoc (port_line from between.link) line of_status))
-    ∙ ap (λ (l : LinkSeen). append_known before.written ((port_line from l ++ line) ++ of_status)) (sym link)
-    ∙ ap (λ (t : List ℕ). append_known before.written ((port_line from after.link ++ t) ++ of_status)) is
 
 headline : (from : Way) (session layers store : List ℕ) (before after : OutsideSeen) (status : Status)
     → Runs end.Receive (Receives from session layers store) before after status
@@ -477,3 +459,5 @@ completes (Some (Sample seed groups)) before after status runs =
     sample_completes seed groups before after status runs
 completes (Some (Repair store to)) before after status runs =
     repair_completes store (way_in to) before after status runs
+completes (Some (Breceive from session layers)) before after status runs =
+    breceive_completes (way_in from) session layers before after status runs

@@ -39,17 +39,21 @@ use Rattle.command_receive.specs.declared.command.ReceiveEnd.TheVariants as rece
 use Rattle.pet_repair.specs.Failures.{repair_of_place, repair_of_link}
 use Rattle.pet_repair.specs.declared.repair.RepairEnd.{RepairEnd}
 use Rattle.pet_repair.specs.declared.repair.RepairEnd.TheVariants as repair
+use Rattle.pet_byte.specs.Failures.{byte_of_place, byte_of_link}
+use Rattle.pet_byte.specs.declared.breceive.ByteEnd.{ByteEnd}
+use Rattle.pet_byte.specs.declared.breceive.ByteEnd.TheVariants as byte
 use Rattle.text_status.specs.declared.status.Status.{Status}
 use Rattle.text_status.specs.declared.status.Status.TheVariants.{Done}
 use Rattle.pet_tool.specs.declared.end.End.{End}
 use Rattle.pet_tool.specs.Does.{Runs}
 use Rattle.pet_tool.specs.Lines.{line_of, line_of_plan, line_of_check, line_of_send, line_of_merge, line_of_video}
 use Rattle.pet_tool.specs.Lines.{line_of_unwrap, line_of_wrap, line_of_migrate, line_of_replay, line_of_sample}
-use Rattle.pet_tool.specs.Lines.{line_of_receive, line_of_repair, totals_text}
+use Rattle.pet_tool.specs.Lines.{line_of_breceive, line_of_receive, line_of_repair, totals_text}
 use Rattle.pet_tool.specs.Statuses.{of_place, of_link, status_of, status_of_session, status_of_plan, status_of_check}
 use Rattle.pet_tool.specs.Statuses.{status_of_send, status_of_receive, status_of_merge, status_of_video}
 use Rattle.pet_tool.specs.Statuses.{status_of_unwrap, status_of_wrap, status_of_migrate, status_of_replay, status_of_sample}
 use Rattle.pet_tool.specs.Statuses.{status_of_repair}
+use Rattle.pet_tool.specs.Statuses.{status_of_breceive}
 use Rattle.pet_tool.specs.Told.{Tells}
 use Rattle.pet_tool.proofs.Telling.{strikes}
 
@@ -180,6 +184,18 @@ receive_agrees receive.LinkFault = unlined refl refl
 receive_agrees receive.OutFault = unlined refl refl
 receive_agrees (receive.Incomplete totals) = lined_as (totals_text totals) refl refl
 receive_agrees (receive.TurnsSpent totals) = lined_as (totals_text totals) refl refl
+
+pub breceive_agrees : (end : ByteEnd)
+    → Agrees (byte_of_place end) (byte_of_link end) (line_of_breceive end) (status_of_breceive end)
+breceive_agrees (byte.Done read kept shown) = lined_as (line_of_breceive (byte.Done read kept shown)) refl refl
+breceive_agrees byte.NoMemory = unlined refl refl
+breceive_agrees byte.PlaceFault = unlined refl refl
+breceive_agrees byte.LinkFault = unlined refl refl
+breceive_agrees byte.OutFault = unlined refl refl
+breceive_agrees (byte.Incomplete read kept shown) =
+    lined_as (line_of_breceive (byte.Incomplete read kept shown)) refl refl
+breceive_agrees (byte.TurnsSpent read kept shown) =
+    lined_as (line_of_breceive (byte.TurnsSpent read kept shown)) refl refl
 
 -- a command did this, the first failure ended it, and then the run told of its end
 pub runs_with : {E : Type 0} (of : E → End) (Did : OutsideSeen → OutsideSeen → E → Type 0) (p k : Bool)

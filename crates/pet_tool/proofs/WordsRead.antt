@@ -3,11 +3,15 @@ use Rattle.std.proofs.Common.{◌≡◌, ◌<◌, ◌≤◌, ℕ, List, Some, sy
 use Rattle.outside_routes.specs.Way.{Way}
 use Rattle.pet_base.specs.declared.limits.TheConstants.{MAX_SAMPLE_GROUPS}
 use Rattle.pet_base.specs.Seen.{Seen}
+use Rattle.command_plan.specs.Checks.{Checks}
+use Rattle.command_plan.specs.declared.checking.CheckEnd.{CheckEnd}
 use Rattle.command_replay.specs.Replays.{Replays}
 use Rattle.command_replay.specs.declared.command.ReplayEnd.{ReplayEnd}
 use Rattle.command_send.specs.Sends.{IsOther}
+use Rattle.mpeg_system.specs.Unwraps.{Unwraps}
+use Rattle.mpeg_system.specs.declared.unwrap_files.UnwrapEnd.{UnwrapEnd}
 use Rattle.pet_text.specs.declared.words.Command.{Command}
-use Rattle.pet_text.specs.declared.words.Command.TheVariants.{Check, Sample, Send, Unwrap}
+use Rattle.pet_text.specs.declared.words.Command.TheVariants.{Sample, Send, Unwrap}
 use Rattle.pet_text.specs.declared.end.End.{End}
 use Rattle.pet_text.specs.declared.end.End.TheVariants.{File, Udp}
 use Rattle.pet_text.specs.Ends.{way_in}
@@ -28,25 +32,12 @@ differs_in words command stream priority name way end words_are is name_is way_i
     subst (λ (w : Way). IsOther w name) (sym way_is)
     (subst (λ (s : List ℕ). IsOther (way_in end) s) (sym name_is) (other_file stream priority end words sent))
 
--- the command, by the words that are handed to `check`
-pub check_words : (command : Command) (stream priority file s p f : List ℕ) → command ≡ Check stream priority file
-    → s ≡ stream → p ≡ priority → f ≡ file → command ≡ Check s p f
-check_words command stream priority file s p f is s_is p_is f_is =
-    is ∙ ap (λ (x : List ℕ). Check x priority file) (sym s_is) ∙ ap (λ (x : List ℕ). Check s x file) (sym p_is)
-    ∙ ap (λ (x : List ℕ). Check s p x) (sym f_is)
-
 -- the id of `unwrap` is that of a video
 pub video_id_in : (words : List (List ℕ)) (command : Command) (file out : List ℕ) (id : ℕ)
     → command_of words ≡ Some command
     → command ≡ Unwrap file id out → (0xE0 ≤ id) × (id ≤ 0xEF)
 video_id_in words command file out id words_are is =
     subst HasNumbers is (has_form command words words_are).1
-
--- the command, by the words that are handed to `unwrap`
-pub unwrap_words : (command : Command) (file : List ℕ) (id : ℕ) (out f o : List ℕ) → command ≡ Unwrap file id out
-    → f ≡ file → o ≡ out → command ≡ Unwrap f id o
-unwrap_words command file id out f o is f_is o_is =
-    is ∙ ap (λ (x : List ℕ). Unwrap x id out) (sym f_is) ∙ ap (λ (x : List ℕ). Unwrap f id x) (sym o_is)
 
 -- the groups of `sample` are some, and not too many
 pub groups_in : (words : List (List ℕ)) (command : Command) (seed groups : ℕ) → command_of words ≡ Some command
@@ -60,3 +51,18 @@ replays_named s p f stream priority script old new end s_is p_is f_is did =
     subst (λ (x : List ℕ). Replays old new stream priority x end) f_is
     (subst (λ (x : List ℕ). Replays old new stream x f end) p_is
     (subst (λ (x : List ℕ). Replays old new x p f end) s_is did))
+
+-- what `check` does of texts that are these names
+pub checks_named : (s p f stream priority plan : List ℕ) (old new : Seen) (end : CheckEnd) → s ≡ stream
+    → p ≡ priority → f ≡ plan → Checks old new s p f end → Checks old new stream priority plan end
+checks_named s p f stream priority plan old new end s_is p_is f_is did =
+    subst (λ (x : List ℕ). Checks old new stream priority x end) f_is
+    (subst (λ (x : List ℕ). Checks old new stream x f end) p_is
+    (subst (λ (x : List ℕ). Checks old new x p f end) s_is did))
+
+-- what `unwrap` does of texts that are these names
+pub unwraps_named : (f o file out : List ℕ) (id : ℕ) (old new : Seen) (end : UnwrapEnd) → f ≡ file → o ≡ out
+    → Unwraps f id o old new end → Unwraps file id out old new end
+unwraps_named f o file out id old new end f_is o_is did =
+    subst (λ (x : List ℕ). Unwraps file id x old new end) o_is
+    (subst (λ (x : List ℕ). Unwraps x id o old new end) f_is did)

@@ -39,8 +39,9 @@ use Rattle.text_status.specs.declared.status.Status.{Status}
 use Rattle.text_status.specs.declared.status.Status.TheVariants.{Done, BadSystem}
 use Rattle.pet_text.specs.declared.words.Command.{Command}
 use Rattle.pet_text.specs.declared.words.Command.TheVariants.{Plan, Check, Send, Receive, Merge, Video, Unwrap, Wrap}
-use Rattle.pet_text.specs.declared.words.Command.TheVariants.{Migrate, Replay, Sample, Repair}
+use Rattle.pet_text.specs.declared.words.Command.TheVariants.{Migrate, Replay, Sample, Repair, Breceive}
 use Rattle.pet_text.specs.Ends.{way_in}
+use Rattle.pet_tool.specs.ByteHeadline.{ByteHeadline}
 use Rattle.pet_tool.specs.Headline.{MeetsHeadline}
 use Rattle.pet_tool.specs.Undisturbed.{IsUndisturbed, IsUndisturbedOn, EndsWith}
 
@@ -176,3 +177,5 @@ Completes (Some (Replay stream priority script)) before after status =
     CompletesReplay stream priority script before after status
 Completes (Some (Sample seed groups)) before after status = CompletesSample seed groups before after status
 Completes (Some (Repair store to)) before after status = CompletesRepair store (way_in to) before after status
+Completes (Some (Breceive from session layers)) before after status =
+    ByteHeadline (way_in from) session layers before after status

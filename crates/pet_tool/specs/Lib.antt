@@ -4,5 +4,6 @@ pub mod Told
 pub mod Does
 pub mod Undisturbed
 pub mod Headline
+pub mod ByteHeadline
 pub mod Completes
 pub mod Starts

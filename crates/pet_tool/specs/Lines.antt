@@ -10,6 +10,8 @@ use Rattle.command_send.specs.declared.command.SendEnd.TheVariants as send
 use Rattle.command_receive.specs.declared.command.ReceiveEnd.{ReceiveEnd}
 use Rattle.command_receive.specs.declared.command.ReceiveEnd.TheVariants as receive
 use Rattle.packet_reading.specs.declared.reading.Totals.{Totals}
+use Rattle.pet_byte.specs.declared.breceive.ByteEnd.{ByteEnd}
+use Rattle.pet_byte.specs.declared.breceive.ByteEnd.TheVariants as byte
 use Rattle.command_merge.specs.declared.command.MergeEnd.{MergeEnd}
 use Rattle.command_merge.specs.declared.command.MergeEnd.TheVariants as merge
 use Rattle.command_video.specs.declared.command.VideoEnd.{VideoEnd}
@@ -30,7 +32,7 @@ use Rattle.pet_text.specs.Lines.{receive_text, merged_text, video_text, unwrappe
 use Rattle.pet_text.specs.Lines.{repaired_text}
 use Rattle.pet_tool.specs.declared.end.End.{End}
 use Rattle.pet_tool.specs.declared.end.End.TheVariants.{Usage, NoMemory, Plan, Check, Send, Receive, Merge, Video}
-use Rattle.pet_tool.specs.declared.end.End.TheVariants.{Unwrap, Wrap, Migrate, Replay, Sample, Repair}
+use Rattle.pet_tool.specs.declared.end.End.TheVariants.{Unwrap, Wrap, Migrate, Replay, Sample, Repair, Breceive}
 
 abbrev pub line_of_plan : PlanEnd → List ℕ
 line_of_plan (plan.Done text) = text.items
@@ -134,7 +136,16 @@ line_of_repair repair.LinkFault = []
 line_of_repair (repair.BadStore at kind) = []
 line_of_repair (repair.Unlike group number) = []
 
--- the line of the port, which `receive` prints itself, is no line of its end
+abbrev pub line_of_breceive : ByteEnd → List ℕ
+line_of_breceive (byte.Done read kept shown) = receive_text read kept shown
+line_of_breceive byte.NoMemory = []
+line_of_breceive byte.PlaceFault = []
+line_of_breceive byte.LinkFault = []
+line_of_breceive byte.OutFault = []
+line_of_breceive (byte.Incomplete read kept shown) = receive_text read kept shown
+line_of_breceive (byte.TurnsSpent read kept shown) = receive_text read kept shown
+
+-- the line of the port, which `receive` and `breceive` print themselves, is no line of their end
 abbrev pub line_of : End → List ℕ
 line_of Usage = []
 line_of NoMemory = []
@@ -150,3 +161,4 @@ line_of (Migrate end) = line_of_migrate end
 line_of (Replay end) = line_of_replay end
 line_of (Sample end) = line_of_sample end
 line_of (Repair end) = line_of_repair end
+line_of (Breceive end) = line_of_breceive end

@@ -27,6 +27,8 @@ use Rattle.command_sample.specs.declared.command.SampleEnd.{SampleEnd}
 use Rattle.command_sample.specs.declared.command.SampleEnd.TheVariants as sample
 use Rattle.pet_repair.specs.declared.repair.RepairEnd.{RepairEnd}
 use Rattle.pet_repair.specs.declared.repair.RepairEnd.TheVariants as repair
+use Rattle.pet_byte.specs.declared.breceive.ByteEnd.{ByteEnd}
+use Rattle.pet_byte.specs.declared.breceive.ByteEnd.TheVariants as byte
 use Rattle.pet_tool.specs.declared.end.End.{End}
 use Rattle.pet_tool.specs.declared.end.End.TheVariants as end
 use Rattle.text_status.specs.declared.status.PlanKind.TheVariants as kind
@@ -148,6 +150,15 @@ status_of_repair repair.LinkFault = LinkFault
 status_of_repair (repair.BadStore at kind) = BadStore 1 at kind
 status_of_repair (repair.Unlike group number) = Unlike group number
 
+abbrev pub status_of_breceive : ByteEnd → Status
+status_of_breceive (byte.Done read kept shown) = Done
+status_of_breceive byte.NoMemory = NoMemory
+status_of_breceive byte.PlaceFault = PlaceFault
+status_of_breceive byte.LinkFault = LinkFault
+status_of_breceive byte.OutFault = OutFault
+status_of_breceive (byte.Incomplete read kept shown) = Incomplete
+status_of_breceive (byte.TurnsSpent read kept shown) = TurnsSpent
+
 abbrev pub status_of : End → Status
 status_of end.Usage = Usage
 status_of end.NoMemory = NoMemory
@@ -163,6 +174,7 @@ status_of (end.Migrate e) = status_of_migrate e
 status_of (end.Replay e) = status_of_replay e
 status_of (end.Sample e) = status_of_sample e
 status_of (end.Repair e) = status_of_repair e
+status_of (end.Breceive e) = status_of_breceive e
 
 -- which statuses tell of a failure of the place, and which of one of the link
 abbrev pub of_place : Status → Bool

@@ -18,6 +18,7 @@ ghost use Rattle.mpeg_system.specs.Wraps.{Wraps};
 ghost use Rattle.outside_routes.specs.Way.{way_of};
 ghost use Rattle.pet_repair.specs.Repairs.{Repairs};
 ghost use Rattle.pet_repair.specs.SentTo.{way_at};
+ghost use Rattle.pet_byte.specs.ReceivesBytes.{ReceivesBytes};
 ghost use Rattle.pet_text.specs.Words.{command_of};
 ghost use Rattle.pet_tool.specs.Does.{Does, Runs, OnFiles, OnRead, OnCountedRead, OnMemory, OnRoutes};
 ghost use Rattle.pet_tool.specs.Lines.{line_of};
@@ -37,6 +38,7 @@ use command_video::video;
 use mpeg_system::{unwrap_loop, wrap_loop};
 use outside_routes::Route;
 use pet_base::{Link, Outside, Place, Sink};
+use pet_byte::breceive_loop;
 use pet_repair::repair_loop;
 use pet_text::{Command, Name};
 use std::alloc::Global;
@@ -62,10 +64,7 @@ pub(crate) fn run_command<P: Place, K: Link, S: Sink, L: Ledger>(
             stream,
             priority,
             plan,
-        } => {
-            let plan = plan.as_str();
-            run_check(alloc, stream.as_str(), priority.as_str(), plan, outside)
-        }
+        } => run_check(alloc, stream, priority, plan, outside),
         Command::Send {
             stream,
             priority,
@@ -88,9 +87,7 @@ pub(crate) fn run_command<P: Place, K: Link, S: Sink, L: Ledger>(
             run_merge(alloc, first.as_str(), second.as_str(), out, outside)
         }
         Command::Video { store, out } => run_video(alloc, store.as_str(), out.as_str(), outside),
-        Command::Unwrap { file, id, out } => {
-            run_unwrap(alloc, file.as_str(), *id, out.as_str(), outside)
-        }
+        Command::Unwrap { file, id, out } => run_unwrap(alloc, file, *id, out, outside),
         Command::Wrap { file, out } => run_wrap(alloc, file.as_str(), out.as_str(), outside),
         Command::Migrate { store, out } => {
             run_migrate(alloc, store.as_str(), out.as_str(), outside)
@@ -102,6 +99,11 @@ pub(crate) fn run_command<P: Place, K: Link, S: Sink, L: Ledger>(
         } => run_replay(alloc, stream, priority, script, outside),
         Command::Sample { seed, groups } => run_sample(alloc, *seed, *groups, outside),
         Command::Repair { store, to } => run_repair(alloc, store.as_str(), to.route(), outside),
+        Command::Breceive {
+            from,
+            session,
+            layers,
+        } => run_breceive(alloc, from.route(), *session, layers.as_str(), outside),
     }
 }
 
@@ -123,9 +125,9 @@ fn run_plan<P: Place, K: Link, S: Sink, L: Ledger>(
 /// Runs `check`.
 fn run_check<P: Place, K: Link, S: Sink, L: Ledger>(
     alloc: Global,
-    stream: &str,
-    priority: &str,
-    plan: &str,
+    stream: &Name,
+    priority: &Name,
+    plan: &Name,
     outside: &mut Outside<P, K, S, L>,
 ) -> End
     ensures does { (told : OutsideSeen) (status : Status) → Tells (line_of result) (status_of result) (seen outside.new) told status
@@ -133,6 +135,8 @@ fn run_check<P: Place, K: Link, S: Sink, L: Ledger>(
     ensures known { result ≢ End.Usage }
     ensures same { AreSame outside.old outside.new }
 {
+    let (stream, priority) = (stream.as_str(), priority.as_str());
+    let plan = plan.as_str();
     End::Check(check(alloc, stream, priority, plan, outside.place))
 }
 
@@ -204,9 +208,9 @@ fn run_video<P: Place, K: Link, S: Sink, L: Ledger>(
 /// Runs `unwrap`.
 fn run_unwrap<P: Place, K: Link, S: Sink, L: Ledger>(
     alloc: Global,
-    file: &str,
+    file: &Name,
     id: u8,
-    out: &str,
+    out: &Name,
     outside: &mut Outside<P, K, S, L>,
 ) -> End
     requires video { (0xE0 ≤ id) × (id ≤ 0xEF) }
@@ -215,6 +219,7 @@ fn run_unwrap<P: Place, K: Link, S: Sink, L: Ledger>(
     ensures known { result ≢ End.Usage }
     ensures same { AreSame outside.old outside.new }
 {
+    let (file, out) = (file.as_str(), out.as_str());
     End::Unwrap(unwrap_loop(alloc, file, id, out, outside.place))
 }
 
@@ -322,4 +327,31 @@ fn name_of(route: Route<'_>) -> (&str, bool)
         Route::File(name) => (name, false),
         Route::Udp(address) => (address, true),
     }
+}
+
+/// Runs `breceive`.
+fn run_breceive<P: Place, K: Link, S: Sink, L: Ledger>(
+    alloc: Global,
+    from: Route<'_>,
+    session: [u8; 8],
+    layers: &str,
+    outside: &mut Outside<P, K, S, L>,
+) -> End
+    ensures does { (told : OutsideSeen) (status : Status) → Tells (line_of result) (status_of result) (seen outside.new) told status
+        → Runs End.Breceive (ReceivesBytes (way_of from.entry) session layers.now) (seen outside.old) told status }
+    ensures known { result ≢ End.Usage }
+    ensures same { AreSame outside.old outside.new }
+{
+    let (from, udp) = name_of(from);
+    End::Breceive(breceive_loop(
+        alloc,
+        from,
+        udp,
+        session,
+        layers,
+        outside.place,
+        outside.link,
+        outside.out,
+        outside.steps,
+    ))
 }

@@ -4,8 +4,9 @@ ghost use Rattle.pet_tool.specs.Lines.{line_of};
 ghost use Rattle.pet_tool.specs.Statuses.{status_of};
 
 use crate::statuses::{
-    check_status, merge_status, migrate_status, plan_status, receive_status, repair_status,
-    replay_status, sample_status, send_status, unwrap_status, video_status, wrap_status,
+    breceive_status, check_status, merge_status, migrate_status, plan_status, receive_status,
+    repair_status, replay_status, sample_status, send_status, unwrap_status, video_status,
+    wrap_status,
 };
 use arrayvec::ArrayVec;
 use command_merge::MergeEnd;
@@ -17,6 +18,7 @@ use command_sample::SampleEnd;
 use command_send::SendEnd;
 use command_video::VideoEnd;
 use mpeg_system::{UnwrapEnd, WrapEnd};
+use pet_byte::ByteEnd;
 use pet_repair::RepairEnd;
 use pet_text::{
     Status, least_line, merged_line, migrated_line, receive_line, repaired_line, send_line,
@@ -54,6 +56,8 @@ pub enum End {
     Sample(SampleEnd),
     /// A run of `repair`.
     Repair(RepairEnd),
+    /// A run of `breceive`.
+    Breceive(ByteEnd),
 }
 
 /// The status of each end.
@@ -76,6 +80,7 @@ pub(crate) fn end_status(end: &End) -> Status
         End::Replay(end) => replay_status(end),
         End::Sample(end) => sample_status(end),
         End::Repair(end) => repair_status(end),
+        End::Breceive(end) => breceive_status(end),
     }
 }
 
@@ -97,6 +102,11 @@ pub(crate) fn end_line<'a>(end: &'a End, room: &'a mut ArrayVec<u8, 64>) -> &'a 
             | ReceiveEnd::Incomplete(totals)
             | ReceiveEnd::TurnsSpent(totals),
         ) => receive_line(totals.read, totals.kept, totals.shown, room),
+        End::Breceive(
+            ByteEnd::Done { read, kept, shown }
+            | ByteEnd::Incomplete { read, kept, shown }
+            | ByteEnd::TurnsSpent { read, kept, shown },
+        ) => receive_line(*read, *kept, *shown, room),
         End::Merge(MergeEnd::Done(packets)) => merged_line(*packets, room),
         End::Video(VideoEnd::Done(bytes)) => video_line(*bytes, room),
         End::Unwrap(UnwrapEnd::Done(bytes)) => unwrapped_line(*bytes, room),
@@ -118,7 +128,8 @@ pub(crate) fn end_line<'a>(end: &'a End, room: &'a mut ArrayVec<u8, 64>) -> &'a 
         | End::Migrate(_)
         | End::Replay(_)
         | End::Sample(_)
-        | End::Repair(_) => {}
+        | End::Repair(_)
+        | End::Breceive(_) => {}
     }
     room.as_slice()
 }

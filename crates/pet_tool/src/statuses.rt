@@ -1,6 +1,6 @@
 //! The status of each end of each command.
 ghost use Rattle.std.specs.Prelude.{◌≡◌, ◌≢◌};
-ghost use Rattle.pet_tool.specs.Statuses.{status_of_plan, status_of_check, status_of_send, status_of_receive, status_of_merge, status_of_video, status_of_unwrap, status_of_wrap, status_of_migrate, status_of_replay, status_of_sample, status_of_repair, status_of_session};
+ghost use Rattle.pet_tool.specs.Statuses.{status_of_plan, status_of_check, status_of_send, status_of_receive, status_of_merge, status_of_video, status_of_unwrap, status_of_wrap, status_of_migrate, status_of_replay, status_of_sample, status_of_repair, status_of_breceive, status_of_session};
 
 use command_merge::MergeEnd;
 use command_migrate::MigrateEnd;
@@ -12,6 +12,7 @@ use command_send::SendEnd;
 use command_video::VideoEnd;
 use mpeg_system::{UnwrapEnd, WrapEnd};
 use pet_base::MAX_GROUPS;
+use pet_byte::ByteEnd;
 use pet_repair::RepairEnd;
 use pet_text::{PlanKind, Status};
 use stream_session::SessionFault;
@@ -195,6 +196,22 @@ pub(crate) fn repair_status(end: &RepairEnd) -> Status
         RepairEnd::LinkFault => Status::LinkFault,
         RepairEnd::BadStore(at, kind) => Status::BadStore(1, *at, *kind),
         RepairEnd::Unlike(group, number) => Status::Unlike(*group, *number),
+    }
+}
+
+/// The status of each end of `breceive`.
+pub(crate) fn breceive_status(end: &ByteEnd) -> Status
+    ensures status { result ≡ status_of_breceive end.now }
+    ensures known { result ≢ Status.Usage }
+{
+    match end {
+        ByteEnd::Done { .. } => Status::Done,
+        ByteEnd::NoMemory => Status::NoMemory,
+        ByteEnd::PlaceFault => Status::PlaceFault,
+        ByteEnd::LinkFault => Status::LinkFault,
+        ByteEnd::OutFault => Status::OutFault,
+        ByteEnd::Incomplete { .. } => Status::Incomplete,
+        ByteEnd::TurnsSpent { .. } => Status::TurnsSpent,
     }
 }
 

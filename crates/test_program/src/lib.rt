@@ -9,6 +9,8 @@ mod statuses;
 pub use statuses::bad_line;
 
 #[cfg(test)]
+mod breceive_run_tests;
+#[cfg(test)]
 mod migrate_tests;
 #[cfg(test)]
 mod repair_run_tests;

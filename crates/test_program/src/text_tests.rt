@@ -56,6 +56,9 @@ fn names_of(command: &Command) -> [&str; 4] {
             script.as_str(),
         ],
         Command::Sample { .. } => ["sample", "", "", ""],
+        Command::Breceive { from, layers, .. } => {
+            ["breceive", text_of(from), layers.as_str(), ""]
+        }
         Command::Repair { store, to } => ["repair", store.as_str(), text_of(to), ""],
     }
 }

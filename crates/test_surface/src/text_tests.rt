@@ -41,6 +41,7 @@ fn names_of(command: &Command) -> (&str, &str) {
         }
         Command::Replay { stream, script, .. } => (stream.as_str(), script.as_str()),
         Command::Sample { .. } => ("", ""),
+        Command::Breceive { from, layers, .. } => (text_of(from), layers.as_str()),
         Command::Repair { store, to } => (store.as_str(), text_of(to)),
     }
 }
@@ -56,7 +57,7 @@ fn text_of(end: &End) -> &str {
 /// Words, and what they name first and last.
 type Row = (&'static [&'static str], &'static str, &'static str);
 
-static ROWS: [Row; 12] = [
+static ROWS: [Row; 13] = [
     (&["plan", "s", "f"], "s", "f"),
     (&["check", "s", "f", "p"], "s", "p"),
     (&["send", "s", "f", "file:d"], "s", "d"),
@@ -72,6 +73,11 @@ static ROWS: [Row; 12] = [
     (&["migrate", "t", "o"], "t", "o"),
     (&["replay", "s", "f", "e"], "s", "e"),
     (&["sample", "1", "4"], "", ""),
+    (
+        &["breceive", "udp:x:1", "0001020304050607", "l"],
+        "x:1",
+        "l",
+    ),
     (&["repair", "t", "file:d"], "t", "d"),
 ];
 

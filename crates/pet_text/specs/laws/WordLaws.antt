@@ -9,10 +9,10 @@ use Rattle.pet_text.specs.declared.end.End.{End}
 use Rattle.pet_text.specs.declared.end.End.TheVariants.{File, Udp}
 use Rattle.pet_text.specs.declared.words.Command.{Command}
 use Rattle.pet_text.specs.declared.words.Command.TheVariants.{Plan, Check, Send, Receive, Merge, Video, Unwrap, Wrap}
-use Rattle.pet_text.specs.declared.words.Command.TheVariants.{Migrate, Replay, Sample, Repair}
+use Rattle.pet_text.specs.declared.words.Command.TheVariants.{Migrate, Replay, Sample, Repair, Breceive}
 use Rattle.pet_text.specs.Words.{is_name, digit_of, end_of, session_of, id_of, some_groups, plain_number, groups_of}
 use Rattle.pet_text.specs.Words.{names_files, if_named, send_of, receive_of, unwrap_of, sample_of, repair_of}
-use Rattle.pet_text.specs.Words.{command_of}
+use Rattle.pet_text.specs.Words.{breceive_of, command_of}
 use Rattle.pet_text.specs.inside.WrittenFiles.{writes_others}
 
 -- the id of `unwrap` is that of a video, from E0 to EF, and the groups of `sample` are from 1 to 100
@@ -98,6 +98,12 @@ module _ (c : Command) where
   by_receive (Some from) None layers store e = by_none e
   by_receive (Some from) (Some session) layers store e = by_named (Receive from session layers store) tt e
 
+  by_breceive : (from : Option End) (session : Option (List ℕ)) (layers : List ℕ)
+      → breceive_of from session layers ≡ Some c → HasForm c
+  by_breceive None session layers e = by_none e
+  by_breceive (Some from) None layers e = by_none e
+  by_breceive (Some from) (Some session) layers e = by_named (Breceive from session layers) tt e
+
   by_unwrap : (file : List ℕ) (id : Option ℕ) (out : List ℕ) → ((n : ℕ) → id ≡ Some n → (0xE0 ≤ n) × (n ≤ 0xEF))
       → unwrap_of file id out ≡ Some c → HasForm c
   by_unwrap file None out is e = by_none e
@@ -136,7 +142,9 @@ module _ (c : Command) where
       (either (bytes_eq word (codes "send")) _ _ (by_send first second (end_of 1 third))
       (either (bytes_eq word (codes "merge")) _ _ (by_named (Merge first second third) tt)
       (either (bytes_eq word (codes "unwrap")) _ _ (by_unwrap first (id_of second) third (video_id_of second))
-      (either (bytes_eq word (codes "replay")) _ _ (by_named (Replay first second third) tt) by_none))))
+      (either (bytes_eq word (codes "replay")) _ _ (by_named (Replay first second third) tt)
+      (either (bytes_eq word (codes "breceive")) _ _ (by_breceive (end_of 0 first) (session_of second) third)
+      by_none)))))
       e
   has_form (word ∷ first ∷ second ∷ third ∷ fourth ∷ []) e =
       either (bytes_eq word (codes "receive")) _ _
@@ -166,6 +174,8 @@ others (Wrap file out) e = behind file out (not (bytes_eq out file)) e
 others (Migrate store out) e = behind store out (not (bytes_eq out store)) e
 others (Replay stream priority script) e = refl
 others (Sample seed groups) e = refl
+others (Breceive (Udp address) session layers) e = refl
+others (Breceive (File from) session layers) e = (and_parts (is_name layers) (not (bytes_eq from layers)) e).1
 others (Repair store (Udp address)) e = refl
 others (Repair store (File to)) e = (and_parts (is_name store) (not (bytes_eq to store)) e).1
 

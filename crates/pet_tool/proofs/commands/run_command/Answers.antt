@@ -3,7 +3,7 @@ use Rattle.outside_routes.specs.Way.{way_of}
 use Rattle.pet_base.specs.Lent.{seen}
 use Rattle.pet_text.specs.declared.words.Command.{Command}
 use Rattle.pet_tool.specs.Does.{Does}
-use Rattle.pet_tool.proofs.WordsRead.{check_words, differs_in, groups_in, unwrap_words, video_id_in}
+use Rattle.pet_tool.proofs.WordsRead.{differs_in, groups_in, video_id_in}
 use Rattle.pet_tool.proofs.commands.run_command.Goals as goal
 
 pub run_send-requires : goal.run_send-requires
@@ -30,15 +30,12 @@ run_sample-requires g c =
 
 pub returns-in-Check-clause-does : goal.returns-in-Check-clause-does
 returns-in-Check-clause-does g c told status tells =
-    subst (λ (command : Command). Does (Some command) (seen c.args.outside.now) told status)
-    (sym (check_words _ _ _ _ _ _ _ c.in-Check.is c.as_str-in-Check.ensures c.as_str-in-Check-2.ensures
-    c.as_str-plan.ensures)) (c.run_check.ensures.does told status tells)
+    subst (λ (command : Command). Does (Some command) (seen c.args.outside.now) told status) (sym c.in-Check.is)
+    (c.run_check.ensures.does told status tells)
 
 pub returns-in-Unwrap-clause-does : goal.returns-in-Unwrap-clause-does
 returns-in-Unwrap-clause-does g c told status tells =
-    subst (λ (command : Command). Does (Some command) (seen c.args.outside.now) told status)
-    (sym (unwrap_words c.args.command.now c.in-Unwrap.file c.in-Unwrap.id c.in-Unwrap.out c.as_str-in-Unwrap.result.now
-    c.as_str-in-Unwrap-2.result.now c.in-Unwrap.is c.as_str-in-Unwrap.ensures c.as_str-in-Unwrap-2.ensures))
+    subst (λ (command : Command). Does (Some command) (seen c.args.outside.now) told status) (sym c.in-Unwrap.is)
     (c.run_unwrap.ensures.does told status tells)
 
 pub returns-in-Sample-clause-does : goal.returns-in-Sample-clause-does
