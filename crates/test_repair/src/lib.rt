@@ -9,4 +9,6 @@ mod encoder_tests;
 #[cfg(test)]
 mod fixtures;
 #[cfg(test)]
+mod relay_tests;
+#[cfg(test)]
 mod repair_tests;
