@@ -133,41 +133,20 @@ fn is_so<L: Ledger>(
     Ok(end == case.2 && left && out.bytes().is_empty())
 }
 
+/// Whether `breceive` ends so, with a counter of its own.
+fn is_so_alone(alloc: Global, frames: &[u8], case: &Case) -> Result<bool, NoMemory> {
+    is_so::<Brand>(alloc, frames, case, Blank::new(1))
+}
+
 /// The number of the first case that is not so.
 fn first_otherwise(alloc: Global, frames: &[u8]) -> Option<usize> {
     for row in 0..CASES.len() {
-        let so = is_so::<Brand>(alloc, frames, &CASES[row], Blank::new(1));
+        let so = is_so_alone(alloc, frames, &CASES[row]);
         if !so.unwrap_or(false) {
             return Some(row);
         }
     }
     None
-}
-
-/// How `breceive` ends by a link to which nothing comes, the output failing or not, what it has printed, and whether LAYERS is
-/// there.
-fn heard<L: Ledger>(
-    alloc: Global,
-    failing: &[u64],
-    printed: &str,
-    blank: Blank,
-) -> Result<(ByteEnd, bool, bool), NoMemory>
-    requires name { blank.name ≡ L.name }
-    requires parts { blank.parts ≡ L.parts }
-    requires some { 0 < blank.parts }
-{
-    let mut place = MemoryPlace::new(alloc, Vec::new(alloc));
-    let mut link = MemoryLink::new(alloc, Vec::new(alloc), Vec::new(alloc));
-    let mut out = MemorySink::new(alloc, Vec::from_slice(alloc, failing)?);
-    let mut steps = Steps::<L>::new(blank);
-    let end = breceive_loop(
-        alloc, "x:1", true, SESSION, "c", &mut place, &mut link, &mut out, &mut steps,
-    );
-    Ok((
-        end,
-        out.bytes() == printed.as_bytes(),
-        place.bytes_of("c").is_some(),
-    ))
 }
 
 #[test]
@@ -208,20 +187,5 @@ fn keeps_no_packet_of_today(rt: HostRuntime) -> Result<(), Fail> {
         shown: 0,
     };
     assert!(rt; of_today::<Brand>(rt.alloc(), Blank::new(1))? == none);
-    Ok(())
-}
-
-#[test]
-fn tells_the_port_of_a_link(rt: HostRuntime) -> Result<(), Fail> {
-    let alloc = rt.alloc();
-    let none = ByteEnd::Incomplete {
-        read: 0,
-        kept: 0,
-        shown: 0,
-    };
-    let heard_none = heard::<Brand>(alloc, &[], "bound 40000\n", Blank::new(1))?;
-    assert!(rt; heard_none == (none, true, true));
-    let unheard = heard::<Brand>(alloc, &[0], "", Blank::new(1))?;
-    assert!(rt; unheard == (ByteEnd::OutFault, true, false));
     Ok(())
 }

@@ -13,4 +13,6 @@ mod breceive_tests;
 #[cfg(test)]
 mod field_tests;
 #[cfg(test)]
+mod random_tests;
+#[cfg(test)]
 mod session_tests;
