@@ -1,4 +1,4 @@
-//! A relay of packets of the example session, from a file and by a link in memory.
+//! A relay of packets of the example session, from a file in memory to another.
 ghost use Rattle.std.specs.Prelude.{◌≡◌, ◌<◌};
 
 use crate::fixtures::{FORGED, entries_of};
@@ -7,7 +7,7 @@ use pet_repair::{RelayEnd, relay_loop};
 use std::alloc::Global;
 use std::marker::Brand;
 use std::sync::ledger::{Blank, Ledger};
-use test_example::{SESSION, packets};
+use test_example::SESSION;
 
 /// The packets of FROM, by number; the calls of the place that fail; the end; and the packets and the bytes that TO then has,
 /// where it was made.
@@ -101,80 +101,4 @@ fn first_otherwise(alloc: Global) -> Option<usize> {
 #[test]
 fn relays_packets_to_a_file(rt: HostRuntime) {
     assert_eq!(rt; first_otherwise(rt.alloc()), None);
-}
-
-/// The packets of these numbers, as datagrams.
-fn datagrams_of(alloc: Global, numbers: &[u8]) -> Result<Vec<Vec<u8>>, NoMemory> {
-    let entries = packets();
-    let mut datagrams = Vec::new(alloc);
-    for number in numbers {
-        if let Some(entry) = entries.get(usize::from(*number)) {
-            datagrams.push(Vec::from_slice(alloc, &entry[2..])?)?;
-        }
-    }
-    Ok(datagrams)
-}
-
-/// How a relay between addresses ends whose link fails at these calls, and whether it has then sent the packets of these
-/// numbers, and printed the line of a port, or nothing.
-fn relays_so<L: Ledger>(
-    alloc: Global,
-    failing: [&[u64]; 2],
-    sent: &[u8],
-    printed: &str,
-    blank: Blank,
-) -> Result<(RelayEnd, bool), NoMemory>
-    requires name { blank.name ≡ L.name }
-    requires parts { blank.parts ≡ L.parts }
-    requires some { 0 < blank.parts }
-{
-    let mut place = MemoryPlace::new(alloc, Vec::new(alloc));
-    let feed = datagrams_of(alloc, ALL)?;
-    let mut link = MemoryLink::new(alloc, feed, Vec::from_slice(alloc, failing[0])?);
-    let mut out = MemorySink::new(alloc, Vec::from_slice(alloc, failing[1])?);
-    let mut steps = Steps::<L>::new(blank);
-    let end = relay_loop(
-        alloc, "x:1", true, SESSION, "x:2", true, &mut place, &mut link, &mut out, &mut steps,
-    );
-    let as_told = link.sent() == datagrams_of(alloc, sent)?.as_slice();
-    Ok((end, as_told && out.bytes() == printed.as_bytes()))
-}
-
-/// Whether a relay between addresses ends so, has sent these packets and has printed this.
-fn relays(alloc: Global, failing: [&[u64]; 2], end: RelayEnd, sent: &[u8], printed: &str) -> bool {
-    match relays_so::<Brand>(alloc, failing, sent, printed, Blank::new(1)) {
-        Ok(found) => found.0 == end && found.1,
-        Err(_) => false,
-    }
-}
-
-#[test]
-fn relays_packets_between_addresses(rt: HostRuntime) {
-    let done = RelayEnd::Done { read: 7, sent: 6 };
-    assert!(rt;
-        relays(
-            rt.alloc(),
-            [&[], &[]],
-            done,
-            &[3, 0, 4, 5, 1, 2],
-            "bound 40000\n"
-        )
-    );
-}
-
-/// The output fails, and then the link: what came before is sent.
-#[test]
-fn stops_where_a_call_fails(rt: HostRuntime) {
-    let alloc = rt.alloc();
-    assert!(rt; relays(alloc, [&[], &[0]], RelayEnd::OutFault, &[], ""));
-    assert!(rt; relays(alloc, [&[0], &[]], RelayEnd::LinkFault, &[], ""));
-    assert!(rt;
-        relays(
-            alloc,
-            [&[6], &[]],
-            RelayEnd::LinkFault,
-            &[3],
-            "bound 40000\n"
-        )
-    );
 }
