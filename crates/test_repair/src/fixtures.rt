@@ -1,4 +1,5 @@
 //! Stores of the example session, and a packet that is forged: their tags were made in Python.
+use crate::count_bytes;
 use std::alloc::{AllocError, Global};
 use test_example::{SESSION, packets};
 
@@ -79,7 +80,7 @@ pub(crate) fn entries_of(alloc: Global, numbers: &[u8]) -> Result<Vec<u8>, Alloc
 pub(crate) fn store_bytes(alloc: Global, store: &Store) -> Result<Vec<u8>, AllocError> {
     let mut bytes = Vec::from_slice(alloc, b"PTS2")?;
     bytes.extend_from_slice(&SESSION)?;
-    bytes.extend_from_slice(&[0, 0, 0, (store.0.len() % 256) as u8])?;
+    bytes.extend_from_slice(&count_bytes((store.0.len() % 256) as u8))?;
     for number in store.0 {
         append_entry(*number, &mut bytes)?;
     }

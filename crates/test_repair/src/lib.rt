@@ -4,6 +4,10 @@
 //! the tests' own. No program uses this crate.
 #![tactic(auto)]
 
+mod head;
+
+pub use head::count_bytes;
+
 #[cfg(test)]
 mod encoder_tests;
 #[cfg(test)]
