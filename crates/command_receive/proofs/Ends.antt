@@ -11,9 +11,10 @@ use Rattle.command_receive.specs.declared.command.ReceiveEnd.TheVariants.{OutFau
 use Rattle.command_receive.specs.declared.reading.Reading.{Reading}
 use Rattle.packet_reading.specs.declared.reading.Totals.{Totals}
 use Rattle.outside_routes.specs.RouteFaults.{stop_of_a_place, stop_of_a_link}
+use Rattle.packet_reading.specs.Begun.{stop_of_an_output}
 use Rattle.outside_routes.specs.declared.fault.RouteStop.{RouteStop}
 use Rattle.outside_routes.specs.declared.fault.RouteStop.TheVariants as stop
-use Rattle.command_receive.specs.Failures.{end_of_place, end_of_link}
+use Rattle.command_receive.specs.Failures.{end_of_place, end_of_link, end_of_output}
 use Rattle.command_receive.specs.inside.Numbers.{IsReadingOf, IsEndOf, end_of}
 use Rattle.command_receive.specs.Opened.{IsBoundTo, PrintedPort}
 use Rattle.command_receive.specs.Receives.{AreTotals, IsBoundAtEnd, Reads, EndsReceive}
@@ -71,11 +72,17 @@ link_alike stop.Place = refl
 link_alike stop.Link = refl
 link_alike stop.Out = refl
 
+pub output_alike : (s : RouteStop) → stop_of_an_output s ≡ end_of_output (end_of s)
+output_alike stop.NoMemory = refl
+output_alike stop.Place = refl
+output_alike stop.Link = refl
+output_alike stop.Out = refl
+
 pub calm_at : (reading : Reading) (end : ReceiveEnd) → IsEndOf reading end
-    → (end_of_place end ≡ false) × (end_of_link end ≡ false)
-calm_at reading (Done totals) is = (refl, refl)
-calm_at reading (Incomplete totals) is = (refl, refl)
-calm_at reading (TurnsSpent totals) is = (refl, refl)
+    → (end_of_place end ≡ false) × (end_of_link end ≡ false) × (end_of_output end ≡ false)
+calm_at reading (Done totals) is = (refl, refl, refl)
+calm_at reading (Incomplete totals) is = (refl, refl, refl)
+calm_at reading (TurnsSpent totals) is = (refl, refl, refl)
 calm_at reading NoMemory is = absurd is
 calm_at reading PlaceFault is = absurd is
 calm_at reading LinkFault is = absurd is

@@ -2,16 +2,16 @@
 use Rattle.std.proofs.Common.{◌≡◌, ◌⊎◌, ◌<◌, ℕ, List, [], ◌∷◌, None, Some, ap, subst, ◌∙◌, arith, inl, inr}
 use Rattle.pet_base.specs.OutsideSeen.{OutsideSeen}
 use Rattle.outside_files.specs.Wrote.{File, Wrote}
-use Rattle.outside_files.specs.laws.WroteLaws.{Wrote-as_front, Wrote-then}
+use Rattle.outside_files.specs.laws.WroteLaws.{Wrote-then}
 use Rattle.outside_routes.specs.Way.{Way}
 use Rattle.field_elements.specs.Gf16.{gf16_coding}
 use Rattle.packet_frame.specs.declared.format.TheConstants.{FORMAT}
 use Rattle.packet_verdicts.specs.KeptSet.{KeptSet}
 use Rattle.packet_met.specs.Kept.{kept_of}
 use Rattle.packet_reading.specs.Layers.{ReadsLayersIn}
-use Rattle.packet_reading.specs.laws.ReadLaws.{first_of_all, read_still}
+use Rattle.packet_reading.specs.laws.ReadLaws.{read_still}
 use Rattle.store_text.specs.Files.{store_file}
-use Rattle.command_receive.specs.Receives.{IsRead, layers_file, kept_file, Reads, LeavesLayersFront}
+use Rattle.command_receive.specs.Receives.{IsRead, layers_file, kept_file, Reads, StoresFront}
 
 module _ (from : Way) (session layers store : List ℕ) (before new stored : OutsideSeen) (kept : KeptSet)
     (r : ReadsLayersIn FORMAT (λ a. a < 65536) gf16_coding from session layers before new)
@@ -44,26 +44,21 @@ module _ (from : Way) (session layers store : List ℕ) (before new stored : Out
   -- the store could not be written
   pub store_leaves : (stored.place.files ≡ new.place.files)
       ⊎ Wrote [] (Some (store_file store kept)) new.place stored.place
-      → LeavesLayersFront from session layers store before stored
-  store_leaves (inl same_files) =
-      inl (record {
-        read = r.read;
-        text = r.text;
-        few = r.few;
-        input = first_of_all from r.read before stored r.few input_read;
-        is_text = r.is_text;
-        file = Wrote-as_front [] (layers_file layers r.text) before.place stored.place (same_files ∙ r.file);
-      })
-  store_leaves (inr front) =
-      let part : Wrote [] (Some (kept_file store session r.read)) new.place stored.place =
-      subst (λ (f : File). Wrote [] (Some f) new.place stored.place) kept_is front in
-      inr (record {
-        read = r.read;
-        text = r.text;
-        few = r.few;
-        input = input_read;
-        is_text = r.is_text;
-        files =
-            Wrote-then (layers_file layers r.text ∷ []) []
-            (Some (kept_file store session r.read)) before.place new.place stored.place r.file part;
-      })
+      → StoresFront from session layers store before stored
+  store_leaves front = record {
+    read = r.read;
+    text = r.text;
+    few = r.few;
+    input = input_read;
+    is_text = r.is_text;
+    files = by front;
+  }
+    where
+      by : (stored.place.files ≡ new.place.files) ⊎ Wrote [] (Some (store_file store kept)) new.place stored.place
+          → Wrote (layers_file layers r.text ∷ []) None before.place stored.place
+          ⊎ Wrote (layers_file layers r.text ∷ []) (Some (kept_file store session r.read)) before.place stored.place
+      by (inl same_files) = inl (same_files ∙ r.file)
+      by (inr part) =
+          inr (Wrote-then (layers_file layers r.text ∷ []) [] (Some (kept_file store session r.read)) before.place
+          new.place stored.place r.file
+          (subst (λ (f : File). Wrote [] (Some f) new.place stored.place) kept_is part))

@@ -5,10 +5,9 @@ use Rattle.pet_base.specs.declared.faults.Stop.{Stop}
 use Rattle.pet_base.specs.declared.faults.Stop.TheVariants as place
 use Rattle.pet_base.specs.LinkSeen.{LinkSeen}
 use Rattle.pet_base.specs.OutsideSeen.{OutsideSeen}
-use Rattle.pet_base.specs.Seen.{Blame}
 use Rattle.pet_base.specs.laws.SeenLaws.{HadFault-since}
 use Rattle.outside_files.specs.Inputs.{Licensed}
-use Rattle.outside_files.specs.Uses.{writing, IsOneOf, Failed}
+use Rattle.outside_files.specs.Uses.{writing, Failed}
 use Rattle.outside_files.specs.Wrote.{Wrote}
 use Rattle.outside_routes.specs.Way.{Way}
 use Rattle.outside_routes.specs.RouteFaults.{stop_of_place}
@@ -24,14 +23,8 @@ use Rattle.packet_reading.specs.laws.ReadLaws.{feed_same, stop_is}
 use Rattle.store_text.specs.Files.{store_file}
 use Rattle.command_receive.specs.inside.Numbers.{end_of}
 use Rattle.command_receive.specs.Opened.{PrintedPort}
-use Rattle.command_receive.specs.Receives.{IsBoundAtEnd, IsRead, IsUseInTurn, EndsReceive}
-use Rattle.command_receive.proofs.FilesRead.{input_read, store_leaves}
-
--- the store is blamed in its turn
-store_used : (from : Way) (layers store : List ℕ) (before after : OutsideSeen) (read : List (List ℕ))
-    → IsRead from read before after → (b : Blame) → IsOneOf (writing store ∷ []) b
-    → IsUseInTurn from layers store before after b
-store_used from layers store before after read input b is = inr (is, (read, input))
+use Rattle.command_receive.specs.Receives.{IsBoundAtEnd, EndsReceive}
+use Rattle.command_receive.proofs.FilesRead.{store_leaves}
 
 -- while FROM was opened and read
 pub stops_reading : (stop : RouteStop) (from : Way) (session layers store : List ℕ) (before after : OutsideSeen)
@@ -39,16 +32,7 @@ pub stops_reading : (stop : RouteStop) (from : Way) (session layers store : List
     → EndsReceive from session layers store before after (end_of stop)
 stops_reading stop.NoMemory from session layers store before after (inl untouched) = inl untouched
 stops_reading stop.NoMemory from session layers store before after (inr front) = inr (inl front.0, front.1)
-stops_reading stop.Place from session layers store before after (had, inl untouched, port) = (
-  HadFault-since before.place before.place after.place _ _ (omega arith) (λ b is. inl is) had,
-  inl untouched,
-  port,
-)
-stops_reading stop.Place from session layers store before after (had, inr front, port) = (
-  HadFault-since before.place before.place after.place _ _ (omega arith) (λ b is. inl is) had,
-  inr (inl front),
-  port,
-)
+stops_reading stop.Place from session layers store before after stops = (inl stops.0, stops.1)
 stops_reading stop.Link from session layers store before after stops = stops
 stops_reading stop.Out from session layers store before after stops = stops
 
@@ -61,12 +45,12 @@ pub stops_storing : (stop : Stop) (from : Way) (session layers store : List ℕ)
     → Licensed (Failed (writing store ∷ []) new.place stored.place) stop
     → EndsReceive from session layers store before stored (end_of (stop_of_place stop))
 stops_storing place.NoMemory from session layers store before new stored kept r same link later port front cause =
-    inr (store_leaves from session layers store before new stored kept r same link front, port)
+    inr (inr (store_leaves from session layers store before new stored kept r same link front), port)
 stops_storing place.Failed from session layers store before new stored kept r same link later port front cause = (
-  HadFault-since before.place new.place stored.place _ _ later
-      (store_used from layers store before stored r.read
-      (input_read from session layers store before new stored kept r same link)) cause,
-  inr (store_leaves from session layers store before new stored kept r same link front),
+  inr (
+    HadFault-since before.place new.place stored.place _ _ later (λ b is. is) cause,
+    store_leaves from session layers store before new stored kept r same link front,
+  ),
   port,
 )
 

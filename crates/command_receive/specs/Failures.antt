@@ -1,4 +1,5 @@
--- Which ends of `receive` tell of a failure of the place, and which of one of the link. This project's own.
+-- Which ends of `receive` tell of a failure of the place, which of one of the link, and which of one of the output. This
+-- project's own.
 use Rattle.std.specs.Prelude.{Bool, true, false}
 use Rattle.command_receive.specs.declared.command.ReceiveEnd.{ReceiveEnd}
 use Rattle.command_receive.specs.declared.command.ReceiveEnd.TheVariants.{Done, NoMemory, PlaceFault, LinkFault}
@@ -21,3 +22,12 @@ end_of_link LinkFault = true
 end_of_link OutFault = false
 end_of_link (Incomplete totals) = false
 end_of_link (TurnsSpent totals) = false
+
+abbrev pub end_of_output : ReceiveEnd → Bool
+end_of_output (Done totals) = false
+end_of_output NoMemory = false
+end_of_output PlaceFault = false
+end_of_output LinkFault = false
+end_of_output OutFault = true
+end_of_output (Incomplete totals) = false
+end_of_output (TurnsSpent totals) = false

@@ -17,8 +17,10 @@ use Rattle.store_text.specs.Files.{store_file}
 use Rattle.packet_met.specs.Kept.{nothing_of, kept_of}
 use Rattle.packet_met.specs.Gf16.{IsLayersText}
 use Rattle.packet_met.specs.Steps.{steps_of_all}
-use Rattle.command_receive.specs.Opened.{IsBoundTo, IsOpeningUse, IsUntouched, KeepsLink, PortFailed, PrintedPort}
-use Rattle.packet_reading.specs.Layers.{AreTotalsIn, ReadsFrontIn, ReadsUntilFaultIn}
+use Rattle.command_receive.specs.Failures.{end_of_output}
+use Rattle.command_receive.specs.Opened.{IsBoundTo, IsUntouched, KeepsLink, PortFailed, PrintedPort}
+use Rattle.packet_reading.specs.Begun.{OutStops}
+use Rattle.packet_reading.specs.Layers.{AreTotalsIn, ReadsFrontIn, ReadsUntilFaultIn, StopsAtFileIn}
 -- what was read of FROM, and LAYERS, are those of every reading
 pub use Rattle.packet_reading.specs.Layers.{AreRead, HaveLeft, IsRead, IsReadFirst, layers_file, port_line}
 use Rattle.packet_reading.specs.declared.reading.Totals.{Totals}
@@ -47,20 +49,27 @@ abbrev pub ReadsFront : Way → List ℕ → List ℕ → OutsideSeen → Outsid
 ReadsFront from session layers before after =
     ReadsFrontIn FORMAT (λ a. a < 65536) gf16_coding from session layers before after
 
--- The datagrams of FROM were read, LAYERS has their layers text, and STORE a front of the store of what is kept of
--- them.
+-- The datagrams of FROM were read, LAYERS has their layers text, and STORE was not made, or has a front of the store of
+-- what is kept of them.
 pub record StoresFront (from : Way) (session layers store : List ℕ) (before after : OutsideSeen) : Type 0 where
   pub read : List (List ℕ)
   pub text : List ℕ
   pub few : length read ≤ MAX_DATAGRAMS
   pub input : IsRead from read before after
   pub is_text : IsLayersText (nothing_of session) [] 1 read text
-  pub files : Wrote (layers_file layers text ∷ []) (Some (kept_file store session read)) before.place after.place
+  pub files :
+      Wrote (layers_file layers text ∷ []) None before.place after.place
+      ⊎ Wrote (layers_file layers text ∷ []) (Some (kept_file store session read)) before.place after.place
 
--- The link failed while datagrams were to come: LAYERS has the whole layers text of those that have left the link.
-abbrev pub ReadsUntilFault : List ℕ → List ℕ → OutsideSeen → OutsideSeen → Type 0
-ReadsUntilFault session layers before after =
-    ReadsUntilFaultIn FORMAT (λ a. a < 65536) gf16_coding session layers before after
+-- FROM failed while datagrams were to come: LAYERS has the whole layers text of those that came before.
+abbrev pub ReadsUntilFault : Way → List ℕ → List ℕ → OutsideSeen → OutsideSeen → Type 0
+ReadsUntilFault from session layers before after =
+    ReadsUntilFaultIn FORMAT (λ a. a < 65536) gf16_coding from session layers before after
+
+-- Where the place failed while FROM was opened and read, and LAYERS written.
+abbrev pub StopsAtFile : Way → List ℕ → List ℕ → OutsideSeen → OutsideSeen → Type 0
+StopsAtFile from session layers before after =
+    StopsAtFileIn FORMAT (λ a. a < 65536) gf16_coding from session layers before after
 
 -- LAYERS has such a front, or LAYERS is whole and STORE has one
 abbrev pub LeavesLayersFront : Way → List ℕ → List ℕ → List ℕ → OutsideSeen → OutsideSeen → Type 0
@@ -76,14 +85,15 @@ abbrev pub uses_of : Way → List ℕ → List ℕ → List Blame
 uses_of (OnFile name) layers store = reading name ∷ writing layers ∷ writing store ∷ []
 uses_of (OnLink address) layers store = writing layers ∷ writing store ∷ []
 
--- what may be blamed in its turn: FROM, where it is a file, and LAYERS, and STORE where the datagrams of FROM were read
-abbrev pub IsUseInTurn : Way → List ℕ → List ℕ → OutsideSeen → OutsideSeen → Blame → Type 0
-IsUseInTurn from layers store before after blame =
-    IsOpeningUse from layers blame
-    ⊎ ((blame ≡ writing store) × ((read : List (List ℕ)) × IsRead from read before after))
+-- Where the place failed: at FROM or at LAYERS; or at STORE, once the datagrams were read and LAYERS is whole.
+abbrev pub StopsAtFileOrStore : Way → List ℕ → List ℕ → List ℕ → OutsideSeen → OutsideSeen → Type 0
+StopsAtFileOrStore from session layers store before after =
+    StopsAtFile from session layers before after
+    ⊎ (HadFault before.place after.place (λ blame. blame ≡ writing store)
+    × StoresFront from session layers store before after)
 
 -- At an end with numbers the datagrams were read, LAYERS and STORE are whole, and these are the numbers of what was read.
--- Where memory or the place failed LAYERS, or then STORE, has at most a front; where the link failed LAYERS has the
+-- Where memory failed LAYERS, or then STORE, has at most a front; where FROM failed, a file or the link, LAYERS has the
 -- whole text of what came. Nothing is printed but the line of the port of a link, before LAYERS is made; where the
 -- output failed there, no file was made.
 abbrev pub EndsReceive : Way → List ℕ → List ℕ → List ℕ → OutsideSeen → OutsideSeen → ReceiveEnd → Type 0
@@ -104,13 +114,11 @@ EndsReceive from session layers store before after NoMemory =
     (IsUntouched from before after × Unprinted before after)
     ⊎ (LeavesLayersFront from session layers store before after × PrintedPort from before after)
 EndsReceive from session layers store before after PlaceFault =
-    HadFault before.place after.place (IsUseInTurn from layers store before after)
-    × (IsUntouched from before after ⊎ LeavesLayersFront from session layers store before after)
-    × PrintedPort from before after
+    StopsAtFileOrStore from session layers store before after × PrintedPort from before after
 EndsReceive from session layers store before after LinkFault =
     BoundFailed from before.link after.link
     × ((IsUntouched from before after × Unprinted before after)
-    ⊎ (ReadsUntilFault session layers before after × PrintedPort from before after))
+    ⊎ (ReadsUntilFault from session layers before after × PrintedPort from before after))
 
 -- The link receives at FROM, at each end that tells of what came or comes behind the making of LAYERS. Want of memory,
 -- and a failure of
@@ -124,11 +132,12 @@ IsBoundAtEnd from old new PlaceFault = IsBoundTo from old new
 IsBoundAtEnd from old new NoMemory = KeepsFeed from old new ⊎ IsBoundTo from old new
 IsBoundAtEnd from old new LinkFault = KeepsFeed from old new ⊎ IsBoundTo from old new
 
--- what `receive` does: it sends nothing, the link receives at FROM, and the faults of the link and of the output do not
--- fall
+-- what `receive` does: it sends nothing, the link receives at FROM, the faults of the link and of the output do not
+-- fall, and the output fails once at OutFault and at no other end
 pub record Receives (from : Way) (session layers store : List ℕ) (before after : OutsideSeen)
     (end : ReceiveEnd) : Type 0 where
   pub link : KeepsLink from before.link after.link
   pub bound : IsBoundAtEnd from before.link after.link end
   pub later : before.out_faults ≤ after.out_faults
+  pub out : OutStops (end_of_output end) before after
   pub ends : EndsReceive from session layers store before after end

@@ -6,7 +6,7 @@ ghost use Rattle.pet_base.specs.Seen.{PlaceStops};
 ghost use Rattle.pet_base.specs.LinkSeen.{LinkStops};
 ghost use Rattle.outside_routes.specs.Way.{way_of};
 ghost use Rattle.outside_routes.specs.RouteFaults.{stop_of_a_place, stop_of_a_link};
-ghost use Rattle.packet_reading.specs.Begun.{IsBoundWhereStopped};
+ghost use Rattle.packet_reading.specs.Begun.{IsBoundWhereStopped, OutStops, stop_of_an_output};
 ghost use Rattle.command_receive.specs.inside.Numbers.{IsReadingOf, end_of};
 ghost use Rattle.command_receive.specs.Opened.{IsBoundTo, KeepsLink, PrintedPort};
 ghost use Rattle.command_receive.specs.Receives.{Reads, EndsReceive};
@@ -49,6 +49,7 @@ pub(crate) fn read_all<P: Place, K: Link, S: Sink, L: Ledger>(
         (seen outside.new).link) }
     ensures bound { IfErr result (IsBoundWhereStopped (way_of from.entry) (seen outside.old).link
         (seen outside.new).link) }
+    ensures out { OutStops (stops stop_of_an_output result) (seen outside.old) (seen outside.new) }
     ensures later { (seen outside.old).out_faults ≤ (seen outside.new).out_faults }
     ensures same { AreSame outside.old outside.new }
     ensures once_place { PlaceStops (stops stop_of_a_place result) (seen outside.old).place

@@ -6,9 +6,13 @@ use Rattle.std.proofs.lemmas.List.{length_push, append-nil}
 use Rattle.pet_base.specs.declared.limits.TheConstants.{MAX_DATAGRAMS}
 use Rattle.pet_base.specs.declared.entry.Entry.TheVariants.{Datagram, End}
 use Rattle.pet_base.specs.Entries.{datagrams}
-use Rattle.pet_base.specs.Seen.{Seen, Files, Grows, OnlyReads, OnlyWrites, KeepsNames}
+use Rattle.pet_base.specs.Seen.{Seen, Files, Grows, HadFault, OnlyReads, OnlyWrites, KeepsNames}
 use Rattle.pet_base.specs.LinkSeen.{LinkSeen}
-use Rattle.pet_base.specs.laws.SeenLaws.{Grows-then}
+use Rattle.pet_base.specs.laws.SeenLaws.{Grows-then, HadFault-since}
+use Rattle.pet_base.specs.Causes.{Blames}
+use Rattle.pet_base.specs.declared.place.Side.TheVariants.{Read, Written}
+use Rattle.pet_base.specs.declared.link.LinkSide.TheVariants.{Bound}
+use Rattle.packet_reading.specs.Begun.{LinkReceives}
 use Rattle.outside_routes.specs.Way.{Way, OnFile, OnLink}
 use Rattle.outside_routes.specs.Coming.{coming, HaveCome, KeepsFeed, TakesDatagram}
 use Rattle.outside_routes.specs.Sending.{AreFirstDatagrams}
@@ -26,11 +30,36 @@ use Rattle.packet_verdicts.specs.Verdicts.{after_in, after_all_in}
 use Rattle.field_elements.specs.Field.{Coding}
 use Rattle.packet_met.specs.LayersText.{order_after_in, order_after_all_in, IsArrivalTextIn, IsLayersTextIn}
 use Rattle.packet_met.specs.Records.{IsTextAtIn}
+use Rattle.outside_files.specs.Inputs.{Licensed}
 use Rattle.outside_files.specs.Outputs.{Puts}
-use Rattle.packet_reading.specs.inside.SoFar.{SoFar, HasReceived, CameFirst, PartSoFar, StoppedSoFar, PartOfOne}
+use Rattle.packet_reading.specs.inside.SoFar.{SoFar, HasReceived, CameFirst, CameBefore, PartSoFar, WholeSoFar, StoppedSoFar}
+use Rattle.packet_reading.specs.inside.SoFar.{PartOfOne}
 use Rattle.packet_met.specs.Steps.{steps_of_in, steps_of_all_in}
 use Rattle.outside_files.specs.laws.OutputLaws.{puts_nothing}
 use Rattle.packet_met.specs.laws.DatagramAtEnd.{order_push, steps_push, text_nothing, text_push}
+
+-- a failure is one since the first, of the same names
+input_since : (from : Way) (first before now : Seen) → KeepsNames first before → first.faults ≤ before.faults
+    → InputFailed from before now → InputFailed from first now
+input_since (OnFile name) first before now names later had =
+    HadFault-since first before now _ _ later (λ b is. subst (λ (n : Option (List ℕ)). Blames Read n b) names.source is)
+    had
+input_since (OnLink address) first before now names later had = absurd had
+
+receiving_since : (from : Way) (first before now : LinkSeen) → LinkReceives from first before
+    → first.faults ≤ before.faults → ReceivingFailed from before now → ReceivingFailed from first now
+receiving_since (OnFile name) first before now receives later had = absurd had
+receiving_since (OnLink address) first before now receives later had = record {
+  rose = let r = had.rose in omega (arith, r, later);
+  blame = subst (λ (n : Option (List ℕ)). IfSome now.blamed (Blames Bound n)) receives.bound had.blame;
+}
+
+output_since : (first before between now : Seen) → KeepsNames first before → OnlyReads before between
+    → first.faults ≤ between.faults → HadFault between now (Blames Written between.target)
+    → HadFault first now (Blames Written first.target)
+output_since first before between now names reads later had =
+    HadFault-since first between now _ _ later
+    (λ b is. subst (λ (n : Option (List ℕ)). Blames Written n b) (reads.target ∙ names.target) is) had
 
 module _ (t : Format) {E : Type 0} (P : E → Type 0) (c : Coding E) where
   pub so_far_start : (s : Seen) (all : Option (List (List ℕ))) (r : ReceiverState E) (steps : ℕ) → HasKept P c r []
@@ -161,32 +190,49 @@ module _ (t : Format) {E : Type 0} (P : E → Type 0) (c : Coding E) where
     puts = subst (λ (f : Option Files). Grows first.target s.text first.files f) (sym same) s.puts;
   }
 
-  kept_feed : (from : Way) (address : List ℕ) (old new : LinkSeen) → from ≡ OnLink address → KeepsFeed from old new
-      → new.feed ≡ old.feed
-  kept_feed from address old new is keeps = subst (λ (w : Way). KeepsFeed w old new) is keeps
+  -- what came before FROM failed
+  came_before : (from : Way) (read : List (List ℕ)) (first before : Seen) (link_first link_before link_now : LinkSeen)
+      → HaveCome read (coming from first link_first) (coming from before link_before)
+      → KeepsFeed from link_before link_now → CameBefore from read first link_first link_now
+  came_before (OnFile name) read first before link_first link_before link_now come keeps =
+      first_of_told read first.rest
+      (come_front read (option_map datagrams first.rest) (option_map datagrams before.rest) come)
+  came_before (OnLink address) read first before link_first link_before link_now come keeps =
+      subst (λ (o : Option (List (List ℕ))). HaveCome read link_first.feed o) (sym keeps) come
+
+  whole_so_far : (from : Way) (set : KeptSet) (n : ℕ) (first before now : Seen)
+      (link_first link_before link_now : LinkSeen) (r : ReceiverState E) (a b : ℕ)
+      → SoFar t P c set n first before (coming from first link_first) (coming from before link_before) r a b
+      → n < MAX_DATAGRAMS → KeepsFeed from link_before link_now → now.files ≡ before.files
+      → WholeSoFar t P c from set first now link_first link_now
+  whole_so_far from set n first before now link_first link_before link_now r a b s room keeps same = record {
+    read = s.read;
+    text = s.text;
+    few = omega (arith, s.many, room);
+    come = came_before from s.read first before link_first link_before link_now s.rest keeps;
+    is_text = s.is_text;
+    puts = subst (λ (f : Option Files). Grows first.target s.text first.files f) (sym same) s.puts;
+  }
 
   -- nothing could be received
   pub stopped_so_far : (failed : RouteFailed) (from : Way) (set : KeptSet) (n : ℕ) (first before now : Seen)
       (link_first link_before link_now : LinkSeen) (r : ReceiverState E) (a b : ℕ)
       → SoFar t P c set n first before (coming from first link_first) (coming from before link_before) r a b
-      → n < MAX_DATAGRAMS → KeepsFeed from link_before link_now → now.files ≡ before.files
+      → n < MAX_DATAGRAMS → KeepsNames first before → first.faults ≤ before.faults
+      → LinkReceives from link_first link_before → link_first.faults ≤ link_before.faults
+      → KeepsFeed from link_before link_now → now.files ≡ before.files
       → IsFailure (InputFailed from before now) (ReceivingFailed from link_before link_now) failed
       → StoppedSoFar t P c from set first now link_first link_now (stop_of_route failed)
-  stopped_so_far failed.Place from set n first before now link_first link_before link_now r a b s room keeps same cause =
-      part_so_far from set n [] first before now link_first link_before link_now r a b s room (omega arith)
-      (λ address is. subst (λ (o : Option (List (List ℕ))). HaveCome [] link_before.feed o)
-      (sym (kept_feed from address link_before link_now is keeps)) (come_nothing link_before.feed)) same
-  stopped_so_far failed.Link (OnFile name) set n first before now link_first link_before link_now r a b s room keeps same
-      cause = absurd cause
-  stopped_so_far failed.Link (OnLink address) set n first before now link_first link_before link_now r a b s room keeps
-      same cause = record {
-        read = s.read;
-        text = s.text;
-        few = omega (arith, s.many, room);
-        come = subst (λ (o : Option (List (List ℕ))). HaveCome s.read link_first.feed o) (sym keeps) s.rest;
-        is_text = s.is_text;
-        puts = subst (λ (f : Option Files). Grows first.target s.text first.files f) (sym same) s.puts;
-      }
+  stopped_so_far failed.Place from set n first before now link_first link_before link_now r a b s room names later
+      receives link_later keeps same cause = inl (
+        input_since from first before now names later cause,
+        whole_so_far from set n first before now link_first link_before link_now r a b s room keeps same,
+      )
+  stopped_so_far failed.Link from set n first before now link_first link_before link_now r a b s room names later
+      receives link_later keeps same cause = (
+        receiving_since from link_first link_before link_now receives link_later cause,
+        whole_so_far from set n first before now link_first link_before link_now r a b s room keeps same,
+      )
 
   -- a call failed while the text of a datagram was put
   part_of_more : (from : Way) (set : KeptSet) (n n1 len : ℕ) (into : List ℕ) (first before between now : Seen)
@@ -231,16 +277,20 @@ module _ (t : Format) {E : Type 0} (P : E → Type 0) (c : Coding E) where
       → SoFar t P c set n first before (coming from first link_first) (coming from before link_before) r a b
       → n < MAX_DATAGRAMS → n1 ≡ n + 1 → KeepsNames first before
       → TakesDatagram (coming from before link_before) (Datagram len) into (coming from between link_now)
-      → OnlyReads before between → PartOfOne t P c r n1 (take len into) between now
+      → OnlyReads before between → first.faults ≤ between.faults
+      → Licensed (HadFault between now (Blames Written between.target)) stop
+      → PartOfOne t P c r n1 (take len into) between now
       → StoppedSoFar t P c from set first now link_first link_now (stop_of_place stop)
   stopped_at_one place.NoMemory from set n n1 len into first before between now link_first link_before link_now r a b s
-      room at names step reads part =
+      room at names step reads later cause part =
       part_of_more from set n n1 len into first before between now link_first link_before link_now r a b s room at names
       step reads part
   stopped_at_one place.Failed from set n n1 len into first before between now link_first link_before link_now r a b s
-      room at names step reads part =
-      part_of_more from set n n1 len into first before between now link_first link_before link_now r a b s room at names
-      step reads part
+      room at names step reads later cause part = inr (
+        output_since first before between now names reads later cause,
+        part_of_more from set n n1 len into first before between now link_first link_before link_now r a b s room at
+            names step reads part,
+      )
 
   -- what is to come stays, where only the output has grown
   pub put_since : (from : Way) (first between now : Seen) (link_first link_now : LinkSeen) (set : KeptSet) (n : ℕ)

@@ -15,11 +15,11 @@ use Rattle.packet_receiver.specs.ShownBytes.{IsComplete, shown_in_all}
 use Rattle.packet_verdicts.specs.KeptSet.{KeptSet, kept_in_all}
 use Rattle.packet_met.specs.Kept.{nothing_of}
 use Rattle.packet_reading.specs.Begun.{Begun}
-use Rattle.packet_reading.specs.Layers.{HaveLeft, IsReadFirst, IsReadingOf, layers_file, ReadsLayersIn, ReadsFrontIn}
-use Rattle.packet_reading.specs.Layers.{ReadsUntilFaultIn}
+use Rattle.packet_reading.specs.Layers.{HaveComeFirst, HaveLeft, IsReadFirst, IsReadingOf, layers_file}
+use Rattle.packet_reading.specs.Layers.{ReadsLayersIn, ReadsFrontIn, ReadsUntilFaultIn}
 use Rattle.packet_reading.specs.declared.reading.Totals.{Totals}
 use Rattle.packet_reading.specs.inside.Opened.{Opened}
-use Rattle.packet_reading.specs.inside.SoFar.{HasReceived, CameFirst, PartSoFar, WholeSoFar}
+use Rattle.packet_reading.specs.inside.SoFar.{HasReceived, CameBefore, CameFirst, PartSoFar, WholeSoFar}
 use Rattle.packet_reading.specs.laws.BegunLaws.{there, is_read}
 
 -- the first of what was to come since FROM was begun
@@ -30,6 +30,15 @@ is_read_first (OnFile name) read before opened new begun came =
     there before.place.files name first begun.found (subst (λ (b : Option (List ℕ)). IfSome b first) begun.rest came)
 is_read_first (OnLink address) read before opened new begun came =
     subst (λ (o : Option (List (List ℕ))). HaveLeft read o new.link.feed) begun.others.feed came
+
+-- what came before FROM failed
+have_come_first : (from : Way) (read : List (List ℕ)) (before opened new : OutsideSeen) → Begun from before opened
+    → CameBefore from read opened.place opened.link new.link → HaveComeFirst from read before new
+have_come_first (OnFile name) read before opened new begun came =
+    let first = λ (bytes : List ℕ). AreFirstDatagrams read (datagrams bytes) in
+    there before.place.files name first begun.found (subst (λ (b : Option (List ℕ)). IfSome b first) begun.rest came)
+have_come_first (OnLink address) read before opened new begun came =
+    subst (λ (f : Option (List (List ℕ))). HaveCome read f new.link.feed) begun.others.feed came
 
 module _ (t : Format) {E : Type 0} (P : E → Type 0) (c : Coding E) where
   -- all that was received, and what it comes to
@@ -92,16 +101,16 @@ module _ (t : Format) {E : Type 0} (P : E → Type 0) (c : Coding E) where
     );
   }
 
-  -- and where the link failed
-  pub whole_leaves : (address session layers : List ℕ) (before opened new : OutsideSeen)
-      → Opened (OnLink address) layers before opened
-      → WholeSoFar t P c (nothing_of session) opened.place new.place opened.link new.link
-      → ReadsUntilFaultIn t P c session layers before new
-  whole_leaves address session layers before opened new o w = record {
+  -- and where FROM failed
+  pub whole_leaves : (from : Way) (session layers : List ℕ) (before opened new : OutsideSeen)
+      → Opened from layers before opened
+      → WholeSoFar t P c from (nothing_of session) opened.place new.place opened.link new.link
+      → ReadsUntilFaultIn t P c from session layers before new
+  whole_leaves from session layers before opened new o w = record {
     read = w.read;
     text = w.text;
     few = w.few;
-    come = subst (λ (f : Option (List (List ℕ))). HaveCome w.read f new.link.feed) o.begun.others.feed w.come;
+    come = have_come_first from w.read before opened new o.begun w.come;
     is_text = w.is_text;
     file =
         Wrote-file (layers_file layers w.text) opened.place.target before.place opened.place new.place o.files o.target

@@ -1,5 +1,6 @@
 -- FROM as it is begun, and why it is not. This project's own.
-use Rattle.std.specs.Prelude.{ℕ, ◌≡◌, ◌⊎◌, ◌≤◌, List, true, option_map, IfSome, IsSome}
+use Rattle.std.specs.Prelude.{Bool, false, ℕ, ◌≡◌, ◌⊎◌, ◌≤◌, List, true, option_map, IfSome, IsSome}
+use Rattle.pet_base.specs.Causes.{count_after}
 use Rattle.pet_base.specs.Seen.{Seen, Names, HadFault, bytes_at}
 use Rattle.pet_base.specs.LinkSeen.{LinkSeen, OnlyBinds, OnlyReceives}
 use Rattle.pet_base.specs.OutsideSeen.{OutsideSeen}
@@ -41,6 +42,17 @@ Begun (OnLink address) before after = Listens address before after
 pub record Begins (from : Way) (before after : OutsideSeen) : Type 0 where
   pub begun : Begun from before after
   pub printed : PrintedPort from before after
+
+-- whether a stop tells that the output failed
+abbrev pub stop_of_an_output : RouteStop → Bool
+stop_of_an_output stop.NoMemory = false
+stop_of_an_output stop.Place = false
+stop_of_an_output stop.Link = false
+stop_of_an_output stop.Out = true
+
+-- one call of the output failed, where that is told, and else none
+abbrev pub OutStops : Bool → OutsideSeen → OutsideSeen → Type 0
+OutStops failed before after = after.out_faults ≡ count_after failed before.out_faults
 
 -- the place failed at the file FROM; of a link no file is used
 abbrev pub EnteringFailed : Way → Seen → Seen → Type 0

@@ -23,6 +23,8 @@ use Rattle.store_text.specs.Files.{HasFile}
 use Rattle.packet_met.specs.Kept.{nothing_of, kept_of_in}
 use Rattle.packet_met.specs.LayersText.{IsLayersTextIn}
 use Rattle.packet_met.specs.Steps.{steps_of_all_in}
+use Rattle.outside_files.specs.Uses.{writing}
+use Rattle.packet_reading.specs.Begun.{EnteringFailed}
 use Rattle.packet_reading.specs.Opened.{IsOpeningUse, IsUntouched, PortFailed, PrintedPort}
 use Rattle.packet_reading.specs.declared.reading.Totals.{Totals}
 
@@ -51,6 +53,12 @@ abbrev pub IsReadFirst : Way → List (List ℕ) → OutsideSeen → OutsideSeen
 IsReadFirst (OnFile name) read before after =
     HasFile before.place.files name (λ bytes. AreFirstDatagrams read (datagrams bytes))
 IsReadFirst (OnLink address) read before after = HaveLeft read before.link.feed after.link.feed
+
+-- these came before FROM failed: they are the first datagrams of the file, or they alone have left the link
+abbrev pub HaveComeFirst : Way → List (List ℕ) → OutsideSeen → OutsideSeen → Type 0
+HaveComeFirst (OnFile name) read before after =
+    HasFile before.place.files name (λ bytes. AreFirstDatagrams read (datagrams bytes))
+HaveComeFirst (OnLink address) read before after = HaveCome read before.link.feed after.link.feed
 
 -- the file of layers, with this text
 abbrev pub layers_file : List ℕ → List ℕ → File
@@ -95,29 +103,36 @@ module _ (t : Format) {E : Type 0} (is_element : E → Type 0) (c : Coding E) wh
     pub is_text : IsLayersTextIn is_element c t (nothing_of session) [] 1 read text
     pub file : Wrote [] (Some (layers_file layers text)) before.place after.place
 
-  -- The link failed while datagrams were to come: LAYERS has the whole layers text of those that have left the link.
-  pub record ReadsUntilFaultIn (session layers : List ℕ) (before after : OutsideSeen) : Type 0 where
+  -- FROM failed while datagrams were to come: LAYERS has the whole layers text of those that came before.
+  pub record ReadsUntilFaultIn (from : Way) (session layers : List ℕ) (before after : OutsideSeen) : Type 0 where
     pub read : List (List ℕ)
     pub text : List ℕ
     pub few : length read ≤ MAX_DATAGRAMS
-    pub come : HaveCome read before.link.feed after.link.feed
+    pub come : HaveComeFirst from read before after
     pub is_text : IsLayersTextIn is_element c t (nothing_of session) [] 1 read text
     pub file : Wrote (layers_file layers text ∷ []) None before.place after.place
 
-  -- Where a reading stops. Where memory or the place failed LAYERS has at most a front; where the link failed it has the
-  -- whole text of what came. Nothing is printed but the line of the port of a link, before LAYERS is made; where the
+  -- Where the place failed: before LAYERS was made; or at FROM, a file, behind that; or at LAYERS, which then has at
+  -- most a front.
+  abbrev pub StopsAtFileIn : Way → List ℕ → List ℕ → OutsideSeen → OutsideSeen → Type 0
+  StopsAtFileIn from session layers before after =
+      (HadFault before.place after.place (IsOpeningUse from layers) × IsUntouched from before after)
+      ⊎ (EnteringFailed from before.place after.place × ReadsUntilFaultIn from session layers before after)
+      ⊎ (HadFault before.place after.place (λ blame. blame ≡ writing layers)
+      × ReadsFrontIn from session layers before after)
+
+  -- Where a reading stops. Where memory failed LAYERS has at most a front; where FROM failed, a file or the link, it has
+  -- the whole text of what came. Nothing is printed but the line of the port of a link, before LAYERS is made; where the
   -- output failed there, no file was made.
   abbrev pub StopsReadingIn : Way → List ℕ → List ℕ → OutsideSeen → OutsideSeen → RouteStop → Type 0
   StopsReadingIn from session layers before after stop.NoMemory =
       (IsUntouched from before after × Unprinted before after)
       ⊎ (ReadsFrontIn from session layers before after × PrintedPort from before after)
   StopsReadingIn from session layers before after stop.Place =
-      HadFault before.place after.place (IsOpeningUse from layers)
-      × (IsUntouched from before after ⊎ ReadsFrontIn from session layers before after)
-      × PrintedPort from before after
+      StopsAtFileIn from session layers before after × PrintedPort from before after
   StopsReadingIn from session layers before after stop.Link =
       BoundFailed from before.link after.link
       × ((IsUntouched from before after × Unprinted before after)
-      ⊎ (ReadsUntilFaultIn session layers before after × PrintedPort from before after))
+      ⊎ (ReadsUntilFaultIn from session layers before after × PrintedPort from before after))
   StopsReadingIn from session layers before after stop.Out =
       IsUntouched from before after × PortFailed from before after

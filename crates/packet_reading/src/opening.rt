@@ -8,7 +8,7 @@ ghost use Rattle.outside_routes.specs.RouteFaults.{stop_of_a_place, stop_of_a_li
 ghost use Rattle.outside_routes.specs.Way.{OnFile, OnLink, way_of};
 ghost use Rattle.outside_routes.specs.Bound.{bound_text};
 ghost use Rattle.packet_reading.specs.Opened.{IsUntouched};
-ghost use Rattle.packet_reading.specs.Begun.{Begins, IsBoundWhereStopped, OnlyOpens, StopsBeginning};
+ghost use Rattle.packet_reading.specs.Begun.{Begins, IsBoundWhereStopped, OnlyOpens, OutStops, StopsBeginning, stop_of_an_output};
 ghost use Rattle.packet_reading.specs.inside.Opened.{Opened, StopsOpening};
 
 use outside_routes::{Route, RouteStop, bound_line};
@@ -31,6 +31,7 @@ pub(crate) fn open<P: Place, K: Link, S: Sink, L: Ledger>(
     ensures bound { IfErr result (IsBoundWhereStopped (way_of from.entry) (seen outside.old).link
         (seen outside.new).link) }
     ensures others { OnlyOpens (way_of from.entry) (seen outside.old) (seen outside.new) }
+    ensures out { OutStops (stops stop_of_an_output result) (seen outside.old) (seen outside.new) }
     ensures same { AreSame outside.old outside.new }
     ensures once_place { PlaceStops (stops stop_of_a_place result) (seen outside.old).place
         (seen outside.new).place }
@@ -54,6 +55,7 @@ pub fn begin<P: Place, K: Link, S: Sink, L: Ledger>(
         (seen outside.new).link) }
     ensures untouched { IsUntouched (way_of from.entry) (seen outside.old) (seen outside.new) }
     ensures others { OnlyOpens (way_of from.entry) (seen outside.old) (seen outside.new) }
+    ensures out { OutStops (stops stop_of_an_output result) (seen outside.old) (seen outside.new) }
     ensures same { AreSame outside.old outside.new }
     ensures once_place { PlaceStops (stops stop_of_a_place result) (seen outside.old).place
         (seen outside.new).place }
@@ -78,6 +80,7 @@ fn enter<P: Place, K: Link, S: Sink, L: Ledger>(
         (seen outside.new).link) }
     ensures untouched { IsUntouched (OnFile name.now) (seen outside.old) (seen outside.new) }
     ensures others { OnlyOpens (OnFile name.now) (seen outside.old) (seen outside.new) }
+    ensures out { OutStops (stops stop_of_an_output result) (seen outside.old) (seen outside.new) }
     ensures same { AreSame outside.old outside.new }
     ensures once_place { PlaceStops (stops stop_of_a_place result) (seen outside.old).place
         (seen outside.new).place }
@@ -100,6 +103,7 @@ fn listen<P: Place, K: Link, S: Sink, L: Ledger>(
         (seen outside.old).link (seen outside.new).link) }
     ensures untouched { IsUntouched (OnLink address.now) (seen outside.old) (seen outside.new) }
     ensures others { OnlyOpens (OnLink address.now) (seen outside.old) (seen outside.new) }
+    ensures out { OutStops (stops stop_of_an_output result) (seen outside.old) (seen outside.new) }
     ensures same { AreSame outside.old outside.new }
     ensures once_place { PlaceStops (stops stop_of_a_place result) (seen outside.old).place
         (seen outside.new).place }

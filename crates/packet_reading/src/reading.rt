@@ -18,15 +18,15 @@ ghost use Rattle.outside_files.specs.Outputs.{Puts};
 ghost use Rattle.outside_files.specs.Failures.{has_failed};
 ghost use Rattle.outside_routes.specs.Way.{way_of};
 ghost use Rattle.outside_routes.specs.Coming.{coming, HasInput};
-ghost use Rattle.outside_routes.specs.RouteFaults.{IsStop, ReceivingFailed, stop_of_a_place, stop_of_a_link};
+ghost use Rattle.outside_routes.specs.RouteFaults.{stop_of_a_place, stop_of_a_link};
 ghost use Rattle.packet_met.specs.LayersText.{order_after_in};
 ghost use Rattle.packet_met.specs.Records.{IsTextAtIn};
 ghost use Rattle.packet_met.specs.Steps.{steps_of_in};
-ghost use Rattle.packet_reading.specs.Begun.{IsBoundWhereStopped, LinkReceives, OnlyOpens};
+ghost use Rattle.packet_reading.specs.Begun.{IsBoundWhereStopped, LinkReceives, OnlyOpens, OutStops, stop_of_an_output};
 ghost use Rattle.packet_reading.specs.Layers.{IsReadingOf, ReadsLayersIn, StopsReadingIn};
 ghost use Rattle.packet_reading.specs.Opened.{IsBoundTo, KeepsLink, PrintedPort};
 ghost use Rattle.packet_reading.specs.inside.Opened.{Opened};
-ghost use Rattle.packet_reading.specs.inside.SoFar.{CanRead, HasReceived, StoppedSoFar, PartOfOne, IsReadingUse};
+ghost use Rattle.packet_reading.specs.inside.SoFar.{CanRead, HasReceived, StoppedSoFar, PartOfOne};
 
 use crate::opening::open;
 use field_rows::Rows;
@@ -92,6 +92,7 @@ pub fn read_layers<'f, P: Place, K: Link, S: Sink, L: Ledger, F: Rows>(
         (seen outside.new).link) }
     ensures bound { IfErr result (IsBoundWhereStopped (way_of from.entry) (seen outside.old).link
         (seen outside.new).link) }
+    ensures out { OutStops (stops stop_of_an_output result) (seen outside.old) (seen outside.new) }
     ensures later { (seen outside.old).out_faults ≤ (seen outside.new).out_faults }
     ensures same { AreSame outside.old outside.new }
     ensures once_place { PlaceStops (stops stop_of_a_place result) (seen outside.old).place
@@ -135,7 +136,8 @@ fn read_opened<'f, P: Place, K: Link, S: Sink, L: Ledger, F: Rows>(
         (seen outside.new) stop) }
     ensures link { LinkReceives (way_of from.entry) (seen outside.old).link (seen outside.new).link }
     ensures link_later { (seen outside.old).link.faults ≤ (seen outside.new).link.faults }
-    ensures out { (seen outside.new).out_faults ≡ (seen outside.old).out_faults }
+    ensures out { OutStops (stops stop_of_an_output result) (seen outside.old) (seen outside.new) }
+    ensures later { (seen outside.old).out_faults ≤ (seen outside.new).out_faults }
     ensures same { AreSame outside.old outside.new }
     ensures once_place { PlaceStops (stops stop_of_a_place result) (seen outside.old).place
         (seen outside.new).place }
@@ -209,9 +211,6 @@ fn receive_all<P: Place, K: Link, L: Ledger, F: Rows>(
     ensures link { LinkReceives (way_of from.entry) (K.seen link.old) (K.seen link.new) }
     ensures place_later { (P.seen place.old).faults ≤ (P.seen place.new).faults }
     ensures link_later { (K.seen link.old).faults ≤ (K.seen link.new).faults }
-    ensures cause { IfErr result (IsStop (HadFault (P.seen place.old) (P.seen place.new)
-        (IsReadingUse (way_of from.entry) (P.seen place.old)))
-        (ReceivingFailed (way_of from.entry) (K.seen link.old) (K.seen link.new)) ⊥) }
     ensures once_place { PlaceStops (stops stop_of_a_place result) (P.seen place.old)
         (P.seen place.new) }
     ensures once_link { LinkStops (stops stop_of_a_link result) (K.seen link.old)

@@ -9,11 +9,11 @@ use Rattle.outside_routes.specs.declared.fault.RouteStop.{RouteStop}
 use Rattle.outside_routes.specs.declared.fault.RouteStop.TheVariants as stop
 use Rattle.packet_frame.specs.declared.format.TheConstants.{BYTE_FORMAT}
 use Rattle.packet_verdicts.specs.KeptSet.{KeptSet}
-use Rattle.packet_reading.specs.Begun.{IsBoundWhereStopped}
+use Rattle.packet_reading.specs.Begun.{IsBoundWhereStopped, stop_of_an_output}
 use Rattle.packet_reading.specs.Layers.{AreTotalsIn, IsReadingOf}
 use Rattle.packet_reading.specs.Opened.{IsBoundTo, PrintedPort}
 use Rattle.packet_reading.specs.declared.reading.Totals.{Totals}
-use Rattle.pet_byte.specs.Failures.{byte_of_place, byte_of_link}
+use Rattle.pet_byte.specs.Failures.{byte_of_place, byte_of_link, byte_of_output}
 use Rattle.pet_byte.specs.ReceivesBytes.{IsBoundAtByteEnd, ReadsBytes, StopsReadingBytes, EndsBytes}
 use Rattle.pet_byte.specs.declared.breceive.ByteEnd.{ByteEnd}
 use Rattle.pet_byte.specs.declared.breceive.ByteEnd.TheVariants.{Done, NoMemory, PlaceFault, LinkFault}
@@ -93,11 +93,17 @@ link_alike stop.Place = refl
 link_alike stop.Link = refl
 link_alike stop.Out = refl
 
+pub output_alike : (s : RouteStop) → stop_of_an_output s ≡ byte_of_output (byte_end_of s)
+output_alike stop.NoMemory = refl
+output_alike stop.Place = refl
+output_alike stop.Link = refl
+output_alike stop.Out = refl
+
 pub calm_at : (totals : Totals) (complete : Bool) (end : ByteEnd) → IsByteEndOf totals complete end
-    → (byte_of_place end ≡ false) × (byte_of_link end ≡ false)
-calm_at totals complete (Done n k s) is = (refl, refl)
-calm_at totals complete (Incomplete n k s) is = (refl, refl)
-calm_at totals complete (TurnsSpent n k s) is = (refl, refl)
+    → (byte_of_place end ≡ false) × (byte_of_link end ≡ false) × (byte_of_output end ≡ false)
+calm_at totals complete (Done n k s) is = (refl, refl, refl)
+calm_at totals complete (Incomplete n k s) is = (refl, refl, refl)
+calm_at totals complete (TurnsSpent n k s) is = (refl, refl, refl)
 calm_at totals complete NoMemory is = absurd is
 calm_at totals complete PlaceFault is = absurd is
 calm_at totals complete LinkFault is = absurd is

@@ -14,8 +14,10 @@ use Rattle.packet_frame.specs.declared.format.TheConstants.{BYTE_FORMAT}
 use Rattle.packet_receiver.specs.ShownBytes.{IsComplete}
 use Rattle.packet_verdicts.specs.KeptSet.{KeptSet}
 use Rattle.packet_met.specs.Kept.{kept_of_in}
+use Rattle.packet_reading.specs.Begun.{OutStops}
 use Rattle.packet_reading.specs.Layers.{AreTotalsIn, ReadsLayersIn, StopsReadingIn}
 use Rattle.packet_reading.specs.Opened.{IsBoundTo, KeepsLink, PrintedPort}
+use Rattle.pet_byte.specs.Failures.{byte_of_output}
 use Rattle.pet_byte.specs.declared.breceive.ByteEnd.{ByteEnd}
 use Rattle.pet_byte.specs.declared.breceive.ByteEnd.TheVariants.{Done, NoMemory, PlaceFault, LinkFault}
 use Rattle.pet_byte.specs.declared.breceive.ByteEnd.TheVariants.{OutFault, Incomplete, TurnsSpent}
@@ -45,7 +47,7 @@ byte_uses_of (OnFile name) layers = reading name ∷ writing layers ∷ []
 byte_uses_of (OnLink address) layers = writing layers ∷ []
 
 -- At an end with numbers the datagrams were read, LAYERS is whole, and these are the numbers of what was read. At the
--- other ends LAYERS has at most a front; where the link failed it has the whole text of what came. Nothing is printed
+-- other ends LAYERS has at most a front; where FROM failed it has the whole text of what came. Nothing is printed
 -- but the line of the port of a link, before LAYERS is made; where the output failed there, no file was made.
 abbrev pub EndsBytes : Way → List ℕ → List ℕ → OutsideSeen → OutsideSeen → ByteEnd → Type 0
 EndsBytes from session layers before after (Done read kept shown) =
@@ -75,11 +77,12 @@ IsBoundAtByteEnd from old new PlaceFault = IsBoundTo from old new
 IsBoundAtByteEnd from old new NoMemory = KeepsFeed from old new ⊎ IsBoundTo from old new
 IsBoundAtByteEnd from old new LinkFault = KeepsFeed from old new ⊎ IsBoundTo from old new
 
--- what `breceive` does: it sends nothing, the link receives at FROM, and the faults of the link and of the output do
--- not fall
+-- what `breceive` does: it sends nothing, the link receives at FROM, the faults of the link and of the output do not
+-- fall, and the output fails once at OutFault and at no other end
 pub record ReceivesBytes (from : Way) (session layers : List ℕ) (before after : OutsideSeen)
     (end : ByteEnd) : Type 0 where
   pub link : KeepsLink from before.link after.link
   pub bound : IsBoundAtByteEnd from before.link after.link end
   pub later : before.out_faults ≤ after.out_faults
+  pub out : OutStops (byte_of_output end) before after
   pub ends : EndsBytes from session layers before after end

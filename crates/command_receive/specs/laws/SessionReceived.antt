@@ -6,11 +6,11 @@ use Rattle.std.proofs.lemmas.Bool.{false_from_ne_true}
 use Rattle.pet_base.specs.declared.limits.TheConstants.{MAX_SESSION, MAX_DATAGRAMS}
 use Rattle.pet_base.specs.Causes.{Rose}
 use Rattle.outside_routes.specs.Way.{Way, OnFile, OnLink}
-use Rattle.command_receive.specs.Opened.{IsBoundTo, PortFailed, PrintedPort}
+use Rattle.command_receive.specs.Opened.{IsBoundTo, IsOpeningUse, PortFailed, PrintedPort}
 use Rattle.pet_base.specs.OutsideSeen.{OutsideSeen}
-use Rattle.pet_base.specs.Seen.{Blame, Files, HadFault, with_file}
+use Rattle.pet_base.specs.Seen.{Blame, Files, Seen, with_file}
 use Rattle.pet_base.specs.laws.SeenLaws.{HadFault-since}
-use Rattle.outside_files.specs.Uses.{IsOneOf, Failed}
+use Rattle.outside_files.specs.Uses.{writing, IsOneOf, Failed}
 use Rattle.outside_files.specs.Wrote.{with_files}
 use Rattle.packet_frame.specs.declared.format.TheConstants.{FORMAT}
 use Rattle.packet_session.specs.Session.{Session}
@@ -28,27 +28,48 @@ use Rattle.command_receive.specs.declared.command.ReceiveEnd.{ReceiveEnd}
 use Rattle.command_receive.specs.declared.command.ReceiveEnd.TheVariants.{Done, NoMemory, PlaceFault, LinkFault}
 use Rattle.command_receive.specs.declared.command.ReceiveEnd.TheVariants.{OutFault, Incomplete, TurnsSpent}
 use Rattle.store_text.specs.Store.{store_of, store_text}
-use Rattle.command_receive.specs.Receives.{IsBoundAtEnd, IsUseInTurn, layers_file, kept_file}
+use Rattle.command_receive.specs.Receives.{IsBoundAtEnd, StopsAtFileOrStore, layers_file, kept_file}
+use Rattle.packet_reading.specs.Begun.{EnteringFailed}
 use Rattle.command_receive.specs.Receives.{AreTotals, uses_of, Reads, EndsReceive, Receives}
 use Rattle.packet_reading.specs.declared.reading.Totals.{Totals}
 use Rattle.packet_reading.specs.laws.SessionLaws as L
 use Rattle.command_receive.specs.ReceivesSession.{HasPacketsOf, CanReceive, ReceivesSession}
 use Rattle.command_receive.specs.ReceivesSession.{CompletesReceive, session_end, session_totals}
 
--- what may be blamed in its turn is one of the files that are used
-is_used : (from : Way) (layers store : List ℕ) (before after : OutsideSeen) (b : Blame)
-    → IsUseInTurn from layers store before after b → IsOneOf (uses_of from layers store) b
-is_used (OnFile name) layers store before after b (inl (inl is)) = inl is
-is_used (OnFile name) layers store before after b (inl (inr is)) = inr (inl is)
-is_used (OnFile name) layers store before after b (inr is) = inr (inr is.0)
-is_used (OnLink address) layers store before after b (inl is) = inl is
-is_used (OnLink address) layers store before after b (inr is) = inr is.0
+-- what is blamed is one of the files that are used
+opening_used : (from : Way) (layers store : List ℕ) (b : Blame) → IsOpeningUse from layers b
+    → IsOneOf (uses_of from layers store) b
+opening_used (OnFile name) layers store b (inl is) = inl is
+opening_used (OnFile name) layers store b (inr is) = inr (inl is)
+opening_used (OnLink address) layers store b is = inl is
 
-in_turn : (from : Way) (layers store : List ℕ) (before after : OutsideSeen)
-    → HadFault before.place after.place (IsUseInTurn from layers store before after)
+layers_used : (from : Way) (layers store : List ℕ) (b : Blame) → b ≡ writing layers
+    → IsOneOf (uses_of from layers store) b
+layers_used (OnFile name) layers store b is = inr (inl is)
+layers_used (OnLink address) layers store b is = inl is
+
+store_used : (from : Way) (layers store : List ℕ) (b : Blame) → b ≡ writing store
+    → IsOneOf (uses_of from layers store) b
+store_used (OnFile name) layers store b is = inr (inr is)
+store_used (OnLink address) layers store b is = inr is
+
+from_used : (from : Way) (layers store : List ℕ) (old new : Seen) → EnteringFailed from old new
+    → Failed (uses_of from layers store) old new
+from_used (OnFile name) layers store old new had =
+    HadFault-since old old new _ _ (omega arith) (λ b is. inl is) had
+from_used (OnLink address) layers store old new had = absurd had
+
+in_turn : (from : Way) (session layers store : List ℕ) (before after : OutsideSeen)
+    → StopsAtFileOrStore from session layers store before after
     → Failed (uses_of from layers store) before.place after.place
-in_turn from layers store before after had =
-    HadFault-since before.place before.place after.place _ _ (omega arith) (is_used from layers store before after) had
+in_turn from session layers store before after (inl (inl (had, untouched))) =
+    HadFault-since before.place before.place after.place _ _ (omega arith) (opening_used from layers store) had
+in_turn from session layers store before after (inl (inr (inl (had, whole)))) =
+    from_used from layers store before.place after.place had
+in_turn from session layers store before after (inl (inr (inr (had, front)))) =
+    HadFault-since before.place before.place after.place _ _ (omega arith) (layers_used from layers store) had
+in_turn from session layers store before after (inr (had, stored)) =
+    HadFault-since before.place before.place after.place _ _ (omega arith) (store_used from layers store) had
 
 module _ (s : Session) (from : Way) (layers store : List ℕ) (files : Files) (ds : List (List ℕ))
     (before after : OutsideSeen) (given : HasPacketsOf s from files ds before) where
@@ -124,7 +145,7 @@ module _ (s : Session) (from : Way) (layers store : List ℕ) (files : Files) (d
       absurd (let few = (read_is ends.0).1 in let many = ends.1 in omega (arith, few, many))
   received OutFault whole is can bound ends = absurd (can.well.out (port_well from ends.1))
   received NoMemory whole is can bound ends = absurd (can.memory is)
-  received PlaceFault whole is can bound ends = absurd (can.well.place (in_turn from layers store before after ends.0))
+  received PlaceFault whole is can bound ends = absurd (can.well.place (in_turn from s.number layers store before after ends.0))
   received LinkFault whole is can bound ends = absurd (can.link ends.0)
 
 -- the headline follows from what `receive` does
@@ -138,11 +159,18 @@ completes_receive from session layers store before after end receives s files ds
 pub nothing_received : (from : Way) (session layers store : List ℕ) (before : OutsideSeen)
     → Receives from session layers store before before NoMemory
 nothing_received (OnFile name) session layers store before =
-    record { link = refl; bound = inl tt; later = omega arith; ends = inl (record { files = refl; feed = tt }, refl) }
+    record {
+      link = refl;
+      bound = inl tt;
+      later = omega arith;
+      out = refl;
+      ends = inl (record { files = refl; feed = tt }, refl);
+    }
 nothing_received (OnLink address) session layers store before =
     record {
       link = (refl, refl, omega arith);
       bound = inl refl;
       later = omega arith;
+      out = refl;
       ends = inl (record { files = refl; feed = refl }, refl);
     }

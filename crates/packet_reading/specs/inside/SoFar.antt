@@ -4,12 +4,13 @@ use Rattle.std.specs.Prelude.{◌≡◌, ◌⊎◌, ℕ, ◌+◌, ◌<◌, ◌�
 use Rattle.pet_base.specs.declared.limits.TheConstants.{MAX_DATAGRAMS}
 use Rattle.pet_base.specs.Causes.{Blames}
 use Rattle.pet_base.specs.Entries.{datagrams}
-use Rattle.pet_base.specs.declared.place.Side.TheVariants.{Read, Written}
-use Rattle.pet_base.specs.Seen.{Seen, Blame}
+use Rattle.pet_base.specs.declared.place.Side.TheVariants.{Written}
+use Rattle.pet_base.specs.Seen.{Seen, HadFault}
 use Rattle.pet_base.specs.LinkSeen.{LinkSeen}
 use Rattle.outside_files.specs.Outputs.{IsPrefix, Puts, PutsPart}
 use Rattle.outside_routes.specs.Way.{Way, OnFile, OnLink}
 use Rattle.outside_routes.specs.Coming.{HaveCome}
+use Rattle.outside_routes.specs.RouteFaults.{InputFailed, ReceivingFailed}
 use Rattle.outside_routes.specs.Sending.{AreFirstDatagrams}
 use Rattle.outside_routes.specs.declared.fault.RouteStop.{RouteStop}
 use Rattle.outside_routes.specs.declared.fault.RouteStop.TheVariants as stop
@@ -31,6 +32,12 @@ pub record CanRead {E : Type 0} (c : Coding E) (r : ReceiverState E) : Type 0 wh
   pub plan : ArePlanBounds r.format.bounds
   pub word : r.format.word ≡ c.width
   pub sound : IsKeptSetBy c.width (kept_set r)
+
+-- these datagrams came before FROM failed
+abbrev pub CameBefore : Way → List (List ℕ) → Seen → LinkSeen → LinkSeen → Type 0
+CameBefore (OnFile name) read place link_first link_now =
+    IfSome place.rest (λ bytes. AreFirstDatagrams read (datagrams bytes))
+CameBefore (OnLink address) read place link_first link_now = HaveCome read link_first.feed link_now.feed
 
 -- these datagrams stand at the front of the input, or have left the link
 abbrev pub CameFirst : Way → List (List ℕ) → Seen → LinkSeen → LinkSeen → Type 0
@@ -71,29 +78,27 @@ module _ (t : Format) {E : Type 0} (P : E → Type 0) (c : Coding E) where
     pub is_front : IsPrefix front text
     pub puts : Puts front first now
 
-  -- the whole layers text of the datagrams that have left the link
-  pub record WholeSoFar (set : KeptSet) (first now : Seen) (link_first link_now : LinkSeen) : Type 0 where
+  -- the whole layers text of the datagrams that came before FROM failed
+  pub record WholeSoFar (from : Way) (set : KeptSet) (first now : Seen) (link_first link_now : LinkSeen) : Type 0 where
     pub read : List (List ℕ)
     pub text : List ℕ
     pub few : length read ≤ MAX_DATAGRAMS
-    pub come : HaveCome read link_first.feed link_now.feed
+    pub come : CameBefore from read first link_first link_now
     pub is_text : IsLayersTextIn P c t set [] 1 read text
     pub puts : Puts text first now
 
-  -- Where the reading stopped: after a failure of the link the whole text of what came stands there, and a front of it
-  -- after any other.
+  -- Where the reading stopped: after a failure of FROM, a file or the link, the whole text of what came stands there,
+  -- and a front of it after any other.
   abbrev pub StoppedSoFar : Way → KeptSet → Seen → Seen → LinkSeen → LinkSeen → RouteStop → Type 0
   StoppedSoFar from set first now link_first link_now stop.NoMemory = PartSoFar from set first now link_first link_now
-  StoppedSoFar from set first now link_first link_now stop.Place = PartSoFar from set first now link_first link_now
-  StoppedSoFar from set first now link_first link_now stop.Link = WholeSoFar set first now link_first link_now
+  StoppedSoFar from set first now link_first link_now stop.Place =
+      (InputFailed from first now × WholeSoFar from set first now link_first link_now)
+      ⊎ (HadFault first now (Blames Written first.target) × PartSoFar from set first now link_first link_now)
+  StoppedSoFar from set first now link_first link_now stop.Link =
+      ReceivingFailed from link_first link_now × WholeSoFar from set first now link_first link_now
   StoppedSoFar from set first now link_first link_now stop.Out = ⊥
 
   -- nothing was put, or a front of the datagram's text
   abbrev pub PartOfOne : ReceiverState E → ℕ → List ℕ → Seen → Seen → Type 0
   PartOfOne r arrival bytes old new =
       (new.files ≡ old.files) ⊎ ((text : List ℕ) × IsTextAtIn P c t r arrival bytes text × PutsPart text old new)
-
--- the input, where a file is read, or the output
-abbrev pub IsReadingUse : Way → Seen → Blame → Type 0
-IsReadingUse (OnFile name) place blame = Blames Read place.source blame ⊎ Blames Written place.target blame
-IsReadingUse (OnLink address) place blame = Blames Written place.target blame

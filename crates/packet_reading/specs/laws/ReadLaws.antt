@@ -30,22 +30,6 @@ pub always_ok : {T E P : Type 0} (result : Result T E) → P → OnOk result P
 always_ok (Ok x) p = p
 always_ok (Err e) p = tt
 
--- all of it is also the first of it
-pub first_of_all : (from : Way) (read : List (List ℕ)) (before after : OutsideSeen) → length read ≤ MAX_DATAGRAMS
-    → IsRead from read before after → IsReadFirst from read before after
-first_of_all (OnFile name) read before after few is = front_of before.place.files is
-  where
-    front_of : (files : Option Files) → HasFile files name (AreRead read)
-        → HasFile files name (λ bytes. AreFirstDatagrams read (datagrams bytes))
-    front_of None are = tt
-    front_of (Some f) are = (are.0, are.1, (are.2.0, are.2.1))
-first_of_all (OnLink address) read before after few is = (
-  [],
-  omega arith,
-  omega (arith, few),
-  subst (λ (l : List (List ℕ)). HaveCome l before.link.feed after.link.feed) (sym (append-nil read)) is.0,
-)
-
 -- it stays read, where the link stays as it is
 pub read_still : (from : Way) (read : List (List ℕ)) (before new stored : OutsideSeen) → stored.link ≡ new.link
     → IsRead from read before new → IsRead from read before stored

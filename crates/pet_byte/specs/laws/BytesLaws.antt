@@ -1,14 +1,14 @@
 -- The headline, from what each end tells.
 use Rattle.std.proofs.Common.{◌≡◌, ℕ, ◌<◌, Bool, true, false, cond, List, [], ◌∷◌, length, Option, Some, refl, sym}
-use Rattle.std.proofs.Common.{ap, subst, ◌∙◌, arith, inl}
+use Rattle.std.proofs.Common.{ap, subst, ◌∙◌, arith, inl, inr}
 use Rattle.std.specs.Prelude.{option_map}
 use Rattle.std.proofs.lemmas.Bool.{false_from_ne_true}
 use Rattle.pet_base.specs.declared.limits.TheConstants.{MAX_DATAGRAMS}
 use Rattle.pet_base.specs.Causes.{Rose}
 use Rattle.pet_base.specs.OutsideSeen.{OutsideSeen}
-use Rattle.pet_base.specs.Seen.{Blame, Files, HadFault, with_file}
+use Rattle.pet_base.specs.Seen.{Blame, Files, Seen, with_file}
 use Rattle.pet_base.specs.laws.SeenLaws.{HadFault-since}
-use Rattle.outside_files.specs.Uses.{IsOneOf, Failed}
+use Rattle.outside_files.specs.Uses.{writing, IsOneOf, Failed}
 use Rattle.outside_files.specs.Wrote.{with_files}
 use Rattle.outside_routes.specs.Way.{Way, OnFile, OnLink}
 use Rattle.gf8.specs.Gf8.{gf8_coding}
@@ -16,6 +16,8 @@ use Rattle.packet_frame.specs.declared.format.TheConstants.{BYTE_FORMAT}
 use Rattle.packet_session.specs.Session.{Session}
 use Rattle.packet_met.specs.Met.{met_by, all_shown}
 use Rattle.packet_met.specs.laws.FewestStripesLaws.{all_carry_fewest_in}
+use Rattle.outside_routes.specs.declared.fault.RouteStop.TheVariants as stop
+use Rattle.packet_reading.specs.Begun.{EnteringFailed}
 use Rattle.packet_reading.specs.Layers.{layers_file}
 use Rattle.packet_reading.specs.Opened.{IsBoundTo, IsOpeningUse, PortFailed, PrintedPort}
 use Rattle.packet_reading.specs.SessionRead.{session_totals_in}
@@ -25,6 +27,7 @@ use Rattle.stripe_plan.specs.laws.ByteLaws.{are_byte_plan_bounds}
 use Rattle.pet_byte.specs.BytesReceived.{HasBytePacketsOf, CanReceiveBytes, ReceivesByteSession, CompletesBytes}
 use Rattle.pet_byte.specs.BytesReceived.{byte_session_end, done_with, incomplete_with}
 use Rattle.pet_byte.specs.ReceivesBytes.{byte_uses_of, ReadsBytes, AreByteTotals, EndsBytes, IsBoundAtByteEnd, ReceivesBytes}
+use Rattle.pet_byte.specs.ReceivesBytes.{StopsReadingBytes}
 use Rattle.pet_byte.specs.declared.breceive.ByteEnd.{ByteEnd}
 use Rattle.pet_byte.specs.declared.breceive.ByteEnd.TheVariants.{Done, NoMemory, PlaceFault, LinkFault}
 use Rattle.pet_byte.specs.declared.breceive.ByteEnd.TheVariants.{OutFault, Incomplete, TurnsSpent}
@@ -34,11 +37,24 @@ is_used : (from : Way) (layers : List ℕ) (b : Blame) → IsOpeningUse from lay
 is_used (OnFile name) layers b is = is
 is_used (OnLink address) layers b is = is
 
-blamed : (from : Way) (layers : List ℕ) (before after : OutsideSeen)
-    → HadFault before.place after.place (IsOpeningUse from layers)
+from_used : (from : Way) (layers : List ℕ) (old new : Seen) → EnteringFailed from old new
+    → Failed (byte_uses_of from layers) old new
+from_used (OnFile name) layers old new had = HadFault-since old old new _ _ (omega arith) (λ b is. inl is) had
+from_used (OnLink address) layers old new had = absurd had
+
+layers_used : (from : Way) (layers : List ℕ) (b : Blame) → b ≡ writing layers → IsOneOf (byte_uses_of from layers) b
+layers_used (OnFile name) layers b is = inr is
+layers_used (OnLink address) layers b is = is
+
+blamed : (from : Way) (session layers : List ℕ) (before after : OutsideSeen)
+    → StopsReadingBytes from session layers before after stop.Place
     → Failed (byte_uses_of from layers) before.place after.place
-blamed from layers before after had =
+blamed from session layers before after (inl (had, untouched), port) =
     HadFault-since before.place before.place after.place _ _ (omega arith) (is_used from layers) had
+blamed from session layers before after (inr (inl (had, whole)), port) =
+    from_used from layers before.place after.place had
+blamed from session layers before after (inr (inr (had, front)), port) =
+    HadFault-since before.place before.place after.place _ _ (omega arith) (layers_used from layers) had
 
 module _ (s : Session) (from : Way) (layers : List ℕ) (files : Files) (ds : List (List ℕ)) (before after : OutsideSeen)
     (given : HasBytePacketsOf s from files ds before) where
@@ -103,7 +119,7 @@ module _ (s : Session) (from : Way) (layers : List ℕ) (files : Files) (ds : Li
       absurd (let few = (all_is ends.0).1 in let many = ends.1 in omega (arith, few, many))
   received OutFault whole is can bound ends = absurd (can.well.out (port_well from ends.1))
   received NoMemory whole is can bound ends = absurd (can.memory is)
-  received PlaceFault whole is can bound ends = absurd (can.well.place (blamed from layers before after ends.0))
+  received PlaceFault whole is can bound ends = absurd (can.well.place (blamed from s.number layers before after ends))
   received LinkFault whole is can bound ends = absurd (can.link ends.0)
 
 -- the headline follows from what `breceive` does
@@ -117,11 +133,18 @@ completes_bytes from session layers before after end receives s files ds is can 
 pub no_bytes_received : (from : Way) (session layers : List ℕ) (before : OutsideSeen)
     → ReceivesBytes from session layers before before NoMemory
 no_bytes_received (OnFile name) session layers before =
-    record { link = refl; bound = inl tt; later = omega arith; ends = inl (record { files = refl; feed = tt }, refl) }
+    record {
+      link = refl;
+      bound = inl tt;
+      later = omega arith;
+      out = refl;
+      ends = inl (record { files = refl; feed = tt }, refl);
+    }
 no_bytes_received (OnLink address) session layers before =
     record {
       link = (refl, refl, omega arith);
       bound = inl refl;
       later = omega arith;
+      out = refl;
       ends = inl (record { files = refl; feed = refl }, refl);
     }

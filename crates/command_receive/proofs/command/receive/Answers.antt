@@ -3,9 +3,10 @@ use Rattle.pet_base.specs.Seen.{PlaceStops}
 use Rattle.pet_base.specs.LinkSeen.{LinkStops}
 use Rattle.command_receive.specs.Failures.{end_of_place, end_of_link}
 use Rattle.command_receive.specs.Receives.{Receives}
+use Rattle.packet_reading.specs.Begun.{OutStops}
 use Rattle.pet_base.specs.Lent.{seen}
 use Rattle.outside_routes.specs.Way.{way_of}
-use Rattle.command_receive.proofs.Ends.{bound_at_any, calm_at, ends_read, link_alike, place_alike}
+use Rattle.command_receive.proofs.Ends.{bound_at_any, calm_at, ends_read, link_alike, output_alike, place_alike}
 use Rattle.command_receive.proofs.Stops.{bound_at_stop}
 use Rattle.command_receive.specs.laws.NamedLaws.{names_what_it_stores}
 use Rattle.command_receive.specs.laws.SessionReceived.{completes_receive}
@@ -21,6 +22,9 @@ returns-in-Ok-clause-receives g c =
       link = c.read_all.ensures.link;
       bound = bound_at_any from before.link after.link c.end_after.result c.in-Ok.ensures.listens;
       later = c.read_all.ensures.later;
+      out =
+          subst (λ (failed : Bool). OutStops failed before after)
+          (sym (calm_at c.in-Ok.reading c.end_after.result c.end_after.ensures).2) c.in-Ok.ensures.out;
       ends =
           ends_read from c.args.session c.args.layers.now c.args.store.now before after done.0 c.in-Ok.reading done.1
           done.2 c.end_after.result c.end_after.ensures;
@@ -46,6 +50,7 @@ returns-in-Err-clause-receives g c =
       link = c.read_all.ensures.link;
       bound = bound_at_stop from before.link after.link c.in-Err.stop c.in-Err.ensures.bound;
       later = c.read_all.ensures.later;
+      out = subst (λ (failed : Bool). OutStops failed before after) (output_alike c.in-Err.stop) c.in-Err.ensures.out;
       ends = c.in-Err.ensures.stop;
     })
 

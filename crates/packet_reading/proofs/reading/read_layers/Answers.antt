@@ -1,7 +1,9 @@
+use Rattle.std.proofs.Common.{ap, ◌∙◌}
 use Rattle.std.proofs.lemmas.Result.{IfOk-weaker, IfErr-weaker}
+use Rattle.pet_base.specs.Causes.{count_after, stops}
 use Rattle.pet_base.specs.Lent.{seen}
 use Rattle.outside_routes.specs.Way.{way_of}
-use Rattle.packet_reading.specs.Begun.{IsBoundWhereStopped}
+use Rattle.packet_reading.specs.Begun.{IsBoundWhereStopped, stop_of_an_output}
 use Rattle.packet_reading.specs.laws.BegunLaws.{link_same, link_kept, still_bound, begun_bound, begun_input}
 use Rattle.packet_reading.specs.laws.ReadLaws.{stop_is, always_ok, all_bound_where_stopped}
 use Rattle.packet_reading.specs.laws.ReadLaws.{unbound_where_stopped}
@@ -73,3 +75,8 @@ returns-clause-bound g c =
     (seen c.read_opened.new.outside).link c.read_opened.result
     (still_bound from (seen c.args.outside.now).link opened.link (seen c.read_opened.new.outside).link
     (begun_bound from (seen c.args.outside.now) opened c.in_ok-open.ensures.opened.begun) c.read_opened.ensures.link)
+
+pub returns-clause-out : goal.returns-clause-out
+returns-clause-out g c =
+    c.read_opened.ensures.out
+    ∙ ap (count_after (stops stop_of_an_output c.read_opened.result)) c.in_ok-open.ensures.out

@@ -13,7 +13,7 @@ use Rattle.packet_reading.specs.inside.SoFar.{HasReceived, StoppedSoFar}
 use Rattle.packet_reading.specs.laws.BegunLaws.{port_printed}
 use Rattle.packet_reading.specs.laws.ReadLaws.{stop_is}
 use Rattle.packet_reading.proofs.FilesRead.{reads_with_numbers}
-use Rattle.packet_reading.proofs.Stops.{stops_reading}
+use Rattle.packet_reading.proofs.Stops.{out_calm, stopped_calm, stops_reading}
 use Rattle.packet_reading.proofs.reading.read_opened.Goals as goal
 
 pub receive_all-requires-clause-ready : goal.receive_all-requires-clause-ready
@@ -45,7 +45,18 @@ returns-in_err-read-clause-stop g c =
     → OnlyOpens from before opened → StopsReadingIn t P coding from c.args.session layers before after s)
     c.from_residual.result stop c.from_residual.ensures.1
     (λ layers before o only. stops_reading t P coding stop from c.args.session layers before opened after o
-    only.place_later only.link_later c.receive_all.ensures.link refl stopped c.in_err-read.ensures.cause)
+    only.place_later only.link_later c.receive_all.ensures.link refl stopped)
+
+pub returns-in_err-read-clause-out : goal.returns-in_err-read-clause-out
+returns-in_err-read-clause-out g c =
+    let opened = seen c.args.outside.now in
+    let after = outside_seen g.P.Place g.K.Link g.S.Sink c.receive_all.new.place c.receive_all.new.link
+    c.args.outside.now.out.now c.receive_all.new.steps in
+    let stop = c.in_err-read.field-0.0 in
+    out_calm c.from_residual.result stop c.from_residual.ensures.1
+    (stopped_calm c.new-receiver.result.format g.F.Field.is_element g.F.Field.coding stop (way_of c.args.from)
+    (kept_set c.new-receiver.result) opened.place after.place opened.link after.link c.in_err-read.ensures.stopped)
+    opened.out_faults
 
 pub returns-clause-done : goal.returns-clause-done
 returns-clause-done g c layers before o only =

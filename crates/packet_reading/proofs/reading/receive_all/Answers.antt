@@ -52,7 +52,8 @@ returns-in_err-next_datagram-clause-stopped g c =
     (stop_of_route failed) c.from_residual.ensures.1
     (stopped_so_far t P coding failed from set c.loop-turn.turn first before now link_first link_before link_now
     c.loop-turn.receiver c.args.steps.now c.loop-turn.steps c.loop-turn.invariant.so_far
-    (omega arith) c.in_err-next_datagram.ensures.feed
+    (omega arith) c.loop-turn.invariant.names c.loop-turn.invariant.place_later c.loop-turn.invariant.receives
+    c.loop-turn.invariant.link_later c.in_err-next_datagram.ensures.feed
     c.next_datagram.ensures.others.place.files c.in_err-next_datagram.ensures.cause)
 
 pub returns-in_err-next_datagram-clause-link : goal.returns-in_err-next_datagram-clause-link
@@ -113,6 +114,9 @@ returns-in_err-receive_one-in-Datagram-clause-stopped g c =
     c.loop-turn.receiver c.args.steps.now c.loop-turn.steps
     c.loop-turn.invariant.so_far (omega arith) refl c.loop-turn.invariant.names step
     c.next_datagram.ensures.others.place
+    (let held = c.loop-turn.invariant in
+    omega (arith, held.place_later, c.next_datagram.ensures.others.place_later))
+    c.in_err-receive_one-in-Datagram.ensures.cause
     (subst (λ (f : Format). PartOfOne f P coding c.loop-turn.receiver (c.loop-turn.turn + 1)
     (take c.in-Datagram.len into) between now) c.loop-turn.invariant.format
     c.in_err-receive_one-in-Datagram.ensures.part))

@@ -6,7 +6,9 @@ use Rattle.outside_routes.specs.Way.{Way, way_of}
 use Rattle.packet_receiver.specs.Arrivals.{kept_set}
 use Rattle.pet_byte.specs.Failures.{byte_of_place, byte_of_link}
 use Rattle.pet_byte.specs.ReceivesBytes.{ReceivesBytes}
-use Rattle.pet_byte.proofs.Ends.{bound_at_any, bound_at_stop, calm_at, ends_read, ends_stopped, link_alike, place_alike}
+use Rattle.packet_reading.specs.Begun.{OutStops}
+use Rattle.pet_byte.proofs.Ends.{bound_at_any, bound_at_stop, calm_at, ends_read, ends_stopped, link_alike, output_alike}
+use Rattle.pet_byte.proofs.Ends.{place_alike}
 use Rattle.pet_byte.proofs.breceive.breceive.Goals as goal
 
 pub returns-in-Ok-clause-receives : goal.returns-in-Ok-clause-receives
@@ -22,6 +24,9 @@ returns-in-Ok-clause-receives g c =
       link = c.read_layers.ensures.link;
       bound = bound_at_any from before.link after.link c.end_after.result c.in-Ok.ensures.listens;
       later = c.read_layers.ensures.later;
+      out =
+          subst (λ (failed : Bool). OutStops failed before after)
+          (sym (calm_at read.totals read.complete c.end_after.result c.end_after.ensures).2) c.in-Ok.ensures.out;
       ends =
           ends_read from c.args.session c.args.layers.now before after done.0 (kept_set read.receiver) read.totals
           read.complete done.1 done.2 c.end_after.result c.end_after.ensures;
@@ -39,6 +44,7 @@ returns-in-Err-clause-receives g c =
       link = c.read_layers.ensures.link;
       bound = bound_at_stop from before.link after.link c.in-Err.stop c.in-Err.ensures.bound;
       later = c.read_layers.ensures.later;
+      out = subst (λ (failed : Bool). OutStops failed before after) (output_alike c.in-Err.stop) c.in-Err.ensures.out;
       ends = ends_stopped c.in-Err.stop from c.args.session c.args.layers.now before after c.in-Err.ensures.stop;
     }))
 
