@@ -27,7 +27,17 @@ use Rattle.pet_keep.specs.Journaled.{AreFirst}
 use Rattle.pet_keep.specs.declared.stop.KeepStop.{KeepStop}
 use Rattle.pet_keep.specs.declared.stop.KeepStop.TheVariants as stop
 use Rattle.pet_keep.specs.inside.SoFar.{AllStand, CameAll, CameTo, IsKeepStop, StandsAfterFirst, StopsKeeping}
-use Rattle.pet_keep.specs.inside.SoFar.{of_failed, of_fault}
+use Rattle.pet_keep.specs.inside.SoFar.{IsEndOf, end_of, of_an_output, of_failed, of_fault, of_route, of_stop}
+use Rattle.outside_routes.specs.declared.fault.RouteStop.{RouteStop}
+use Rattle.outside_routes.specs.declared.fault.RouteStop.TheVariants as route
+use Rattle.packet_reading.specs.Begun.{OutStops, stop_of_an_output}
+use Rattle.pet_base.specs.Causes.{stops}
+use Rattle.pet_base.specs.OutsideSeen.{OutsideSeen}
+use Rattle.pet_base.specs.declared.faults.Stop.{Stop}
+use Rattle.pet_base.specs.declared.faults.Stop.TheVariants as place
+use Rattle.pet_keep.specs.Keeps.{FewHaveLeft, end_of_output}
+use Rattle.pet_keep.specs.declared.end.KeepEnd.{KeepEnd}
+use Rattle.pet_keep.specs.declared.end.KeepEnd.TheVariants as end
 
 pub came_start : (first : KeptSet) (all : Option (List (List ℕ))) → CameTo first 0 all all first
 unfolding after_all_in
@@ -178,3 +188,76 @@ pub leaves_less : (first : KeptSet) (n : ℕ) (all left next_left : Option (List
 leaves_less first n all left next_left now came len into e a b c is step so_far more =
     leaves_more first n all left now came len into next_left a b c
     (subst (λ (x : Entry). TakesDatagram left x into next_left) is step) so_far more
+
+-- no more than 16,777,216 have left the link
+pub few_so_far : (from : Way) (first : KeptSet) (n : ℕ) (place_first place_now : Seen) (link_first link_now : LinkSeen)
+    (now : KeptSet) → CameTo first n (coming from place_first link_first) (coming from place_now link_now) now
+    → n ≤ MAX_DATAGRAMS → FewHaveLeft from link_first link_now
+few_so_far (OnFile name) first n place_first place_now link_first link_now now came few = tt
+few_so_far (OnLink address) first n place_first place_now link_first link_now now came few =
+    (came.read, omega (arith, came.many, few), came.rest)
+
+-- nor has one since
+pub few_still : (from : Way) (first before now : LinkSeen) → KeepsFeed from before now → FewHaveLeft from first before
+    → FewHaveLeft from first now
+few_still (OnFile name) first before now feed few = tt
+few_still (OnLink address) first before now feed few =
+    (few.0, few.1, subst (λ (o : Option (List (List ℕ))). HaveCome few.0 first.feed o) (sym feed) few.2)
+
+-- nor had one before
+pub few_since : (from : Way) (before first now : LinkSeen) → KeepsFeed from before first → FewHaveLeft from first now
+    → FewHaveLeft from before now
+few_since (OnFile name) before first now feed few = tt
+few_since (OnLink address) before first now feed few =
+    (few.0, few.1, subst (λ (o : Option (List (List ℕ))). HaveCome few.0 o now.feed) feed few.2)
+
+pub few_none : (from : Way) (link : LinkSeen) → FewHaveLeft from link link
+few_none (OnFile name) link = tt
+few_none (OnLink address) link = ([], omega arith, come_nothing link.feed)
+
+-- which stop tells of a failure of the output
+pub output_of_route : (why : RouteStop) → stop_of_an_output why ≡ of_an_output (of_route why)
+output_of_route route.NoMemory = refl
+output_of_route route.Place = refl
+output_of_route route.Link = refl
+output_of_route route.Out = refl
+
+pub output_of_stop : (why : Stop) → false ≡ of_an_output (of_stop why)
+output_of_stop place.NoMemory = refl
+output_of_stop place.Failed = refl
+
+pub output_of_end : (why : KeepStop) → of_an_output why ≡ end_of_output (end_of why)
+output_of_end stop.NoMemory = refl
+output_of_end stop.Place = refl
+output_of_end stop.Link = refl
+output_of_end stop.Out = refl
+output_of_end stop.Disk = refl
+
+pub no_output : (A B D : Type 0) (why : KeepStop) → IsKeepStop A B ⊥ D why
+    → false ≡ of_an_output why
+no_output A B D stop.NoMemory cause = refl
+no_output A B D stop.Place cause = refl
+no_output A B D stop.Link cause = refl
+no_output A B D stop.Out cause = absurd cause
+no_output A B D stop.Disk cause = refl
+
+pub read_to_end : (set : KeptSet) (n : ℕ) (e : KeepEnd) → IsEndOf set n e → false ≡ end_of_output e
+read_to_end set n (end.Done totals) is = refl
+read_to_end set n (end.Incomplete totals) is = refl
+read_to_end set n (end.TurnsSpent totals) is = refl
+read_to_end set n end.Usage is = absurd is
+read_to_end set n end.NoMemory is = absurd is
+read_to_end set n end.PlaceFault is = absurd is
+read_to_end set n end.LinkFault is = absurd is
+read_to_end set n end.OutFault is = absurd is
+read_to_end set n end.OtherSession is = absurd is
+read_to_end set n end.DiskFault is = absurd is
+read_to_end set n (end.BadJournal at) is = absurd is
+
+-- the output failed in this call exactly where the answer tells so
+pub out_of : {T : Type 0} (result : Result T KeepStop) (why : KeepStop) (failed : Bool) (before after : OutsideSeen)
+    → IsErrAnd result (λ s. s ≡ why) → failed ≡ of_an_output why → OutStops failed before after
+    → OutStops (stops of_an_output result) before after
+out_of (Ok x) why failed before after is alike out = absurd is
+out_of (Err e) why failed before after is alike out =
+    subst (λ (b : Bool). OutStops b before after) (alike ∙ ap of_an_output (sym is)) out

@@ -19,7 +19,9 @@ use Rattle.store_journal.specs.declared.fault.StartFault.TheVariants as start
 use Rattle.store_keeper.specs.Journal.{keep_frame}
 use Rattle.store_keeper.specs.Keeper.{ReadsAsBefore, Starts}
 use Rattle.pet_keep.specs.Journaled.{DiskNow, HasJournal, disk_now, offered}
-use Rattle.pet_keep.specs.Keeps.{EndsFrom, EndsKeep, EndsOpened, IsIdle, Keeps}
+use Rattle.packet_reading.specs.Begun.{OutStops}
+use Rattle.pet_keep.specs.Keeps.{EndsFrom, EndsKeep, EndsOpened, FewHaveLeft, IsIdle, Keeps, end_of_output}
+use Rattle.pet_keep.proofs.CameSoFar.{few_none}
 use Rattle.pet_keep.specs.Runs.{of_link, of_place}
 use Rattle.pet_keep.specs.Statuses.{status_of}
 use Rattle.pet_keep.specs.declared.end.KeepEnd.{KeepEnd}
@@ -97,10 +99,19 @@ pub nothing_kept : (from : Way) (session store : List ℕ) (before : OutsideSeen
 nothing_kept from session store before disk = record {
   images = since_same session (offered from before) disk.seen;
   link = link_same from before.link;
+  few = few_none from before.link;
   later = omega arith;
+  out = refl;
   disk_later = omega arith;
   ends = inl (record { place = refl; link = refl; written = refl; out_faults = refl });
 }
+
+-- the output is as before
+not_output : (fault : StartFault) (before : OutsideSeen) → OutStops (end_of_output (end_of_start fault)) before before
+not_output (start.BadJournal at) before = refl
+not_output (start.OtherSession named) before = refl
+not_output start.DiskFault before = refl
+not_output start.NoMemory before = refl
 
 -- the journal was refused
 pub refused : (from : Way) (session store : List ℕ) (before : OutsideSeen) (old new : DiskNow) (fault : StartFault)
@@ -114,7 +125,9 @@ refused from session store before old new fault e is images told keeps cause lat
     (record {
       images = since_opening session (offered from before) old.seen new.seen images;
       link = link_same from before.link;
+      few = few_none from before.link;
       later = omega arith;
+      out = not_output fault before;
       disk_later = later;
       ends =
           refused_ends from session store before before old new fault told keeps cause
@@ -127,15 +140,18 @@ pub kept_on : {D : Type 0} (d : DiskOf D) (from : Way) (session store : List ℕ
     → Starts session MAX_SESSION (d.seen old) (d.seen mid) set → d.faults old ≤ d.faults mid
     → EndsFrom set from store before after (disk_now d mid) (disk_now d new) e
     → Between (LeavesOnly (StandsAfterFirst set (offered from before))) (d.seen mid) (d.seen new)
-    → KeepsLink from before.link after.link → before.out_faults ≤ after.out_faults → d.faults mid ≤ d.faults new
+    → KeepsLink from before.link after.link → FewHaveLeft from before.link after.link
+    → before.out_faults ≤ after.out_faults → OutStops (end_of_output e) before after → d.faults mid ≤ d.faults new
     → Keeps from session store before after (disk_now d old) (disk_now d last) e
-kept_on {D = D} d from session store before after set old mid new last e is sound starts started left keeps link
-    later disk_later =
+kept_on {D = D} d from session store before after set old mid new last e is sound starts started left keeps link few
+    later out disk_later =
     subst (λ (x : D). Keeps from session store before after (disk_now d old) (disk_now d x) e) (sym is)
     (record {
       images = since_keeping session (offered from before) set (d.seen old) (d.seen mid) (d.seen new) sound starts keeps;
       link = link;
+      few = few;
       later = later;
+      out = out;
       disk_later = omega (arith, started, disk_later);
       ends =
           opened_ends from session store before after (disk_now d old) (disk_now d new) (disk_now d mid) set

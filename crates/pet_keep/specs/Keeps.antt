@@ -1,5 +1,6 @@
 -- What `keep` leaves at each of its ends. This project's own.
-use Rattle.std.specs.Prelude.{ℕ, ◌≡◌, ◌⊎◌, ◌<◌, ◌≤◌, List, [], ◌∷◌, length, None, Some, Err}
+use Rattle.std.specs.Prelude.{Bool, true, false, ℕ, ◌≡◌, ◌⊎◌, ◌<◌, ◌≤◌, List, [], ◌∷◌, length, None, Some, Err}
+use Rattle.packet_reading.specs.Begun.{OutStops}
 use Rattle.packet_reading.specs.Opened.{IsBoundTo, IsUntouched, KeepsLink, PortFailed, PrintedPort}
 use Rattle.packet_reading.specs.Layers.{IsRead}
 use Rattle.packet_reading.specs.declared.reading.Totals.{Totals}
@@ -14,6 +15,7 @@ use Rattle.packet_verdicts.specs.KeptSet.{KeptSet, kept_in_all}
 use Rattle.packet_verdicts.specs.Verdicts.{after_all}
 use Rattle.pet_base.specs.Causes.{Rose}
 use Rattle.pet_base.specs.declared.limits.TheConstants.{MAX_DATAGRAMS}
+use Rattle.pet_base.specs.LinkSeen.{LinkSeen}
 use Rattle.pet_base.specs.OutsideSeen.{OutsideSeen}
 use Rattle.pet_base.specs.Seen.{Blame, HadFault}
 use Rattle.pet_receive.specs.ShownBytes.{IsComplete, shown_in_all}
@@ -70,6 +72,26 @@ IsUseInTurn (OnFile name) store before after blame =
     ⊎ ((blame ≡ writing store) × ((read : List (List ℕ)) × IsRead (OnFile name) read before after))
 IsUseInTurn (OnLink address) store before after blame =
     (blame ≡ writing store) × ((read : List (List ℕ)) × IsRead (OnLink address) read before after)
+
+-- no more than 16,777,216 datagrams have left the link
+abbrev pub FewHaveLeft : Way → LinkSeen → LinkSeen → Type 0
+FewHaveLeft (OnFile name) old new = Unit {0}
+FewHaveLeft (OnLink address) old new =
+    (read : List (List ℕ)) × (length read ≤ MAX_DATAGRAMS) × HaveCome read old.feed new.feed
+
+-- which end tells of a failure of the output
+abbrev pub end_of_output : KeepEnd → Bool
+end_of_output (Done totals) = false
+end_of_output (Incomplete totals) = false
+end_of_output (TurnsSpent totals) = false
+end_of_output NoMemory = false
+end_of_output PlaceFault = false
+end_of_output LinkFault = false
+end_of_output OutFault = true
+end_of_output DiskFault = false
+end_of_output OtherSession = false
+end_of_output (BadJournal at) = false
+end_of_output Usage = false
 
 -- the numbers of these datagrams, handed to what the journal had: how many they are, how many packets are kept, and
 -- how many
@@ -158,14 +180,15 @@ EndsKeep from session store before after old new (BadJournal at) =
     IsRefused session old new (start.BadJournal at) × IsIdle before after
 EndsKeep from session store before after old new Usage = ⊥
 
--- What `keep` does: whatever its end, what a crash may leave of the journal since its beginning stands for what one
--- stood for that
--- a crash could have left then, with the first datagrams of FROM handed to that. It sends nothing, and no count of faults
--- falls.
+-- What `keep` does: whatever its end, what a crash may leave of the journal since its beginning stands for what one stood
+-- for that a crash could have left then, with the first datagrams of FROM handed to that. It sends nothing, never more than
+-- 16,777,216 datagrams leave the link, no count of faults falls, and the output fails once at OutFault and at no other end.
 pub record Keeps (from : Way) (session store : List ℕ) (before after : OutsideSeen) (old new : DiskNow)
     (end : KeepEnd) : Type 0 where
   pub images : Between (SinceBeginning session (offered from before)) old.seen new.seen
   pub link : KeepsLink from before.link after.link
+  pub few : FewHaveLeft from before.link after.link
   pub later : before.out_faults ≤ after.out_faults
+  pub out : OutStops (end_of_output end) before after
   pub disk_later : old.faults ≤ new.faults
   pub ends : EndsKeep from session store before after old new end

@@ -12,15 +12,15 @@ ghost use Rattle.outside_routes.specs.RouteFaults.{InputFailed, ReceivingFailed}
 ghost use Rattle.outside_routes.specs.Way.{way_of};
 ghost use Rattle.packet_verdicts.specs.Verdicts.{after};
 ghost use Rattle.pet_receive.specs.Arrivals.{kept_set};
-ghost use Rattle.packet_reading.specs.Begun.{LinkReceives};
+ghost use Rattle.packet_reading.specs.Begun.{LinkReceives, OutStops};
 ghost use Rattle.packet_reading.specs.Opened.{KeepsLink};
 ghost use Rattle.store_keeper.specs.Journal.{StandsWith};
 ghost use Rattle.pet_keep.specs.Journaled.{disk_now, offered, uncounted};
-ghost use Rattle.pet_keep.specs.Keeps.{EndsFrom};
+ghost use Rattle.pet_keep.specs.Keeps.{EndsFrom, FewHaveLeft, end_of_output};
 ghost use Rattle.pet_keep.specs.Runs.{of_place, of_link};
 ghost use Rattle.pet_keep.specs.Statuses.{status_of};
 ghost use Rattle.pet_keep.specs.declared.end.KeepEnd.{KeepEnd as End};
-ghost use Rattle.pet_keep.specs.inside.SoFar.{AllStand, CameAll, IsEndOf, IsKeepStop, StandsAfterFirst, StopsKeeping, end_of, of_a_place, of_a_link};
+ghost use Rattle.pet_keep.specs.inside.SoFar.{AllStand, CameAll, IsEndOf, IsKeepStop, StandsAfterFirst, StopsKeeping, end_of, of_a_place, of_a_link, of_an_output};
 
 use crate::end::KeepEnd;
 use crate::stop::{KeepStop, end_of_stop};
@@ -53,7 +53,9 @@ pub(crate) fn keep_to_end<D: Disk, P: Place, K: Link, S: Sink, L: Ledger>(
         (offered (way_of from.entry) (uncounted (seen outside.old))))) (D.seen keeper.old.disk) (D.seen keeper.new.disk) }
     ensures disk_later { D.faults keeper.old.disk ≤ D.faults keeper.new.disk }
     ensures link { KeepsLink (way_of from.entry) (seen outside.old).link (seen outside.new).link }
+    ensures few { FewHaveLeft (way_of from.entry) (seen outside.old).link (seen outside.new).link }
     ensures later { (seen outside.old).out_faults ≤ (seen outside.new).out_faults }
+    ensures out { OutStops (end_of_output result) (seen outside.old) (seen outside.new) }
     ensures same { AreSame outside.old outside.new }
     ensures once { EndsAtOnce (of_place (status_of result)) (of_link (status_of result))
         (uncounted (seen outside.old)) (uncounted (seen outside.new)) }
@@ -105,7 +107,9 @@ fn keep_from<D: Disk, P: Place, K: Link, S: Sink, L: Ledger>(
         (offered (way_of from.entry) (uncounted (seen outside.old))))) (D.seen keeper.old.disk) (D.seen keeper.new.disk) }
     ensures disk_later { D.faults keeper.old.disk ≤ D.faults keeper.new.disk }
     ensures link { KeepsLink (way_of from.entry) (seen outside.old).link (seen outside.new).link }
+    ensures few { FewHaveLeft (way_of from.entry) (seen outside.old).link (seen outside.new).link }
     ensures later { (seen outside.old).out_faults ≤ (seen outside.new).out_faults }
+    ensures out { OutStops (stops of_an_output result) (seen outside.old) (seen outside.new) }
     ensures same { AreSame outside.old outside.new }
     ensures once_place { PlaceStops (stops of_a_place result) (seen outside.old).place (seen outside.new).place }
     ensures once_link { LinkStops (stops of_a_link result) (seen outside.old).link (seen outside.new).link }
@@ -150,6 +154,7 @@ fn keep_all<D: Disk, P: Place, K: Link, L: Ledger>(
     ensures disk_later { D.faults keeper.old.disk ≤ D.faults keeper.new.disk }
     ensures place { OnlyReads (P.seen place.old) (P.seen place.new) }
     ensures link { LinkReceives (way_of from.entry) (K.seen link.old) (K.seen link.new) }
+    ensures few { FewHaveLeft (way_of from.entry) (K.seen link.old) (K.seen link.new) }
     ensures place_later { (P.seen place.old).faults ≤ (P.seen place.new).faults }
     ensures link_later { (K.seen link.old).faults ≤ (K.seen link.new).faults }
     ensures cause { IfErr result (IsKeepStop

@@ -75,6 +75,13 @@ of_a_link stop.Link = true
 of_a_link stop.Out = false
 of_a_link stop.Disk = false
 
+abbrev pub of_an_output : KeepStop → Bool
+of_an_output stop.NoMemory = false
+of_an_output stop.Place = false
+of_an_output stop.Link = false
+of_an_output stop.Out = true
+of_an_output stop.Disk = false
+
 -- whatever a crash leaves now stands for the set
 abbrev pub AllStand : KeptSet → DiskSeen → Type 0
 AllStand set disk = IfTold disk (EachNow (StandsFor set))

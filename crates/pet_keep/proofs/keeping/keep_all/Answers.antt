@@ -1,11 +1,12 @@
-use Rattle.std.proofs.Common.{◌∙◌, arith, refl, subst}
+use Rattle.std.proofs.Common.{◌∙◌, ◌+◌, arith, refl, subst, take}
 use Rattle.outside_routes.specs.Way.{way_of}
 use Rattle.outside_routes.specs.Coming.{coming, TakesDatagram}
 use Rattle.pet_receive.specs.Arrivals.{kept_set}
 use Rattle.packet_reading.specs.laws.BegunLaws.{input_kept, receives_nothing, receives_more}
 use Rattle.pet_keep.specs.inside.SoFar.{StandsAfterFirst, StopsKeeping, of_failed}
 use Rattle.pet_keep.proofs.CameSoFar.{came_start, came_more, came_all, came_until, leaves_less, leaves_more}
-use Rattle.pet_keep.proofs.CameSoFar.{leaves_none, reads_same, reads_then, stop_is}
+use Rattle.packet_verdicts.specs.Verdicts.{after}
+use Rattle.pet_keep.proofs.CameSoFar.{few_so_far, few_still, leaves_none, reads_same, reads_then, stop_is}
 use Rattle.pet_keep.proofs.keeping.keep_all.Goals as goal
 
 pub loop-turn-init : goal.loop-turn-init
@@ -135,3 +136,57 @@ loop-turn-preserved g c =
       place_later = omega (arith, held.place_later, takes.place_later);
       link_later = omega (arith, held.link_later, takes.link_later);
     }
+
+pub returns-in_err-next_datagram-clause-few : goal.returns-in_err-next_datagram-clause-few
+returns-in_err-next_datagram-clause-few g c =
+    let from = way_of c.args.from in
+    let link_first = g.K.Link.seen c.args.link.now in
+    let link_before = g.K.Link.seen c.loop-turn.link in
+    few_still from link_first link_before (g.K.Link.seen c.next_datagram.new.link)
+    c.in_err-next_datagram.ensures.feed
+    (few_so_far from (kept_set c.args.keeper.now.receiver) c.loop-turn.turn (g.P.Place.seen c.args.place.now)
+    (g.P.Place.seen c.loop-turn.place) link_first link_before (kept_set c.loop-turn.keeper.receiver)
+    c.loop-turn.invariant.so_far (omega arith))
+
+pub returns-in-End-clause-few : goal.returns-in-End-clause-few
+returns-in-End-clause-few g c =
+    let from = way_of c.args.from in
+    let first = g.P.Place.seen c.args.place.now in
+    let before = g.P.Place.seen c.loop-turn.place in
+    let now = g.P.Place.seen c.next_datagram.new.place in
+    let link_first = g.K.Link.seen c.args.link.now in
+    let link_before = g.K.Link.seen c.loop-turn.link in
+    let link_now = g.K.Link.seen c.next_datagram.new.link in
+    let into = c.next_datagram.new.into in
+    let set = kept_set c.args.keeper.now.receiver in
+    let held = kept_set c.loop-turn.keeper.receiver in
+    let step = subst (λ e. TakesDatagram (coming from before link_before) e into (coming from now link_now))
+    c.in-End.is c.in_ok-next_datagram.ensures.datagram in
+    let all = came_all set c.loop-turn.turn (coming from first link_first) (coming from before link_before) held
+    c.loop-turn.invariant.so_far into (coming from now link_now) (omega arith) step in
+    few_so_far from set c.loop-turn.turn first now link_first link_now held all.so_far (omega arith)
+
+pub returns-in_err-keep_one-in-Datagram-clause-few : goal.returns-in_err-keep_one-in-Datagram-clause-few
+returns-in_err-keep_one-in-Datagram-clause-few g c =
+    let from = way_of c.args.from in
+    let first = g.P.Place.seen c.args.place.now in
+    let before = g.P.Place.seen c.loop-turn.place in
+    let now = g.P.Place.seen c.next_datagram.new.place in
+    let link_first = g.K.Link.seen c.args.link.now in
+    let link_before = g.K.Link.seen c.loop-turn.link in
+    let link_now = g.K.Link.seen c.next_datagram.new.link in
+    let into = c.next_datagram.new.into in
+    let set = kept_set c.args.keeper.now.receiver in
+    let held = kept_set c.loop-turn.keeper.receiver in
+    let next = after held (take c.in-Datagram.len into) in
+    let step = subst (λ e. TakesDatagram (coming from before link_before) e into (coming from now link_now))
+    c.in-Datagram.is c.in_ok-next_datagram.ensures.datagram in
+    few_so_far from set (c.loop-turn.turn + 1) first now link_first link_now next
+    (came_more set c.loop-turn.turn (coming from first link_first) (coming from before link_before) held
+    c.loop-turn.invariant.so_far c.in-Datagram.len into (coming from now link_now) next step refl) (omega arith)
+
+pub returns-clause-few : goal.returns-clause-few
+returns-clause-few g c =
+    few_so_far (way_of c.args.from) (kept_set c.args.keeper.now.receiver) c.loop-turn.turn
+    (g.P.Place.seen c.args.place.now) (g.P.Place.seen c.loop-turn.place) (g.K.Link.seen c.args.link.now)
+    (g.K.Link.seen c.loop-turn.link) (kept_set c.loop-turn.keeper.receiver) c.loop-turn.invariant.so_far (omega arith)

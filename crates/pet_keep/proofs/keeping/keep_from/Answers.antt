@@ -1,4 +1,4 @@
-use Rattle.std.proofs.Common.{◌≡◌, ◌⊎◌, [], ◌∷◌, None, Some, refl, subst, arith}
+use Rattle.std.proofs.Common.{◌≡◌, ◌⊎◌, [], ◌∷◌, None, Some, false, refl, subst, arith}
 use Rattle.packet_reading.specs.laws.BegunLaws.{begun_input, link_kept}
 use Rattle.outside_routes.specs.Way.{way_of}
 use Rattle.outside_files.specs.Wrote.{Wrote}
@@ -9,7 +9,9 @@ use Rattle.pet_receive.specs.Arrivals.{kept_set}
 use Rattle.pet_keep.specs.Journaled.{disk_now, offered, uncounted}
 use Rattle.pet_keep.specs.Keeps.{EndsFrom}
 use Rattle.pet_keep.specs.inside.SoFar.{StandsAfterFirst, end_of, of_route, of_stop}
-use Rattle.pet_keep.proofs.CameSoFar.{leaves_none, stop_is}
+use Rattle.packet_reading.specs.Begun.{stop_of_an_output}
+use Rattle.pet_keep.proofs.CameSoFar.{few_none, few_since, few_still, leaves_none, no_output, out_of}
+use Rattle.pet_keep.proofs.CameSoFar.{output_of_route, output_of_stop, stop_is}
 use Rattle.pet_keep.proofs.Kept.{ends_beginning, ends_keeping, ends_kept, ends_storing, leaves_offered}
 use Rattle.pet_keep.proofs.Uncounted.{begins, stops_beginning, untouched}
 use Rattle.pet_keep.proofs.keeping.keep_from.Goals as goal
@@ -151,3 +153,46 @@ returns-clause-link g c =
     link_kept (way_of c.args.from) (seen c.args.outside.now).link (seen c.begin.new.outside).link
     (g.K.Link.seen c.keep_all.new.link) c.begin.ensures.others.link c.keep_all.ensures.link_later
     c.keep_all.ensures.link
+
+pub returns-in_err-begin-clause-few : goal.returns-in_err-begin-clause-few
+returns-in_err-begin-clause-few g c =
+    let from = way_of c.args.from in
+    let link = (seen c.args.outside.now).link in
+    few_still from link link (seen c.begin.new.outside).link c.begin.ensures.untouched.feed (few_none from link)
+
+pub returns-in_err-begin-clause-out : goal.returns-in_err-begin-clause-out
+returns-in_err-begin-clause-out g c =
+    let why = c.in_err-begin.field-0.0 in
+    out_of c.from_residual.result (of_route why) (stop_of_an_output why) (seen c.args.outside.now)
+    (seen c.begin.new.outside) c.from_residual.ensures.1 (output_of_route why) c.in_err-begin.ensures.out
+
+pub returns-in_err-read-clause-few : goal.returns-in_err-read-clause-few
+returns-in_err-read-clause-few g c =
+    few_since (way_of c.args.from) (seen c.args.outside.now).link (seen c.begin.new.outside).link
+    (g.K.Link.seen c.keep_all.new.link) c.begin.ensures.untouched.feed c.keep_all.ensures.few
+
+pub returns-in_err-read-clause-out : goal.returns-in_err-read-clause-out
+returns-in_err-read-clause-out g c =
+    let why = c.in_err-read.field-0.0 in
+    let new = outside_seen g.P.Place g.K.Link g.S.Sink c.keep_all.new.place c.keep_all.new.link
+    c.begin.new.outside.out.now c.keep_all.new.steps in
+    out_of c.from_residual-in_err-read.result why false (seen c.args.outside.now) new
+    c.from_residual-in_err-read.ensures.1 (no_output _ _ _ why c.in_err-read.ensures.cause) c.in_ok-begin.ensures.out
+
+pub returns-in_err-write_store_file-clause-few : goal.returns-in_err-write_store_file-clause-few
+returns-in_err-write_store_file-clause-few g c =
+    few_since (way_of c.args.from) (seen c.args.outside.now).link (seen c.begin.new.outside).link
+    (g.K.Link.seen c.keep_all.new.link) c.begin.ensures.untouched.feed c.keep_all.ensures.few
+
+pub returns-in_err-write_store_file-clause-out : goal.returns-in_err-write_store_file-clause-out
+returns-in_err-write_store_file-clause-out g c =
+    let why = c.in_err-write_store_file.field-0.0 in
+    let stored = outside_seen g.P.Place g.K.Link g.S.Sink c.write_store_file.new.place c.keep_all.new.link
+    c.begin.new.outside.out.now c.keep_all.new.steps in
+    out_of c.from_residual-in_err-write_store_file.result (of_stop why) false (seen c.args.outside.now) stored
+    c.from_residual-in_err-write_store_file.ensures.1 (output_of_stop why) c.in_ok-begin.ensures.out
+
+pub returns-clause-few : goal.returns-clause-few
+returns-clause-few g c =
+    few_since (way_of c.args.from) (seen c.args.outside.now).link (seen c.begin.new.outside).link
+    (g.K.Link.seen c.keep_all.new.link) c.begin.ensures.untouched.feed c.keep_all.ensures.few

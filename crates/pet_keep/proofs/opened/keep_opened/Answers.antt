@@ -22,8 +22,8 @@ returns-in-Ok-start-clause-keeps g c =
     kept_on g.D.Disk (way_of c.args.from) c.args.session c.args.store.now (uncounted (seen c.args.outside.now))
     (uncounted (seen end.new.outside)) (kept_set keeper.receiver) c.args.disk keeper.disk end.new.keeper.disk
     c.stop.result end.result c.stop.ensures (g.met.D.Disk.sound c.args.disk) c.in-Ok-start.ensures.starts
-    c.in-Ok-start.ensures.later_ok end.ensures.ends end.ensures.images end.ensures.link end.ensures.later
-    end.ensures.disk_later
+    c.in-Ok-start.ensures.later_ok end.ensures.ends end.ensures.images end.ensures.link end.ensures.few
+    end.ensures.later end.ensures.out end.ensures.disk_later
 
 pub returns-clause-keeps : goal.returns-clause-keeps
 returns-clause-keeps g c =
