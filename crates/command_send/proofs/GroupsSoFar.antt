@@ -21,17 +21,19 @@ use Rattle.stream_groups.specs.declared.groups.GroupCutter.{GroupCutter}
 use Rattle.stream_groups.specs.laws.FilledLaws.{IsFilled, given_filled}
 use Rattle.stream_groups.specs.laws.FittingLaws.{IsWhole, given_whole}
 use Rattle.stream_session.specs.Marks.{mark_of, no_mark, mark_at, group_marks}
-use Rattle.stream_session.specs.Tables.{table_of}
-use Rattle.command_send.specs.inside.Job.{job}
+use Rattle.stream_session.specs.Tables.{table_of_in}
+use Rattle.command_send.specs.inside.Job.{Job}
 use Rattle.command_send.specs.declared.sent_group.Change.{Change}
 use Rattle.command_send.specs.declared.second.SentGroups.{SentGroups}
-use Rattle.packet_session.specs.Datagrams.{group_datagrams}
+use Rattle.packet_session.specs.Datagrams.{group_datagrams_in}
 use Rattle.command_send.specs.Sending.{encoding_of, encodings_from, sent_datagrams, words_cost, AgreeBelow, HaveTables}
 use Rattle.command_send.specs.Sending.{AreFound}
 use Rattle.command_send.specs.inside.Sending.{HasSentSome, IsPart}
 use Rattle.command_send.specs.inside.Second.{HasGone, HasReached, Knows, cost_at, cost_left, SendsGroup, SendsGroupPart}
+use Rattle.command_send.specs.inside.Second.{datagrams_of}
+use Rattle.field_elements.specs.Field.{Coding}
+use Rattle.packet_frame.specs.declared.format.Format.{Format}
 use Rattle.outside_routes.specs.Sending.{Routes, Sends, SendsPart}
-use Rattle.outside_routes.specs.Way.{Way}
 use Rattle.outside_routes.specs.laws.SendingLaws.{sends_then, part_after, part_whole}
 use Rattle.command_send.proofs.FoundGroups.{found_of_all}
 use Rattle.command_send.proofs.EncodedGroup.{front_more}
@@ -55,37 +57,38 @@ pub cost_all : (tables : List Sizes) → cost_left tables 0 ≡ sum_by words_cos
 unfolding cost_left
 cost_all tables = refl
 
-encodings_append : (source : Source) (first : ℕ) (a b : List CutGroup)
-    → encodings_from source first (a ++ b) ≡ encodings_from source first a ++ encodings_from source (first + length a) b
-encodings_append source first [] b = ap (λ (k : ℕ). encodings_from source k b) (omega arith)
-encodings_append source first (g ∷ a) b =
+encodings_append : (t : Format) (source : Source) (first : ℕ) (a b : List CutGroup)
+    → encodings_from t source first (a ++ b)
+    ≡ encodings_from t source first a ++ encodings_from t source (first + length a) b
+encodings_append t source first [] b = ap (λ (k : ℕ). encodings_from t source k b) (omega arith)
+encodings_append t source first (g ∷ a) b =
     let along : first + 1 + length a ≡ first + length (g ∷ a) = omega arith in
-    ap (λ (t : List Encoding). encoding_of source first g ∷ t) (encodings_append source (first + 1) a b)
-    ∙ ap (λ (k : ℕ). encoding_of source first g ∷ (encodings_from source (first + 1) a ++ encodings_from source k b))
+    ap (λ (es : List Encoding). encoding_of t source first g ∷ es) (encodings_append t source (first + 1) a b)
+    ∙ ap (λ (k : ℕ). encoding_of t source first g ∷ (encodings_from t source (first + 1) a ++ encodings_from t source k b))
     along
 
 -- the entries of more groups
-pub text_append : (source : Source) (a b : List CutGroup)
-    → sent_datagrams source (a ++ b)
-    ≡ sent_datagrams source a ++ flat_map group_datagrams (encodings_from source (length a) b)
+pub text_append : {E : Type 0} (t : Format) (c : Coding E) (source : Source) (a b : List CutGroup)
+    → sent_datagrams t c source (a ++ b)
+    ≡ sent_datagrams t c source a ++ flat_map (group_datagrams_in t c) (encodings_from t source (length a) b)
 unfolding sent_datagrams
-text_append source a b =
+text_append t c source a b =
     let at : 0 + length a ≡ length a = omega arith in
-    ap (flat_map group_datagrams) (encodings_append source 0 a b)
-    ∙ ap (λ (k : ℕ). flat_map group_datagrams (encodings_from source 0 a ++ encodings_from source k b)) at
-    ∙ flat_map-append group_datagrams (encodings_from source 0 a) (encodings_from source (length a) b)
+    ap (flat_map (group_datagrams_in t c)) (encodings_append t source 0 a b)
+    ∙ ap (λ (k : ℕ). flat_map (group_datagrams_in t c) (encodings_from t source 0 a ++ encodings_from t source k b)) at
+    ∙ flat_map-append (group_datagrams_in t c) (encodings_from t source 0 a) (encodings_from t source (length a) b)
 
-pub text_more : (source : Source) (groups : List CutGroup) (g : CutGroup)
-    → sent_datagrams source (groups ++ g ∷ [])
-    ≡ sent_datagrams source groups ++ group_datagrams (encoding_of source (length groups) g)
-text_more source groups g =
-    text_append source groups (g ∷ [])
-    ∙ ap (λ (t : List (List ℕ)). sent_datagrams source groups ++ t)
-    (append-nil (group_datagrams (encoding_of source (length groups) g)))
+pub text_more : {E : Type 0} (t : Format) (c : Coding E) (source : Source) (groups : List CutGroup) (g : CutGroup)
+    → sent_datagrams t c source (groups ++ g ∷ [])
+    ≡ sent_datagrams t c source groups ++ group_datagrams_in t c (encoding_of t source (length groups) g)
+text_more t c source groups g =
+    text_append t c source groups (g ∷ [])
+    ∙ ap (λ (ds : List (List ℕ)). sent_datagrams t c source groups ++ ds)
+    (append-nil (group_datagrams_in t c (encoding_of t source (length groups) g)))
 
-pub text_none : (source : Source) → sent_datagrams source [] ≡ []
+pub text_none : {E : Type 0} (t : Format) (c : Coding E) (source : Source) → sent_datagrams t c source [] ≡ []
 unfolding sent_datagrams
-text_none source = refl
+text_none t c source = refl
 
 -- the marks of the groups before
 mark_left : (groups : List CutGroup) (g : CutGroup) (k : ℕ) → k < length groups
@@ -119,11 +122,11 @@ agree_more marks groups g agree same k lt = elim (cases_lt k (length groups)) [
       subst (λ n. mark_at marks n ≡ mark_at (group_marks (groups ++ g ∷ [])) n) at (same ∙ sym (mark_last groups g))
 ]
 
-tables_more : (source : Source) (groups : List CutGroup) (g : CutGroup) → HaveTables source groups
-    → slice_get source.tables.items (length groups) ≡ Some (table_of source.priority g.cut)
-    → HaveTables source (groups ++ g ∷ [])
-tables_more source groups g h at =
-    let table : CutGroup → Sizes = λ x. table_of source.priority x.cut in
+tables_more : (t : Format) (source : Source) (groups : List CutGroup) (g : CutGroup) → HaveTables t source groups
+    → slice_get source.tables.items (length groups) ≡ Some (table_of_in t source.priority g.cut)
+    → HaveTables t source (groups ++ g ∷ [])
+tables_more t source groups g h at =
+    let table : CutGroup → Sizes = λ x. table_of_in t source.priority x.cut in
     let first : List Sizes = map table groups in
     let more = front_more first h.0 (table g)
     (ap (λ ts. slice_get ts (length first)) (sym h.1)
@@ -131,90 +134,90 @@ tables_more source groups g h at =
     (more.0, h.1 ∙ (more.1 ∙ ap (λ l. l ++ more.0) (sym (map_push table groups g))))
 
 -- one group more was sent
-pub some_more : (way : Way) (source : Source) (marks : List GroupMark) (groups : List CutGroup) (g : CutGroup)
-    (first before after : Routes) → HasSentSome (job way source marks) groups first before
-    → SendsGroup (job way source marks) (length groups) g before after → after.place.target ≡ before.place.target
-    → HasSentSome (job way source marks) (groups ++ g ∷ []) first after
-some_more way source marks groups g first before after h sends target = record {
-  agree = agree_more marks groups g h.agree sends.0.mark;
-  tables = tables_more source groups g h.tables sends.0.table;
+pub some_more : {E : Type 0} (j : Job E) (groups : List CutGroup) (g : CutGroup)
+    (first before after : Routes) → HasSentSome j groups first before
+    → SendsGroup j (length groups) g before after → after.place.target ≡ before.place.target
+    → HasSentSome j (groups ++ g ∷ []) first after
+some_more j groups g first before after h sends target = record {
+  agree = agree_more j.marks groups g h.agree sends.0.mark;
+  tables = tables_more j.format j.source groups g h.tables sends.0.table;
   target = target ∙ h.target;
   sends =
-      subst (λ (t : List (List ℕ)). Sends way t first after) (sym (text_more source groups g))
-      (sends_then way (sent_datagrams source groups)
-      (group_datagrams (encoding_of source (length groups) g)) first before after h.target h.sends sends.1);
+      subst (λ (t : List (List ℕ)). Sends j.way t first after) (sym (text_more j.format j.coding j.source groups g))
+      (sends_then j.way (sent_datagrams j.format j.coding j.source groups)
+      (datagrams_of j (length groups) g) first before after h.target h.sends sends.1);
 }
 
 -- a front of the next group's packets
-part_at : (way : Way) (source : Source) (marks : List GroupMark) (First : List CutGroup → Type 0)
+part_at : {E : Type 0} (j : Job E) (First : List CutGroup → Type 0)
     (groups : List CutGroup) (g : CutGroup) (first before after : Routes)
-    → HasSentSome (job way source marks) groups first before → First (groups ++ g ∷ [])
-    → SendsGroupPart (job way source marks) (length groups) g before after → IsPart (job way source marks) First first after
-part_at way source marks First groups g first before after h firsts sends = record {
+    → HasSentSome j groups first before → First (groups ++ g ∷ [])
+    → SendsGroupPart j (length groups) g before after → IsPart j First first after
+part_at j First groups g first before after h firsts sends = record {
   groups = groups ++ g ∷ [];
   first_groups = firsts;
-  agree = agree_more marks groups g h.agree sends.0.mark;
-  tables = tables_more source groups g h.tables sends.0.table;
+  agree = agree_more j.marks groups g h.agree sends.0.mark;
+  tables = tables_more j.format j.source groups g h.tables sends.0.table;
   sends =
-      subst (λ (t : List (List ℕ)). SendsPart way t first after) (sym (text_more source groups g))
-      (part_after way (sent_datagrams source groups)
-      (group_datagrams (encoding_of source (length groups) g)) first before after h.target h.sends sends.1);
+      subst (λ (t : List (List ℕ)). SendsPart j.way t first after) (sym (text_more j.format j.coding j.source groups g))
+      (part_after j.way (sent_datagrams j.format j.coding j.source groups)
+      (datagrams_of j (length groups) g) first before after h.target h.sends sends.1);
 }
 
 -- a failure before a group's packets
-part_some : (way : Way) (source : Source) (marks : List GroupMark) (First : List CutGroup → Type 0)
-    (groups : List CutGroup) (first now : Routes) → HasSentSome (job way source marks) groups first now → First groups
-    → IsPart (job way source marks) First first now
-part_some way source marks First groups first now h firsts = record {
+part_some : {E : Type 0} (j : Job E) (First : List CutGroup → Type 0)
+    (groups : List CutGroup) (first now : Routes) → HasSentSome j groups first now → First groups
+    → IsPart j First first now
+part_some j First groups first now h firsts = record {
   groups = groups;
   first_groups = firsts;
   agree = h.agree;
   tables = h.tables;
-  sends = part_whole way (sent_datagrams source groups) first now h.sends;
+  sends = part_whole j.way (sent_datagrams j.format j.coding j.source groups) first now h.sends;
 }
 
-pub part_gone : (way : Way) (source : Source) (marks : List GroupMark) (stream : List ℕ) (pass : SentGroups)
-    (first now : Routes) → HasGone (job way source marks) stream pass first now
-    → IsPart (job way source marks) (HaveEnded source.priority stream) first now
-part_gone way source marks stream pass first now h =
-    part_some way source marks (HaveEnded source.priority stream) h.groups first now h.sent
-    (given_ended pass.cutter source.priority stream h.groups h.cut)
+pub part_gone : {E : Type 0} (j : Job E) (stream : List ℕ) (pass : SentGroups)
+    (first now : Routes) → HasGone j stream pass first now
+    → IsPart j (HaveEnded j.source.priority stream) first now
+part_gone j stream pass first now h =
+    part_some j (HaveEnded j.source.priority stream) h.groups first now h.sent
+    (given_ended pass.cutter j.source.priority stream h.groups h.cut)
 
-pub part_stands : (way : Way) (source : Source) (marks : List GroupMark) (stream : List ℕ) (change : Option Change)
-    (pass : SentGroups) (first now : Routes) → HasReached (job way source marks) stream change pass first now
-    → IsPart (job way source marks) (HaveEnded source.priority stream) first now
-part_stands way source marks stream None pass first now h = part_gone way source marks stream pass first now h.0
-part_stands way source marks stream (Some change) pass first now h =
-    part_some way source marks (HaveEnded source.priority stream) h.0.least.before first now h.0.sent
-    (ended_before source.priority stream h.0.least.before (h.1.next ∷ []) h.2)
+pub part_stands : {E : Type 0} (j : Job E) (stream : List ℕ) (change : Option Change)
+    (pass : SentGroups) (first now : Routes) → HasReached j stream change pass first now
+    → IsPart j (HaveEnded j.source.priority stream) first now
+part_stands j stream None pass first now h = part_gone j stream pass first now h.0
+part_stands j stream (Some change) pass first now h =
+    part_some j (HaveEnded j.source.priority stream) h.0.least.before first now h.0.sent
+    (ended_before j.source.priority stream h.0.least.before (h.1.next ∷ []) h.2)
 
 -- one group more has ended and was sent
-pub gone_more : (way : Way) (source : Source) (marks : List GroupMark) (stream : List ℕ) (old new : SentGroups)
-    (g : CutGroup) (first before after : Routes) → HasGone (job way source marks) stream old first before
-    → ((given : List CutGroup) → HasCut old.cutter source.priority stream given
-    → HasCut new.cutter source.priority stream (given ++ g ∷ [])) → new.sent ≡ old.sent + 1
-    → SendsGroup (job way source marks) old.sent g before after → after.place.target ≡ before.place.target
-    → HasGone (job way source marks) stream new first after
-gone_more way source marks stream old new g first before after h cut sent sends target = record {
+pub gone_more : {E : Type 0} (j : Job E) (stream : List ℕ) (old new : SentGroups)
+    (g : CutGroup) (first before after : Routes) → HasGone j stream old first before
+    → ((given : List CutGroup) → HasCut old.cutter j.source.priority stream given
+    → HasCut new.cutter j.source.priority stream (given ++ g ∷ [])) → new.sent ≡ old.sent + 1
+    → SendsGroup j old.sent g before after → after.place.target ≡ before.place.target
+    → HasGone j stream new first after
+gone_more j stream old new g first before after h cut sent sends target = record {
   groups = h.groups ++ g ∷ [];
   cut = cut h.groups h.cut;
   number = omega (arith, sent, h.number, length-append h.groups (g ∷ []));
   sent =
-      some_more way source marks h.groups g first before after h.sent
-      (subst (λ n. SendsGroup (job way source marks) n g before after) h.number sends) target;
+      some_more j h.groups g first before after h.sent
+      (subst (λ n. SendsGroup j n g before after) h.number sends) target;
 }
 
-pub gone_part : (way : Way) (source : Source) (marks : List GroupMark) (stream : List ℕ) (old : SentGroups)
+pub gone_part : {E : Type 0} (j : Job E) (stream : List ℕ) (old : SentGroups)
     (cutter : GroupCutter) (g : CutGroup) (first before after : Routes)
-    → HasGone (job way source marks) stream old first before
-    → ((given : List CutGroup) → HasCut old.cutter source.priority stream given
-    → HasCut cutter source.priority stream (given ++ g ∷ []))
-    → SendsGroupPart (job way source marks) old.sent g before after
-    → IsPart (job way source marks) (HaveEnded source.priority stream) first after
-gone_part way source marks stream old cutter g first before after h cut sends =
-    part_at way source marks (HaveEnded source.priority stream) h.groups g first before after h.sent
-    (given_ended cutter source.priority stream (h.groups ++ g ∷ []) (cut h.groups h.cut))
-    (subst (λ n. SendsGroupPart (job way source marks) n g before after) h.number sends)
+    → HasGone j stream old first before
+    → ((given : List CutGroup) → HasCut old.cutter j.source.priority stream given
+    → HasCut cutter j.source.priority stream (given ++ g ∷ []))
+    → SendsGroupPart j old.sent g before after
+    → IsPart j (HaveEnded j.source.priority stream) first after
+gone_part j stream old cutter g first before after h cut sends =
+    part_at j (HaveEnded j.source.priority stream) h.groups g first before after h.sent
+    (given_ended cutter j.source.priority stream (h.groups ++ g ∷ []) (cut h.groups h.cut))
+    (subst (λ n. SendsGroupPart j n g before after) h.number sends)
 
 -- the last of the groups that a cutter has given
 at_last : (P : CutGroup → Type 0) (given : List CutGroup) (g : CutGroup) → All P (given ++ g ∷ []) → P g
@@ -262,47 +265,47 @@ left_length before groups i from number lt at count =
     omega (arith, length-append before (take i groups), length-take-le i groups (omega arith), at, count)
 
 -- one of the groups that are left was sent in part, and one more was sent whole
-pub left_part : (way : Way) (source : Source) (marks : List GroupMark) (stream : List ℕ)
+pub left_part : {E : Type 0} (j : Job E) (stream : List ℕ)
     (before groups : List CutGroup) (i from number : ℕ) (g : CutGroup) (first old new : Routes)
     → i < length groups → get_or groups i g ≡ g → from ≡ length before → number ≡ from + i
-    → AreAll source.priority stream (before ++ groups)
-    → HasSentSome (job way source marks) (before ++ take i groups) first old
-    → SendsGroupPart (job way source marks) number g old new
-    → IsPart (job way source marks) (AreFound source.priority stream) first new
-left_part way source marks stream before groups i from number g first old new lt is at count all h sends =
+    → AreAll j.source.priority stream (before ++ groups)
+    → HasSentSome j (before ++ take i groups) first old
+    → SendsGroupPart j number g old new
+    → IsPart j (AreFound j.source.priority stream) first new
+left_part j stream before groups i from number g first old new lt is at count all h sends =
     let sent = before ++ take i groups in
-    let found = found_of_all source.priority stream (sent ++ g ∷ []) (drop (i + 1) groups)
-    (subst (AreAll source.priority stream) (left_split before groups i g lt is).1 all) in
-    part_at way source marks (AreFound source.priority stream) sent g first old new h found
-    (subst (λ n. SendsGroupPart (job way source marks) n g old new)
+    let found = found_of_all j.source.priority stream (sent ++ g ∷ []) (drop (i + 1) groups)
+    (subst (AreAll j.source.priority stream) (left_split before groups i g lt is).1 all) in
+    part_at j (AreFound j.source.priority stream) sent g first old new h found
+    (subst (λ n. SendsGroupPart j n g old new)
     (left_length before groups i from number lt at count) sends)
 
-pub left_more : (way : Way) (source : Source) (marks : List GroupMark) (before groups : List CutGroup)
+pub left_more : {E : Type 0} (j : Job E) (before groups : List CutGroup)
     (i from number : ℕ) (g : CutGroup) (first old new : Routes)
     → i < length groups → get_or groups i g ≡ g → from ≡ length before → number ≡ from + i
-    → HasSentSome (job way source marks) (before ++ take i groups) first old → SendsGroup (job way source marks) number g old new
-    → new.place.target ≡ old.place.target → HasSentSome (job way source marks) (before ++ take (i + 1) groups) first new
-left_more way source marks before groups i from number g first old new lt is at count h sends target =
-    subst (λ (l : List CutGroup). HasSentSome (job way source marks) l first new) (sym (left_split before groups i g lt is).0)
-    (some_more way source marks (before ++ take i groups) g first old new h
-    (subst (λ n. SendsGroup (job way source marks) n g old new) (left_length before groups i from number lt at count) sends)
+    → HasSentSome j (before ++ take i groups) first old → SendsGroup j number g old new
+    → new.place.target ≡ old.place.target → HasSentSome j (before ++ take (i + 1) groups) first new
+left_more j before groups i from number g first old new lt is at count h sends target =
+    subst (λ (l : List CutGroup). HasSentSome j l first new) (sym (left_split before groups i g lt is).0)
+    (some_more j (before ++ take i groups) g first old new h
+    (subst (λ n. SendsGroup j n g old new) (left_length before groups i from number lt at count) sends)
     target)
 
 -- no change was found so far
-pub stands_none : (way : Way) (source : Source) (marks : List GroupMark) (stream : List ℕ) (change : Option Change)
+pub stands_none : {E : Type 0} (j : Job E) (stream : List ℕ) (change : Option Change)
     (pass : SentGroups) (first now : Routes) → is_some change ≡ false
-    → HasReached (job way source marks) stream change pass first now
-    → HasGone (job way source marks) stream pass first now × (pieces_left pass.cutter ≡ 0)
-stands_none way source marks stream None pass first now none h = h
-stands_none way source marks stream (Some c) pass first now none h = absurd cc
+    → HasReached j stream change pass first now
+    → HasGone j stream pass first now × (pieces_left pass.cutter ≡ 0)
+stands_none j stream None pass first now none h = h
+stands_none j stream (Some c) pass first now none h = absurd cc
 
 -- until then the cutter stands somewhere in a stream
-pub stands_known : (way : Way) (source : Source) (marks : List GroupMark) (stream : List ℕ) (change : Option Change)
-    (pass : SentGroups) (first now : Routes) → HasReached (job way source marks) stream change pass first now
-    → IfNone change (Knows pass.cutter source.priority)
-stands_known way source marks stream None pass first now h =
+pub stands_known : {E : Type 0} (j : Job E) (stream : List ℕ) (change : Option Change)
+    (pass : SentGroups) (first now : Routes) → HasReached j stream change pass first now
+    → IfNone change (Knows pass.cutter j.source.priority)
+stands_known j stream None pass first now h =
     record { stream = stream; given = h.0.groups; cut = h.0.cut }
-stands_known way source marks stream (Some c) pass first now h = tt
+stands_known j stream (Some c) pass first now h = tt
 
 all_suffix : (P : CutGroup → Type 0) (xs ys : List CutGroup) → All P (xs ++ ys) → All P ys
 all_suffix P xs ys h i d lt =
@@ -318,19 +321,19 @@ left_all P priority cutter items groups each k all is =
     (all_suffix P k.given items (subst (All P) (sym (all priority k.stream k.given k.cut).all) (each k.stream)))
 
 -- groups that had ended were found
-pub part_found : (way : Way) (source : Source) (marks : List GroupMark) (stream : List ℕ) (first now : Routes)
-    → IsPart (job way source marks) (HaveEnded source.priority stream) first now
-    → IsPart (job way source marks) (AreFound source.priority stream) first now
-part_found way source marks stream first now h =
+pub part_found : {E : Type 0} (j : Job E) (stream : List ℕ) (first now : Routes)
+    → IsPart j (HaveEnded j.source.priority stream) first now
+    → IsPart j (AreFound j.source.priority stream) first now
+part_found j stream first now h =
     record { groups = h.groups; first_groups = inl h.first_groups; agree = h.agree; tables = h.tables; sends = h.sends }
 
 -- and did, however the stream goes on
-pub part_longer : (way : Way) (source : Source) (marks : List GroupMark) (stream portion : List ℕ) (first now : Routes)
-    → IsPart (job way source marks) (HaveEnded source.priority stream) first now
-    → IsPart (job way source marks) (HaveEnded source.priority (stream ++ portion)) first now
-part_longer way source marks stream portion first now h = record {
+pub part_longer : {E : Type 0} (j : Job E) (stream portion : List ℕ) (first now : Routes)
+    → IsPart j (HaveEnded j.source.priority stream) first now
+    → IsPart j (HaveEnded j.source.priority (stream ++ portion)) first now
+part_longer j stream portion first now h = record {
   groups = h.groups;
-  first_groups = ended_longer source.priority stream portion h.groups h.first_groups;
+  first_groups = ended_longer j.source.priority stream portion h.groups h.first_groups;
   agree = h.agree;
   tables = h.tables;
   sends = h.sends;

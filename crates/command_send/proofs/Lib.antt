@@ -9,3 +9,4 @@ pub mod FirstPass
 pub mod ReopenedFiles
 pub mod SessionRead
 pub mod Ends
+pub mod Twofold

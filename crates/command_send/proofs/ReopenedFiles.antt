@@ -21,20 +21,22 @@ use Rattle.outside_routes.specs.Sending.{Routes, Sent, SentFirst, SendsPart, IsO
 use Rattle.pet_base.specs.Entries.{entries_of}
 use Rattle.outside_routes.specs.Way.{Way, OnFile, OnLink}
 use Rattle.outside_routes.specs.laws.SendingLaws.{part_whole}
-use Rattle.packet_session.specs.Datagrams.{datagrams_text}
-use Rattle.packet_sending.specs.laws.DatagramLaws.{entries_are_text}
-use Rattle.stream_session.specs.Accepted.{session_of}
+use Rattle.field_elements.specs.Field.{Coding}
+use Rattle.packet_frame.specs.declared.format.Format.{Format}
+use Rattle.packet_session.specs.Datagrams.{datagrams_text_in}
+use Rattle.packet_sending.specs.laws.DatagramLaws.{entries_are_text_in}
+use Rattle.stream_session.specs.Accepted.{session_of_in}
 use Rattle.stream_session.specs.Marks.{mark_at, group_marks}
 use Rattle.stream_session.specs.declared.mark.GroupMark.{GroupMark}
 use Rattle.session_source.specs.declared.source.Source.{Source}
 use Rattle.stream_groups.specs.CutGroups.{CutGroup}
-use Rattle.command_send.specs.inside.Job.{job}
+use Rattle.command_send.specs.inside.Job.{Job}
 use Rattle.command_send.specs.declared.fault.SendFault.{SendFault}
 use Rattle.command_send.specs.declared.fault.SendFault.TheVariants.{Stopped, Source as Refused, Changed}
 use Rattle.command_send.specs.Sending.{sent_datagrams, AgreeBelow, HaveTables, IsFirstPass}
 use Rattle.command_send.specs.inside.Sending.{HasSentAll, HasSentToChange, SentPart, IsSendStop, IsOfOutput, PassFailed}
 use Rattle.command_send.specs.inside.Second.{OnlyPasses}
-use Rattle.command_send.specs.Sends.{packets_in, IsOther, KeepsLink, AreResent, LinkSentAll, LinkSentFirst}
+use Rattle.command_send.specs.Sends.{packets_sent_in, IsOther, KeepsLink, AreResent, LinkSentAll, LinkSentFirst}
 use Rattle.command_send.specs.Sends.{HasSentBefore}
 use Rattle.command_send.specs.inside.SendParts.{IsReopened, IsLeftEmpty, IsOfReopened, SessionSent, SessionLeft}
 use Rattle.command_send.specs.inside.SendParts.{SessionStops}
@@ -205,12 +207,12 @@ aimed_again stream (OnLink address) old mid new opened had = record {
       IfSome_then new.link.blamed had.blame (λ b blames. blames_aimed address old.link.aimed mid.link.aimed b opened.way_open.aimed blames);
 }
 
-resent : (p b : List ℕ) (source : Source) (marks : List GroupMark) → IsFirstPass p b source marks
-    → (groups : List CutGroup) → AgreeBelow marks groups (length groups) → HaveTables source groups
-    → AreResent p b groups (sent_datagrams source groups)
-resent p b source marks first groups agree tables = record {
+resent : {E : Type 0} (t : Format) (c : Coding E) (p b : List ℕ) (source : Source) (marks : List GroupMark)
+    → IsFirstPass t p b source marks → (groups : List CutGroup) → AgreeBelow marks groups (length groups)
+    → HaveTables t source groups → AreResent t c p b groups (sent_datagrams t c source groups)
+resent t c p b source marks first groups agree tables = record {
   source = source;
-  first = subst (IsFirstPass p b source) first.marks_are first;
+  first = subst (IsFirstPass t p b source) first.marks_are first;
   agree = subst (λ (ms : List GroupMark). AgreeBelow ms groups (length groups)) first.marks_are agree;
   tables = tables;
   are = refl;
@@ -226,152 +228,177 @@ first_since : (datagrams : List (List ℕ)) (old mid new : LinkSeen) → mid.sen
     → SentFirst datagrams old new
 first_since datagrams old mid new same sent = (sent.0, sent.1, sent_since sent.0 old mid new same sent.2)
 
-module _ (p b stream : List ℕ) (source : Source) (marks : List GroupMark) (first : IsFirstPass p b source marks)
+-- what is to be sent, on this way
+abbrev on : {E : Type 0} → Job E → Way → Job E
+on j way = record j { way = way }
+
+module _ {E : Type 0} (j : Job E) (p b stream : List ℕ) (first : IsFirstPass j.format p b j.source j.marks)
     (old mid new : Routes) (passes : OnlyPasses mid new) (is : IsFile old.place.files stream b) where
+  abbrev text : List ℕ
+  text = datagrams_text_in j.format j.coding (session_of_in j.format p b)
+
+  abbrev packets : List (List ℕ)
+  packets = packets_sent_in j.format j.coding p b
+
+  abbrev datagrams : List CutGroup → List (List ℕ)
+  datagrams groups = sent_datagrams j.format j.coding j.source groups
+
+  as_text : entries_of packets ≡ text
+  as_text = entries_are_text_in j.format j.coding (session_of_in j.format p b)
+
   -- all packets, on each way
-  file_sent : (to : List ℕ) → IsReopened stream (OnFile to) old mid → HasSentAll (job (OnFile to) source marks) mid new
-      → Wrote (record { name = to; bytes = datagrams_text (session_of p b) } ∷ []) None old.place new.place
+  file_sent : (to : List ℕ) → IsReopened stream (OnFile to) old mid → HasSentAll (on j (OnFile to)) mid new
+      → Wrote (record { name = to; bytes = text } ∷ []) None old.place new.place
   file_sent to opened sent =
-      all_put stream to old mid new opened (datagrams_text (session_of p b))
-      (entries_of (sent_datagrams source sent.all.groups)) b is
+      all_put stream to old mid new opened text (entries_of (datagrams sent.all.groups)) b is
       (λ rest. subst (λ (t : List ℕ). Puts t mid.place new.place)
-      (ap entries_of (told_groups (OnFile to) p b source marks mid new first rest sent)
-      ∙ entries_are_text (session_of p b)) sent.all.sent.sends.0)
+      (ap entries_of (told_groups (on j (OnFile to)) p b mid new first rest sent) ∙ as_text) sent.all.sent.sends.0)
       sent.all.sent.sends.0
 
   link_sent : (address : List ℕ) → IsReopened stream (OnLink address) old mid
-      → HasSentAll (job (OnLink address) source marks) mid new → LinkSentAll address p b old.place.files old.link new.link
-  link_sent address opened sent =
-      let datagrams = sent_datagrams source sent.all.groups in
-      record {
-        groups = sent.all.groups;
-        datagrams = datagrams;
-        resent = resent p b source marks first sent.all.groups sent.all.sent.agree sent.all.sent.tables;
-        all =
-            subst (λ (ms : List GroupMark). (k : ℕ) → mark_at ms k ≡ mark_at (group_marks sent.all.groups) k) first.marks_are sent.all.agree;
-        aimed = passes.link.aimed ∙ opened.way_open.aimed;
-        sent = sent_since datagrams old.link mid.link new.link opened.way_open.sent sent.all.sent.sends.0;
-        told =
-            if_told stream (OnLink address) old mid opened b is (λ rest. told_groups (OnLink address) p b source marks mid new first rest sent);
-      }
+      → HasSentAll (on j (OnLink address)) mid new
+      → LinkSentAll j.format j.coding address p b old.place.files old.link new.link
+  link_sent address opened sent = record {
+    groups = sent.all.groups;
+    datagrams = datagrams sent.all.groups;
+    resent =
+        resent j.format j.coding p b j.source j.marks first sent.all.groups sent.all.sent.agree sent.all.sent.tables;
+    all =
+        subst (λ (ms : List GroupMark). (k : ℕ) → mark_at ms k ≡ mark_at (group_marks sent.all.groups) k)
+        first.marks_are sent.all.agree;
+    aimed = passes.link.aimed ∙ opened.way_open.aimed;
+    sent =
+        sent_since (datagrams sent.all.groups) old.link mid.link new.link opened.way_open.sent sent.all.sent.sends.0;
+    told =
+        if_told stream (OnLink address) old mid opened b is
+        (λ rest. told_groups (on j (OnLink address)) p b mid new first rest sent);
+  }
 
   -- a front of them
   file_part : (to : List ℕ) → IsReopened stream (OnFile to) old mid → (groups : List CutGroup)
-      → (mid.place.rest ≡ Some b → SendsPart (OnFile to) (packets_in p b) mid new) → SendsPart (OnFile to) (sent_datagrams source groups) mid new
-      → Wrote [] None old.place new.place
-      ⊎ Wrote [] (Some (record { name = to; bytes = datagrams_text (session_of p b) })) old.place new.place
+      → (mid.place.rest ≡ Some b → SendsPart (OnFile to) packets mid new)
+      → SendsPart (OnFile to) (datagrams groups) mid new
+      → Wrote [] None old.place new.place ⊎ Wrote [] (Some (record { name = to; bytes = text })) old.place new.place
   file_part to opened groups told part =
-      part_put stream to old mid new opened (datagrams_text (session_of p b))
-      (entries_of (sent_datagrams source groups)) b is
-      (λ rest. subst (λ (t : List ℕ). PutsPart t mid.place new.place) (entries_are_text (session_of p b)) (told rest).0)
+      part_put stream to old mid new opened text (entries_of (datagrams groups)) b is
+      (λ rest. subst (λ (t : List ℕ). PutsPart t mid.place new.place) as_text (told rest).0)
       part.0
 
   link_part : (address : List ℕ) → IsReopened stream (OnLink address) old mid → (groups : List CutGroup)
-      → AgreeBelow marks groups (length groups) → HaveTables source groups
-      → (mid.place.rest ≡ Some b → SendsPart (OnLink address) (packets_in p b) mid new)
-      → SendsPart (OnLink address) (sent_datagrams source groups) mid new → LinkSentFirst address p b old.place.files old.link new.link
+      → AgreeBelow j.marks groups (length groups) → HaveTables j.format j.source groups
+      → (mid.place.rest ≡ Some b → SendsPart (OnLink address) packets mid new)
+      → SendsPart (OnLink address) (datagrams groups) mid new
+      → LinkSentFirst j.format j.coding address p b old.place.files old.link new.link
   link_part address opened groups agree tables told part = record {
     groups = groups;
-    datagrams = sent_datagrams source groups;
-    resent = resent p b source marks first groups agree tables;
+    datagrams = datagrams groups;
+    resent = resent j.format j.coding p b j.source j.marks first groups agree tables;
     aimed = passes.link.aimed ∙ opened.way_open.aimed;
-    sent = first_since (sent_datagrams source groups) old.link mid.link new.link opened.way_open.sent part.0;
+    sent = first_since (datagrams groups) old.link mid.link new.link opened.way_open.sent part.0;
     told =
         if_told stream (OnLink address) old mid opened b is
-        (λ rest. first_since (packets_in p b) old.link mid.link new.link opened.way_open.sent (told rest).0);
+        (λ rest. first_since packets old.link mid.link new.link opened.way_open.sent (told rest).0);
   }
 
-module _ (stream : List ℕ) (way : Way) (old mid new : Routes) (source : Source) (marks : List GroupMark)
-    (opened : IsReopened stream way old mid) (passes : OnlyPasses mid new) where
-  pub session_sent : (r : Result Unit SendFault) → OnOk r (HasSentAll (job way source marks) mid new)
-      → OnOk r (SessionSent (job way source marks) stream old new)
+module _ {E : Type 0} (j : Job E) (stream : List ℕ) (old mid new : Routes)
+    (opened : IsReopened stream j.way old mid) (passes : OnlyPasses mid new) where
+  pub session_sent : (r : Result Unit SendFault) → OnOk r (HasSentAll j mid new) → OnOk r (SessionSent j stream old new)
   session_sent (Err e) sent = tt
-  session_sent (Ok x) sent = by way opened sent
+  session_sent (Ok x) sent = by j.way opened sent
     where
-      by : (w : Way) → IsReopened stream w old mid → HasSentAll (job w source marks) mid new
-          → SessionSent (job w source marks) stream old new
-      by (OnFile to) o s = λ p b first is. file_sent p b stream source marks first old mid new passes is to o s
-      by (OnLink address) o s =
-          (λ p b first is. link_sent p b stream source marks first old mid new passes is address o s, s.all.sent.sends.1 ∙ o.way_open.files)
-
-  left_part : SentPart (job way source marks) mid new → SessionLeft (job way source marks) stream old new
-  left_part left = by way opened left
-    where
-      by : (w : Way) → IsReopened stream w old mid → SentPart (job w source marks) mid new
-          → SessionLeft (job w source marks) stream old new
-      by (OnFile to) o s = λ p b first is. file_part p b stream source marks first old mid new passes is to o
-          s.part.groups (λ rest. told_part (OnFile to) p b source marks mid new first rest s) s.part.sends
+      by : (w : Way) → IsReopened stream w old mid → HasSentAll (on j w) mid new
+          → SessionSent (on j w) stream old new
+      by (OnFile to) o s = λ p b first is. file_sent j p b stream first old mid new passes is to o s
       by (OnLink address) o s = (
-        λ p b first is. inr (link_part p b stream source marks first old mid new passes is address o s.part.groups
-            s.part.agree s.part.tables (λ rest. told_part (OnLink address) p b source marks mid new first rest s) s.part.sends),
+        λ p b first is. link_sent j p b stream first old mid new passes is address o s,
+        s.all.sent.sends.1 ∙ o.way_open.files,
+      )
+
+  left_part : SentPart j mid new → SessionLeft j stream old new
+  left_part left = by j.way opened left
+    where
+      by : (w : Way) → IsReopened stream w old mid → SentPart (on j w) mid new → SessionLeft (on j w) stream old new
+      by (OnFile to) o s = λ p b first is.
+          file_part j p b stream first old mid new passes is to o s.part.groups
+          (λ rest. told_part (on j (OnFile to)) p b mid new first rest s) s.part.sends
+      by (OnLink address) o s = (
+        λ p b first is. inr (link_part j p b stream first old mid new passes is address o s.part.groups
+            s.part.agree s.part.tables (λ rest. told_part (on j (OnLink address)) p b mid new first rest s) s.part.sends),
         s.part.sends.1 ∙ o.way_open.files,
       )
 
-  left_change : (change : _) → HasSentToChange (job way source marks) change mid new
-      → SessionLeft (job way source marks) stream old new
-  left_change change left = by way opened left
+  left_change : (change : _) → HasSentToChange j change mid new → SessionLeft j stream old new
+  left_change change left = by j.way opened left
     where
-      by : (w : Way) → IsReopened stream w old mid → HasSentToChange (job w source marks) change mid new
-          → SessionLeft (job w source marks) stream old new
+      by : (w : Way) → IsReopened stream w old mid → HasSentToChange (on j w) change mid new
+          → SessionLeft (on j w) stream old new
       by (OnFile to) o s = λ p b first is.
-          file_part p b stream source marks first old mid new passes is to o s.change_is.least.before
-          (λ rest. absurd (told_changed (OnFile to) p b source marks change mid new first rest s))
-          (part_whole (OnFile to) (sent_datagrams source s.change_is.least.before) mid new s.change_is.sent.sends)
+          file_part j p b stream first old mid new passes is to o s.change_is.least.before
+          (λ rest. absurd (told_changed (on j (OnFile to)) p b mid new change first rest s))
+          (part_whole (OnFile to) (sent_datagrams j.format j.coding j.source s.change_is.least.before) mid new
+          s.change_is.sent.sends)
       by (OnLink address) o s = (
         λ p b first is. inr
-            (link_part p b stream source marks first old mid new passes is address o s.change_is.least.before
+            (link_part j p b stream first old mid new passes is address o s.change_is.least.before
             s.change_is.sent.agree s.change_is.sent.tables
-            (λ rest. absurd (told_changed (OnLink address) p b source marks change mid new first rest s))
+            (λ rest. absurd (told_changed (on j (OnLink address)) p b mid new change first rest s))
             (part_whole (OnLink address)
-            (sent_datagrams source s.change_is.least.before) mid new s.change_is.sent.sends)),
+            (sent_datagrams j.format j.coding j.source s.change_is.least.before) mid new s.change_is.sent.sends)),
         s.change_is.sent.sends.1 ∙ o.way_open.files,
       )
 
-  pub session_left : (r : Result Unit SendFault) → IfErr r (IsSendStop (job way source marks) mid new)
-      → OnErr r (SessionLeft (job way source marks) stream old new)
+  pub session_left : (r : Result Unit SendFault) → IfErr r (IsSendStop j mid new)
+      → OnErr r (SessionLeft j stream old new)
   session_left (Ok x) stops = tt
   session_left (Err (Stopped stop)) stops = left_part stops.1
   session_left (Err (Refused fault)) stops = absurd stops
   session_left (Err (Changed change)) stops = left_change change stops
 
   -- exactly the packets of the groups before a change
-  sent_before : (change : _) → (s : HasSentToChange (job way source marks) change mid new) → (p b : List ℕ)
-      → IsFirstPass p b source marks → HasSentBefore p b s.change_is.least.before way old.link new.link
-  sent_before change sent p b first = by way opened sent
+  sent_before : (change : _) → (s : HasSentToChange j change mid new) → (p b : List ℕ)
+      → IsFirstPass j.format p b j.source j.marks
+      → HasSentBefore j.format j.coding p b s.change_is.least.before j.way old.link new.link
+  sent_before change sent p b first = by j.way opened sent
     where
-      by : (w : Way) → IsReopened stream w old mid → (s : HasSentToChange (job w source marks) change mid new)
-          → HasSentBefore p b s.change_is.least.before w old.link new.link
+      by : (w : Way) → IsReopened stream w old mid → (s : HasSentToChange (on j w) change mid new)
+          → HasSentBefore j.format j.coding p b s.change_is.least.before w old.link new.link
       by (OnFile to) o s = s.change_is.sent.sends.1 ∙ o.way_open.link
       by (OnLink address) o s =
-          let datagrams = sent_datagrams source s.change_is.least.before in (
+          let datagrams = sent_datagrams j.format j.coding j.source s.change_is.least.before in (
             datagrams,
-            resent p b source marks first s.change_is.least.before s.change_is.sent.agree s.change_is.sent.tables,
+            resent j.format j.coding p b j.source j.marks first s.change_is.least.before s.change_is.sent.agree
+                s.change_is.sent.tables,
             passes.link.aimed ∙ o.way_open.aimed,
             sent_since datagrams old.link mid.link new.link o.way_open.sent s.change_is.sent.sends.0,
           )
 
   pub session_stops : (r : Result Unit SendFault) → old.place.faults ≤ mid.place.faults
-      → IfErr r (IsSendStop (job way source marks) mid new) → IfErr r (SessionStops (job way source marks) stream old new)
+      → IfErr r (IsSendStop j mid new) → IfErr r (SessionStops j stream old new)
   session_stops (Ok x) later stops = tt
   session_stops (Err (Stopped stop.NoMemory)) later stops = tt
-  session_stops (Err (Stopped stop.Place)) later stops = fault_again stream way old mid new opened later stops.0
-  session_stops (Err (Stopped stop.Link)) later stops = aimed_again stream way old mid new opened stops.0
+  session_stops (Err (Stopped stop.Place)) later stops = fault_again stream j.way old mid new opened later stops.0
+  session_stops (Err (Stopped stop.Link)) later stops = aimed_again stream j.way old mid new opened stops.0
   session_stops (Err (Stopped stop.Out)) later stops = absurd stops.0
   session_stops (Err (Refused fault)) later stops = absurd stops
   session_stops (Err (Changed change)) later stops = (
     stops.stream,
     stops.change_is.least,
-    λ p b first is. (untold stream way old mid opened b is (λ rest. told_changed way p b source marks change mid new first rest stops), sent_before change stops p b first),
+    λ p b first is. (
+      untold stream j.way old mid opened b is (λ rest. told_changed j p b mid new change first rest stops),
+      sent_before change stops p b first,
+    ),
   )
 
 -- the route could not be made ready, or the stream not be opened again
-pub not_reopened : (stream : List ℕ) (way : Way) (old new : Routes) (source : Source) (marks : List GroupMark)
-    → IsLeftEmpty way old new → SessionLeft (job way source marks) stream old new
-not_reopened stream (OnFile to) old new source marks (inl same) = λ p b first is. inl
-    (Wrote-nothing old.place new.place same)
-not_reopened stream (OnFile to) old new source marks (inr empty) = λ p b first is. inr
-    ([], (datagrams_text (session_of p b), refl), empty)
-not_reopened stream (OnLink address) old new source marks left = (λ p b first is. inl left.1, left.0)
+pub not_reopened : {E : Type 0} (j : Job E) (stream : List ℕ) (old new : Routes) → IsLeftEmpty j.way old new
+    → SessionLeft j stream old new
+not_reopened j stream old new left = by j.way left
+  where
+    by : (w : Way) → IsLeftEmpty w old new → SessionLeft (on j w) stream old new
+    by (OnFile to) (inl same) = λ p b first is. inl (Wrote-nothing old.place new.place same)
+    by (OnFile to) (inr empty) = λ p b first is. inr
+        ([], (datagrams_text_in j.format j.coding (session_of_in j.format p b), refl), empty)
+    by (OnLink address) left = (λ p b first is. inl left.1, left.0)
 
 -- the way is open
 pub reopened_open : (stream : List ℕ) (way : Way) (old mid : Routes) → IsReopened stream way old mid → IsOpen way mid
@@ -379,22 +406,25 @@ reopened_open stream (OnFile to) old mid opened = opened.way_open.has_output
 reopened_open stream (OnLink address) old mid opened = tt
 
 -- what the link is left as
-file_link : (to : List ℕ) (mid new : Routes) (source : Source) (marks : List GroupMark) (r : Result Unit SendFault)
-    → OnOk r (HasSentAll (job (OnFile to) source marks) mid new) → IfErr r (IsSendStop (job (OnFile to) source marks) mid new) → new.link ≡ mid.link
-file_link to mid new source marks (Ok x) sent stops = sent.all.sent.sends.1
-file_link to mid new source marks (Err (Stopped stop)) sent stops = stops.1.part.sends.1
-file_link to mid new source marks (Err (Refused fault)) sent stops = absurd stops
-file_link to mid new source marks (Err (Changed change)) sent stops = stops.change_is.sent.sends.1
+file_link : {E : Type 0} (j : Job E) (to : List ℕ) (mid new : Routes) (r : Result Unit SendFault)
+    → OnOk r (HasSentAll (on j (OnFile to)) mid new) → IfErr r (IsSendStop (on j (OnFile to)) mid new)
+    → new.link ≡ mid.link
+file_link j to mid new (Ok x) sent stops = sent.all.sent.sends.1
+file_link j to mid new (Err (Stopped stop)) sent stops = stops.1.part.sends.1
+file_link j to mid new (Err (Refused fault)) sent stops = absurd stops
+file_link j to mid new (Err (Changed change)) sent stops = stops.change_is.sent.sends.1
 
-pub keeps_reopened : (way : Way) (old mid new : Routes) (source : Source) (marks : List GroupMark)
-    (r : Result Unit SendFault) → KeepsLink way old.link mid.link → OnlyPasses mid new
-    → OnOk r (HasSentAll (job way source marks) mid new) → IfErr r (IsSendStop (job way source marks) mid new)
-    → KeepsLink way old.link new.link
-keeps_reopened (OnFile to) old mid new source marks r keeps passes sent stops =
-    file_link to mid new source marks r sent stops ∙ keeps
-keeps_reopened (OnLink address) old mid new source marks r keeps passes sent stops = record {
-  feed = passes.link.feed ∙ keeps.feed;
-  port = passes.link.port ∙ keeps.port;
-  bound = passes.link.bound ∙ keeps.bound;
-  later = omega (arith, keeps.later, passes.link_later);
-}
+pub keeps_reopened : {E : Type 0} (j : Job E) (old mid new : Routes) (r : Result Unit SendFault)
+    → KeepsLink j.way old.link mid.link → OnlyPasses mid new
+    → OnOk r (HasSentAll j mid new) → IfErr r (IsSendStop j mid new) → KeepsLink j.way old.link new.link
+keeps_reopened j old mid new r keeps passes sent stops = by j.way keeps sent stops
+  where
+    by : (w : Way) → KeepsLink w old.link mid.link → OnOk r (HasSentAll (on j w) mid new)
+        → IfErr r (IsSendStop (on j w) mid new) → KeepsLink w old.link new.link
+    by (OnFile to) k done s = file_link j to mid new r done s ∙ k
+    by (OnLink address) k done s = record {
+      feed = passes.link.feed ∙ k.feed;
+      port = passes.link.port ∙ k.port;
+      bound = passes.link.bound ∙ k.bound;
+      later = omega (arith, k.later, passes.link_later);
+    }

@@ -1,17 +1,22 @@
-//! The command `send`.
+//! The command `send`, and what it stands on: the sending of a session in any format.
+ghost use Rattle.std.specs.Prelude.{◌≡◌, ◌≤◌};
 ghost use Rattle.pet_base.specs.Lent.{seen, AreSame};
 ghost use Rattle.pet_base.specs.Seen.{PlaceStops};
 ghost use Rattle.pet_base.specs.LinkSeen.{LinkStops};
 ghost use Rattle.command_send.specs.Failures.{end_of_place, end_of_link};
 ghost use Rattle.outside_routes.specs.Way.{way_of};
-ghost use Rattle.command_send.specs.Sends.{IsOther, Sends};
-ghost use Rattle.command_send.specs.SendsSession.{SendsSession};
+ghost use Rattle.command_send.specs.Sends.{IsOther, Sends, SendsIn};
+ghost use Rattle.command_send.specs.SendsSession.{SendsSession, SendsSessionIn};
+ghost use Rattle.stream_session.specs.Tables.{IsSessionFormat};
 
 use crate::sent_group::Change;
 use crate::session::{Sent, send_all};
+use field_values::AllValues;
 use mpeg_scan::Scan;
 use outside_routes::Route;
+use packet_frame::{FORMAT, Format};
 use pet_base::{Link, Outside, Place, Sink};
+use pet_field::Gf16Tables;
 use priority_file::PriorityFault;
 use std::alloc::Global;
 use std::sync::ledger::Ledger;
@@ -41,6 +46,7 @@ pub enum SendEnd {
 /// Sends the packets of the session that STREAM and PRIORITY are to the datagram file TO, or by the link to the address TO, each
 /// packet once, by group, then number, and answers how many they are. STREAM is read twice, and TO, which is another file where it
 /// is one, is made, or the link aimed, before it is read again. The first failure of a file or of the link ends it.
+#[tactic(auto, using(stream_session::specs::laws::FormatLaws::today_is))]
 pub fn send<P: Place, K: Link, S: Sink, L: Ledger>(
     alloc: Global,
     stream: &str,
@@ -59,7 +65,37 @@ pub fn send<P: Place, K: Link, S: Sink, L: Ledger>(
         (seen outside.new).link }
     ensures same { AreSame outside.old outside.new }
 {
-    match send_all(alloc, stream, priority, to, outside) {
+    match Gf16Tables::new(alloc) {
+        Ok(field) => send_by(alloc, &field, FORMAT, stream, priority, to, outside),
+        Err(_) => SendEnd::NoMemory,
+    }
+}
+
+/// The same in a format whose words are elements of the field, which has a point for each packet that the format allows.
+pub fn send_by<P: Place, K: Link, S: Sink, L: Ledger, F: AllValues>(
+    alloc: Global,
+    field: &F,
+    format: Format,
+    stream: &str,
+    priority: &str,
+    to: Route<'_>,
+    outside: &mut Outside<P, K, S, L>,
+) -> SendEnd
+    requires differ { IsOther (way_of to) stream.now }
+    requires format { IsSessionFormat format }
+    requires word { format.word ≡ F.coding.width }
+    requires points { format.bounds.packets ≤ F.COUNT }
+    ensures sends { SendsIn format F.coding stream.now priority.now (way_of to.entry) (seen outside.old)
+        (seen outside.new) result }
+    ensures completes { SendsSessionIn format F.coding stream.now priority.now (way_of to.entry)
+        (seen outside.old) (seen outside.new) result }
+    ensures once_place { PlaceStops (end_of_place result) (seen outside.old).place
+        (seen outside.new).place }
+    ensures once_link { LinkStops (end_of_link result) (seen outside.old).link
+        (seen outside.new).link }
+    ensures same { AreSame outside.old outside.new }
+{
+    match send_all(alloc, field, format, stream, priority, to, outside) {
         Ok(sent) => SendEnd::Done(sent),
         Err(fault) => fault.end(),
     }

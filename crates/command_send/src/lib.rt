@@ -14,7 +14,8 @@ mod job;
 mod second;
 mod sent_group;
 mod session;
+mod table;
 
-pub use command::{SendEnd, send};
+pub use command::{SendEnd, send, send_by};
 pub use sent_group::Change;
 pub use session::Sent;

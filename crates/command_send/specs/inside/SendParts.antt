@@ -5,7 +5,10 @@ use Rattle.stream_session.specs.declared.mark.GroupMark.{GroupMark}
 use Rattle.session_source.specs.declared.source.Source.{Source}
 use Rattle.session_source.specs.declared.source.SourceFault.{SourceFault}
 use Rattle.session_source.specs.declared.source.SourceFault.TheVariants as source
-use Rattle.session_source.specs.Sources.{IsSourceFault}
+use Rattle.session_source.specs.Sources.{IsSourceFaultIn}
+use Rattle.field_elements.specs.Field.{Coding}
+use Rattle.packet_frame.specs.declared.format.Format.{Format}
+use Rattle.pet_base.specs.declared.limits.TheConstants.{MAX_SESSION}
 use Rattle.outside_files.specs.Inputs.{IsFile}
 use Rattle.outside_files.specs.Uses.{reading, writing}
 use Rattle.outside_files.specs.Wrote.{Wrote}
@@ -21,14 +24,15 @@ use Rattle.command_send.specs.declared.fault.SendFault.{SendFault}
 use Rattle.command_send.specs.declared.fault.SendFault.TheVariants as fault
 use Rattle.command_send.specs.Sending.{IsLeastChange, IsFirstPass}
 use Rattle.command_send.specs.inside.Job.{Job}
-use Rattle.command_send.specs.Sends.{packets_file, IsAimedAt, LinkSentAll, LinkSentFirst, HasSentBefore, MayBlame}
+use Rattle.command_send.specs.Sends.{packets_file_in, IsAimedAt, LinkSentAll, LinkSentFirst, HasSentBefore, MayBlameIn}
 use Rattle.command_send.specs.Sends.{SendsNothing, StreamChanged}
-use Rattle.stream_session.specs.Sessions.{HasSession}
+use Rattle.stream_session.specs.Sessions.{HasSessionIn}
 
--- The session of the two files, and what the first reading found of it.
-pub record IsReadFrom (old : Seen) (stream priority : List ℕ) (source : Source) (marks : List GroupMark) : Type 0 where
-  pub session : HasSession old stream priority
-  pub first : IsFirstPass session.priority_bytes session.stream_bytes source marks
+-- The session of the two files in a format, and what the first reading found of it.
+pub record IsReadFrom (t : Format) (old : Seen) (stream priority : List ℕ) (source : Source) (marks : List GroupMark)
+    : Type 0 where
+  pub session : HasSessionIn t old stream priority
+  pub first : IsFirstPass t session.priority_bytes session.stream_bytes source marks
 
 -- the file is an empty output, or the link sends to the address
 pub record IsEmptied (to : List ℕ) (old new : Routes) : Type 0 where
@@ -66,54 +70,54 @@ IsOfReopened stream (OnFile to) b = (b ≡ reading stream) ⊎ (b ≡ writing to
 IsOfReopened stream (OnLink address) b = b ≡ reading stream
 
 -- all packets of the session are sent, where the stream is that of the first pass
-abbrev pub SessionSentOn : Way → Job → List ℕ → Routes → Routes → Type 0
+abbrev pub SessionSentOn : {E : Type 0} → Way → Job E → List ℕ → Routes → Routes → Type 0
 SessionSentOn (OnFile to) job stream old new =
-    (p b : List ℕ) → IsFirstPass p b job.source job.marks → IsFile old.place.files stream b
-    → Wrote (packets_file to p b ∷ []) None old.place new.place
+    (p b : List ℕ) → IsFirstPass job.format p b job.source job.marks → IsFile old.place.files stream b
+    → Wrote (packets_file_in job.format job.coding to p b ∷ []) None old.place new.place
 SessionSentOn (OnLink address) job stream old new =
-    ((p b : List ℕ) → IsFirstPass p b job.source job.marks → IsFile old.place.files stream b
-    → LinkSentAll address p b old.place.files old.link new.link)
+    ((p b : List ℕ) → IsFirstPass job.format p b job.source job.marks → IsFile old.place.files stream b
+    → LinkSentAll job.format job.coding address p b old.place.files old.link new.link)
     × (new.place.files ≡ old.place.files)
 
-abbrev pub SessionSent : Job → List ℕ → Routes → Routes → Type 0
+abbrev pub SessionSent : {E : Type 0} → Job E → List ℕ → Routes → Routes → Type 0
 SessionSent job stream old new = SessionSentOn job.way job stream old new
 
 -- or a front of them
-abbrev pub SessionLeftOn : Way → Job → List ℕ → Routes → Routes → Type 0
+abbrev pub SessionLeftOn : {E : Type 0} → Way → Job E → List ℕ → Routes → Routes → Type 0
 SessionLeftOn (OnFile to) job stream old new =
-    (p b : List ℕ) → IsFirstPass p b job.source job.marks → IsFile old.place.files stream b
-    → Wrote [] None old.place new.place ⊎ Wrote [] (Some (packets_file to p b)) old.place new.place
+    (p b : List ℕ) → IsFirstPass job.format p b job.source job.marks → IsFile old.place.files stream b
+    → Wrote [] None old.place new.place ⊎ Wrote [] (Some (packets_file_in job.format job.coding to p b)) old.place new.place
 SessionLeftOn (OnLink address) job stream old new =
-    ((p b : List ℕ) → IsFirstPass p b job.source job.marks → IsFile old.place.files stream b
-    → (new.link.sent ≡ old.link.sent) ⊎ LinkSentFirst address p b old.place.files old.link new.link)
+    ((p b : List ℕ) → IsFirstPass job.format p b job.source job.marks → IsFile old.place.files stream b
+    → (new.link.sent ≡ old.link.sent) ⊎ LinkSentFirst job.format job.coding address p b old.place.files old.link new.link)
     × (new.place.files ≡ old.place.files)
 
-abbrev pub SessionLeft : Job → List ℕ → Routes → Routes → Type 0
+abbrev pub SessionLeft : {E : Type 0} → Job E → List ℕ → Routes → Routes → Type 0
 SessionLeft job stream old new = SessionLeftOn job.way job stream old new
 
 -- When the sending stops: the least group whose mark is another in a stream that was read again, which happens only where
 -- the files are not told.
-abbrev pub SessionStops : Job → List ℕ → Routes → Routes → SendFault → Type 0
+abbrev pub SessionStops : {E : Type 0} → Job E → List ℕ → Routes → Routes → SendFault → Type 0
 SessionStops job stream old new (fault.Stopped stop) =
     IsStop (HadFault old.place new.place (IsOfReopened stream job.way)) (AimedFailed job.way old.link new.link) ⊥ stop
 SessionStops job stream old new (fault.Changed change) =
-    (again : List ℕ) × (least : IsLeastChange job.source.priority job.source.tables.items job.marks again change)
-    × ((p b : List ℕ) → IsFirstPass p b job.source job.marks → IsFile old.place.files stream b
-    → (old.place.files ≡ None) × HasSentBefore p b least.before job.way old.link new.link)
+    (again : List ℕ) × (least : IsLeastChange job.format job.source.priority job.source.tables.items job.marks again change)
+    × ((p b : List ℕ) → IsFirstPass job.format p b job.source job.marks → IsFile old.place.files stream b
+    → (old.place.files ≡ None) × HasSentBefore job.format job.coding p b least.before job.way old.link new.link)
 SessionStops job stream old new (fault.Source refused) = ⊥
 
--- when each stop comes
-abbrev pub IsEarlyStop : Routes → Routes → List ℕ → List ℕ → Way → RouteStop → Type 0
-IsEarlyStop old new stream priority way stop =
-    IsStop (HadFault old.place new.place (MayBlame stream priority way old.place))
-    (AimedFailed way old.link new.link × HasSession old.place stream priority) ⊥ stop
+-- when each stop comes, in a format and a coding
+abbrev pub IsEarlyStop : Format → Routes → Routes → List ℕ → List ℕ → Way → RouteStop → Type 0
+IsEarlyStop t old new stream priority way stop =
+    IsStop (HadFault old.place new.place (MayBlameIn t stream priority way old.place))
+    (AimedFailed way old.link new.link × HasSessionIn t old.place stream priority) ⊥ stop
 
 -- When each fault comes.
-abbrev pub IsSendFault : Routes → Routes → List ℕ → List ℕ → Way → SendFault → Type 0
-IsSendFault old new stream priority way (fault.Stopped stop) = IsEarlyStop old new stream priority way stop
-IsSendFault old new stream priority way (fault.Source refused) =
-    IsSourceFault old.place new.place stream priority refused × SendsNothing old new
-IsSendFault old new stream priority way (fault.Changed change) = StreamChanged old new stream priority way change
+abbrev pub IsSendFault : {E : Type 0} → Format → Coding E → Routes → Routes → List ℕ → List ℕ → Way → SendFault → Type 0
+IsSendFault t c old new stream priority way (fault.Stopped stop) = IsEarlyStop t old new stream priority way stop
+IsSendFault t c old new stream priority way (fault.Source refused) =
+    IsSourceFaultIn t MAX_SESSION old.place new.place stream priority refused × SendsNothing old new
+IsSendFault t c old new stream priority way (fault.Changed change) = StreamChanged t c old new stream priority way change
 
 -- the end that whatever stops the reading of both files makes
 abbrev pub end_of_refusal : SourceFault → SendEnd

@@ -20,21 +20,21 @@ use Rattle.command_send.specs.Sending.{HaveTables}
 use Rattle.command_send.specs.inside.Job.{Job}
 
 -- the groups so far: each has the mark and the table of the first pass, and their packets were sent
-pub record HasSentSome (job : Job) (groups : List CutGroup)
+pub record HasSentSome {E : Type 0} (job : Job E) (groups : List CutGroup)
     (old new : Routes) : Type 0 where
   pub agree : AgreeBelow job.marks groups (length groups)
-  pub tables : HaveTables job.source groups
+  pub tables : HaveTables job.format job.source groups
   pub target : new.place.target ≡ old.place.target
-  pub sends : Sends job.way (sent_datagrams job.source groups) old new
+  pub sends : Sends job.way (sent_datagrams job.format job.coding job.source groups) old new
 
 -- The least group whose marks differ: the packets of the groups before it were sent.
-pub record IsChange (job : Job) (stream : List ℕ) (change : Change)
+pub record IsChange {E : Type 0} (job : Job E) (stream : List ℕ) (change : Change)
     (old new : Routes) : Type 0 where
-  pub least : IsLeastChange job.source.priority job.source.tables.items job.marks stream change
+  pub least : IsLeastChange job.format job.source.priority job.source.tables.items job.marks stream change
   pub sent : HasSentSome job least.before old new
 
 -- All marks agree: the packets of all groups that both passes found were sent.
-pub record IsAllSent (job : Job) (stream : List ℕ)
+pub record IsAllSent {E : Type 0} (job : Job E) (stream : List ℕ)
     (old new : Routes) : Type 0 where
   pub groups : List CutGroup
   pub all : AreAllFound job.source.priority stream groups
@@ -42,13 +42,13 @@ pub record IsAllSent (job : Job) (stream : List ℕ)
   pub agree : (k : ℕ) → mark_at job.marks k ≡ mark_at (group_marks groups) k
 
 -- a front of the packets of groups whose marks and tables agree was sent
-pub record IsPart (job : Job) (HoldsOfGroups : List CutGroup → Type 0)
+pub record IsPart {E : Type 0} (job : Job E) (HoldsOfGroups : List CutGroup → Type 0)
     (old new : Routes) : Type 0 where
   pub groups : List CutGroup
   pub first_groups : HoldsOfGroups groups
   pub agree : AgreeBelow job.marks groups (length groups)
-  pub tables : HaveTables job.source groups
-  pub sends : SendsPart job.way (sent_datagrams job.source groups) old new
+  pub tables : HaveTables job.format job.source groups
+  pub sends : SendsPart job.way (sent_datagrams job.format job.coding job.source groups) old new
 
 -- These bytes were taken from the front of the input, to its end or past the most that a stream may have.
 pub record IsTaken (stream : List ℕ) (old new : Seen) : Type 0 where
@@ -57,19 +57,19 @@ pub record IsTaken (stream : List ℕ) (old new : Seen) : Type 0 where
   pub whole : length stream ≤ MAX_STREAM → IsAtEnd new.rest
 
 -- what the pass has done of what it has read, to the end
-pub record HasSentAll (job : Job) (old new : Routes) : Type 0 where
+pub record HasSentAll {E : Type 0} (job : Job E) (old new : Routes) : Type 0 where
   pub stream : List ℕ
   pub taken : IsTaken stream old.place new.place
   pub all : IsAllSent job stream old new
 
-pub record HasSentToChange (job : Job) (change : Change)
+pub record HasSentToChange {E : Type 0} (job : Job E) (change : Change)
     (old new : Routes) : Type 0 where
   pub stream : List ℕ
   pub taken : IsTaken stream old.place new.place
   pub change_is : IsChange job stream change old new
 
 -- or to a failure
-pub record SentPart (job : Job) (old new : Routes) : Type 0 where
+pub record SentPart {E : Type 0} (job : Job E) (old new : Routes) : Type 0 where
   pub stream : List ℕ
   pub read : IfSome old.place.rest (IsPrefix stream)
   pub part : IsPart job (AreFound job.source.priority stream) old new
@@ -85,16 +85,16 @@ abbrev pub PassFailed : Way → Seen → Seen → Type 0
 PassFailed way old new = HadFault old new (λ blame. Blames Read old.source blame ⊎ IsOfOutput way old blame)
 
 -- when a group's packets stop, and when the pass does
-abbrev pub StopsGroup : Job → Routes → Routes → RouteStop → Type 0
+abbrev pub StopsGroup : {E : Type 0} → Job E → Routes → Routes → RouteStop → Type 0
 StopsGroup job old new stop =
     IsStop (OutputFailed job.way old.place new.place) (SendingFailed job.way old.link new.link) ⊥ stop
 
-abbrev pub StopsPass : Job → Routes → Routes → RouteStop → Type 0
+abbrev pub StopsPass : {E : Type 0} → Job E → Routes → Routes → RouteStop → Type 0
 StopsPass job old new stop =
     IsStop (PassFailed job.way old.place new.place) (SendingFailed job.way old.link new.link) ⊥ stop
 
 -- when the pass stops with each cause, and what then holds
-abbrev pub IsSendStop : Job → Routes → Routes → SendFault → Type 0
+abbrev pub IsSendStop : {E : Type 0} → Job E → Routes → Routes → SendFault → Type 0
 IsSendStop job old new (Stopped stop) =
     StopsPass job old new stop × SentPart job old new
 IsSendStop job old new (Changed change) = HasSentToChange job change old new

@@ -4,4 +4,4 @@ use Rattle.command_send.proofs.second.first_lost.Given as goal
 
 -- no group so far was lost
 abbrev pub invariant-loop-group : goal.invariant-loop-group
-invariant-loop-group l = (k : ℕ) → l.from ≤ k → k < l.group → mark_at l.job.found.marks.items k ≡ no_mark
+invariant-loop-group g l = (k : ℕ) → l.from ≤ k → k < l.group → mark_at l.job.found.marks.items k ≡ no_mark

@@ -1,7 +1,7 @@
 use Rattle.std.proofs.Common.{refl, ◌∙◌, ◌≡◌, ◌++◌, length, take, arith}
 use Rattle.std.proofs.lemmas.List.{length-append, length-take-le}
 use Rattle.pet_base.specs.laws.Through.{on_any_err}
-use Rattle.command_send.specs.inside.Job.{lent}
+use Rattle.command_send.specs.inside.Job.{job_of, lent}
 use Rattle.command_send.proofs.GroupsSoFar.{stands_known}
 use Rattle.command_send.proofs.Passes.{passes_open, passes_then, passes_reads, passes_grows}
 use Rattle.command_send.proofs.ReadPortions.{part_fed, part_taken, rest_more, stands_read, taken_end}
@@ -13,7 +13,7 @@ pub returns-in_err-count-clause-part : goal.returns-in_err-count-clause-part
 returns-in_err-count-clause-part g c =
     let i = c.loop-read.invariant in
     on_any_err c.from_residual.result
-    (part_taken (way_of c.args.job.now.to) c.args.job.now.found.source c.args.job.now.found.marks.items i.stream
+    (part_taken (job_of g.F.Field.coding c.args.job.now) i.stream
     c.loop-read.pass.change c.loop-read.pass.groups (lent c.args.outside.now)
     (lent c.loop-read.outside)
     (routes g.P.Place g.K.Link c.take_portion.new.place c.loop-read.outside.link.now)
@@ -27,7 +27,7 @@ returns-then-count-eq0-clause-stands g c =
       taken_end i.stream c.take_portion.new.buffer c.in_ok-count.count (seen c.args.outside.now.place.now) (seen c.loop-read.outside.place.now)
           (seen c.take_portion.new.place) i.rest i.few c.in_ok-count.ensures.taken c.if-count-eq0.true
           c.in_ok-count.ensures.end,
-      stands_read (way_of c.args.job.now.to) c.args.job.now.found.source c.args.job.now.found.marks.items i.stream
+      stands_read (job_of g.F.Field.coding c.args.job.now) i.stream
           c.loop-read.pass.change c.loop-read.pass.groups (lent c.args.outside.now)
           (lent c.loop-read.outside)
           (routes g.P.Place g.K.Link c.take_portion.new.place c.loop-read.outside.link.now) c.take_portion.ensures.others refl
@@ -45,7 +45,7 @@ feed-requires-clause-open g c =
 
 pub feed-requires-clause-known : goal.feed-requires-clause-known
 feed-requires-clause-known g c =
-    stands_known (way_of c.args.job.now.to) c.args.job.now.found.source c.args.job.now.found.marks.items
+    stands_known (job_of g.F.Field.coding c.args.job.now)
     c.loop-read.invariant.stream c.loop-read.pass.change c.loop-read.pass.groups
     (lent c.args.outside.now)
     (lent c.loop-read.outside) c.loop-read.invariant.stands
@@ -55,7 +55,7 @@ returns-in_err-feed-clause-part g c =
     let i = c.loop-read.invariant in
     let first = lent c.args.outside.now in
     on_any_err c.from_residual-in_err-feed.result
-    (part_fed (way_of c.args.job.now.to) c.args.job.now.found.source c.args.job.now.found.marks.items i.stream
+    (part_fed (job_of g.F.Field.coding c.args.job.now) i.stream
     (take c.in_ok-count.count c.take_portion.new.buffer) c.loop-read.pass.change c.loop-read.pass.groups first
     (lent c.loop-read.outside)
     (routes g.P.Place g.K.Link c.take_portion.new.place c.loop-read.outside.link.now)
@@ -65,8 +65,6 @@ returns-in_err-feed-clause-part g c =
 
 pub loop-read-preserved : goal.loop-read-preserved
 loop-read-preserved g c =
-    let source = c.args.job.now.found.source in
-    let marks = c.args.job.now.found.marks.items in
     let i = c.loop-read.invariant in
     let first = lent c.args.outside.now in
     let before = lent c.loop-read.outside in
@@ -86,7 +84,7 @@ loop-read-preserved g c =
           omega (arith, length-append i.stream portion, len, i.count, c.loop-read-test.true, c.in_ok-count.ensures.few);
       stands =
           c.in_ok-feed.ensures.stands i.stream first
-          (stands_read (way_of c.args.job.now.to) source marks i.stream c.loop-read.pass.change
+          (stands_read (job_of g.F.Field.coding c.args.job.now) i.stream c.loop-read.pass.change
           c.loop-read.pass.groups first before after c.take_portion.ensures.others refl i.stands);
       others =
           passes_then first after now (passes_then first before after i.others

@@ -12,7 +12,7 @@ invariant-loop-read g l = record {
   count : l.read ≡ length stream;
   rest : (lent l.initial.outside).place.rest ≡ prepend_known stream (lent l.outside).place.rest;
   few : length stream ≤ MAX_STREAM + 1;
-  stands : HasReached (job_of l.job) stream l.pass.change l.pass.groups (lent l.initial.outside) (lent l.outside);
+  stands : HasReached (job_of g.F.Field.coding l.job) stream l.pass.change l.pass.groups (lent l.initial.outside) (lent l.outside);
   others : OnlyPasses (lent l.initial.outside) (lent l.outside);
   calm_place : (lent l.outside).place.faults ≡ (lent l.initial.outside).place.faults;
   calm_link : (lent l.outside).link.faults ≡ (lent l.initial.outside).link.faults;

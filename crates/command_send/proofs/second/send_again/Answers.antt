@@ -1,6 +1,6 @@
 use Rattle.std.proofs.Common.{refl, arith}
 use Rattle.pet_base.specs.laws.Through.{on_any_err}
-use Rattle.command_send.specs.inside.Job.{lent}
+use Rattle.command_send.specs.inside.Job.{job_of, lent}
 use Rattle.command_send.proofs.GroupsSoFar.{cost_all, stands_known}
 use Rattle.command_send.proofs.Passes.{passes_open, passes_same, passes_then, passes_grows, handed_on, stop_after}
 use Rattle.command_send.proofs.ReadPortions.{part_start, gone_start, part_end, sent_end, taken_write}
@@ -13,18 +13,18 @@ use Rattle.command_send.proofs.second.send_again.Goals as goal
 pub returns-in_err-buffer-clause-part : goal.returns-in_err-buffer-clause-part
 returns-in_err-buffer-clause-part g c =
     on_any_err c.from_residual.result (part_start
-    (way_of c.args.job.now.to) c.args.job.now.found.source c.args.job.now.found.marks.items
+    (job_of g.F.Field.coding c.args.job.now)
     (lent c.args.outside.now))
 
 pub returns-in_err-new-clause-part : goal.returns-in_err-new-clause-part
 returns-in_err-new-clause-part g c =
     on_any_err c.from_residual-in_err-new.result
-    (part_start (way_of c.args.job.now.to) c.args.job.now.found.source c.args.job.now.found.marks.items
+    (part_start (job_of g.F.Field.coding c.args.job.now)
     (lent c.args.outside.now))
 
 pub read_again-requires-clause-begun : goal.read_again-requires-clause-begun
 read_again-requires-clause-begun g c = (
-  gone_start (way_of c.args.job.now.to) c.args.job.now.found.source c.args.job.now.found.marks.items
+  gone_start (job_of g.F.Field.coding c.args.job.now)
       (record { cutter = c.in_ok-new.field-0; sent = 0 })
       (lent c.args.outside.now) c.in_ok-new.ensures.cut refl,
   c.in_ok-new.ensures.none_left,
@@ -38,7 +38,7 @@ finish-requires-clause-open g c =
 pub finish-requires-clause-known : goal.finish-requires-clause-known
 finish-requires-clause-known g c =
     let read = c.in_ok-read_again.ensures.stands in
-    stands_known (way_of c.args.job.now.to) c.args.job.now.found.source c.args.job.now.found.marks.items read.0
+    stands_known (job_of g.F.Field.coding c.args.job.now) read.0
     c.read_again.new.pass.change c.read_again.new.pass.groups
     (lent c.args.outside.now)
     (lent c.read_again.new.outside) read.2
@@ -58,7 +58,7 @@ returns-in_err-finish-clause-part g c =
     let now = lent c.finish.new.outside in
     let read = c.in_ok-read_again.ensures.stands in
     on_any_err c.from_residual-in_err-finish.result
-    (part_end (way_of c.args.job.now.to) c.args.job.now.found.source c.args.job.now.found.marks.items read.0 first mid now
+    (part_end (job_of g.F.Field.coding c.args.job.now) read.0 first mid now
     read.1 (c.in_err-finish.ensures.part read.0 first read.2))
 
 pub returns-clause-cost : goal.returns-clause-cost
@@ -71,7 +71,7 @@ returns-clause-sent g c =
     let mid = lent c.read_again.new.outside in
     let now = lent c.finish.new.outside in
     let read = c.in_ok-read_again.ensures.stands in
-    sent_end (way_of c.args.job.now.to) c.args.job.now.found.source c.args.job.now.found.marks.items read.0
+    sent_end (job_of g.F.Field.coding c.args.job.now) read.0
     c.finish.new.self.change first now (taken_write read.0 first.place mid.place now.place
     c.finish.ensures.others.place.rest read.1) (c.in_ok-finish.ensures.all read.0 first read.2)
 

@@ -28,7 +28,7 @@ loop-group-init g c = record {
 pub returns-in_err-group-clause-part : goal.returns-in_err-group-clause-part
 returns-in_err-group-clause-part g c =
     on_any_err c.from_residual.result
-    (λ stream first h. part_gone (way_of c.args.job.now.to) c.args.job.now.found.source c.args.job.now.found.marks.items
+    (λ stream first h. part_gone (job_of g.F.Field.coding c.args.job.now)
     stream c.loop-group.groups first (lent c.loop-group.outside)
     (c.loop-group.invariant.gone stream first h))
 
@@ -52,7 +52,7 @@ returns-in_err-change-clause-part g c =
     let priority = source.priority in
     on_any_err c.from_residual-in_err-change.result
     (λ stream first h.
-    gone_part (way_of c.args.job.now.to) source c.args.job.now.found.marks.items stream c.loop-group.groups
+    gone_part (job_of g.F.Field.coding c.args.job.now) stream c.loop-group.groups
     c.next.new.self c.in-Some.group first (lent c.loop-group.outside)
     (lent c.send_group.new.outside)
     (c.loop-group.invariant.gone stream first h)
@@ -73,7 +73,7 @@ pub returns-then-is_some-clause-stands : goal.returns-then-is_some-clause-stands
 returns-then-is_some-clause-stands g c stream first h =
     let source = c.args.job.now.found.source in
     let priority = source.priority in
-    stands_change (way_of c.args.job.now.to) source c.args.job.now.found.marks.items stream c.loop-group.groups
+    stands_change (job_of g.F.Field.coding c.args.job.now) stream c.loop-group.groups
     (record { cutter = c.next.new.self; sent = c.loop-group.groups.sent }) c.next.new.self c.in-Some.group first
     (lent c.loop-group.outside)
     (lent c.send_group.new.outside) c.in_ok-change.change
@@ -87,9 +87,9 @@ loop-group-preserved g c =
     let source = c.args.job.now.found.source in
     let before = lent c.loop-group.outside in
     let after = lent c.send_group.new.outside in
-    let sends = sends_none (SendsGroup (job_of c.args.job.now)
+    let sends = sends_none (SendsGroup (job_of g.F.Field.coding c.args.job.now)
     c.loop-group.groups.sent c.in-Some.group before after)
-    (Differs (job_of c.args.job.now) c.loop-group.groups.sent c.in-Some.group before after)
+    (Differs (job_of g.F.Field.coding c.args.job.now) c.loop-group.groups.sent c.in-Some.group before after)
     c.in_ok-change.change (sym c.is_some.ensures ∙ c.if-is_some.false) c.in_ok-change.ensures.sends in
     record {
       known =
@@ -98,7 +98,7 @@ loop-group-preserved g c =
           (λ p stream given h. subst (λ (o : Option CutGroup). HasCut c.next.new.self p stream (given ++ groups_in o))
           c.in-Some.is (c.in_ok-group.ensures.cut p stream given h));
       gone = λ stream first h.
-          gone_more (way_of c.args.job.now.to) source c.args.job.now.found.marks.items stream c.loop-group.groups
+          gone_more (job_of g.F.Field.coding c.args.job.now) stream c.loop-group.groups
           (record { cutter = c.next.new.self; sent = c.loop-group.groups.sent + 1 }) c.in-Some.group first before after
           (c.loop-group.invariant.gone stream first h)
           (λ given cut. subst (λ (o : Option CutGroup). HasCut c.next.new.self source.priority stream
@@ -182,7 +182,7 @@ overflow_add-groups g c =
     omega (
       arith,
       c.args.job.now.few,
-      sent_within (way_of c.args.job.now.to) c.args.job.now.found.source c.args.job.now.found.marks.items
+      sent_within (job_of g.F.Field.coding c.args.job.now)
           c.loop-group.groups.sent c.in-Some.group (lent c.loop-group.outside)
           (lent c.send_group.new.outside)
           c.in_ok-change.change (sym c.is_some.ensures ∙ c.if-is_some.false) c.in_ok-change.ensures.sends,

@@ -10,8 +10,8 @@ abbrev pub invariant-loop-group : goal.invariant-loop-group
 invariant-loop-group g l = record {
   known : Knows l.groups.cutter l.job.found.source.priority;
   gone : (stream : List ℕ) (first : Routes)
-      → HasGone (job_of l.job) stream l.initial.groups first (lent l.initial.outside)
-      → HasGone (job_of l.job) stream l.groups first (lent l.outside);
+      → HasGone (job_of g.F.Field.coding l.job) stream l.initial.groups first (lent l.initial.outside)
+      → HasGone (job_of g.F.Field.coding l.job) stream l.groups first (lent l.outside);
   others : OnlyGrows (lent l.initial.outside) (lent l.outside);
   calm_place : (lent l.outside).place.faults ≡ (lent l.initial.outside).place.faults;
   calm_link : (lent l.outside).link.faults ≡ (lent l.initial.outside).link.faults;

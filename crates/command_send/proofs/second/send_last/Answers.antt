@@ -5,20 +5,17 @@ use Rattle.stream_groups.specs.Cutting.{AreAll}
 use Rattle.stream_groups.specs.laws.EndedLaws.{given_ended, fault_refuses}
 use Rattle.stream_groups.specs.laws.FilledLaws.{IsFilled, groups_filled}
 use Rattle.stream_groups.specs.laws.FittingLaws.{IsWhole, groups_whole}
-use Rattle.command_send.specs.inside.Job.{lent}
+use Rattle.command_send.specs.inside.Job.{job_of, lent}
 use Rattle.command_send.proofs.LeastChange.{ends_lost}
 use Rattle.command_send.proofs.FoundGroups.{all_refused}
 use Rattle.command_send.proofs.GroupsSoFar.{part_gone, part_found, left_all}
-use Rattle.outside_routes.specs.Way.{way_of}
 use Rattle.command_send.proofs.second.send_last.Goals as goal
 
 pub returns-in-NoMemory-clause-part : goal.returns-in-NoMemory-clause-part
 returns-in-NoMemory-clause-part g c stream first h =
-    let source = c.args.job.now.found.source in
-    let marks = c.args.job.now.found.marks.items in
     let now = lent c.args.outside.now in
-    part_found (way_of c.args.job.now.to) source marks stream first now
-    (part_gone (way_of c.args.job.now.to) source marks stream c.args.groups.now first now h)
+    part_found (job_of g.F.Field.coding c.args.job.now) stream first now
+    (part_gone (job_of g.F.Field.coding c.args.job.now) stream c.args.groups.now first now h)
 
 pub send_left-requires-clause-whole : goal.send_left-requires-clause-whole
 send_left-requires-clause-whole g c =
@@ -60,9 +57,8 @@ returns-in-Ok-clause-part g c =
 pub returns-in_default-clause-all : goal.returns-in_default-clause-all
 returns-in_default-clause-all g c stream first gone none =
     let source = c.args.job.now.found.source in
-    let marks = c.args.job.now.found.marks.items in
     let now = lent c.args.outside.now in
-    ends_lost (way_of c.args.job.now.to) source marks stream gone.groups c.args.groups.now.sent first now
+    ends_lost (job_of g.F.Field.coding c.args.job.now) stream gone.groups c.args.groups.now.sent first now
     c.first_lost.result gone.number gone.sent
     (all_refused source.priority stream gone.groups
     (given_ended c.args.groups.now.cutter source.priority stream gone.groups gone.cut)

@@ -7,7 +7,7 @@ use Rattle.stream_groups.specs.laws.FilledLaws.{IsFilled}
 use Rattle.stream_groups.specs.laws.FittingLaws.{IsWhole}
 use Rattle.command_send.specs.inside.Sending.{HasSentSome}
 use Rattle.command_send.specs.inside.Second.{SendsGroup, Differs}
-use Rattle.command_send.specs.inside.Job.{job, job_of, lent}
+use Rattle.command_send.specs.inside.Job.{job_of, lent}
 use Rattle.command_send.proofs.LeastChange.{sends_none, sent_within, left_change, ends_lost}
 use Rattle.command_send.proofs.Passes.{stop_on, same_then}
 use Rattle.command_send.proofs.FoundGroups.{all_found}
@@ -19,7 +19,7 @@ pub returns-in_err-change-clause-part : goal.returns-in_err-change-clause-part
 returns-in_err-change-clause-part g c =
     on_any_err c.from_residual.result
     (λ stream first before at all h.
-    left_part (way_of c.args.job.now.to) c.args.job.now.found.source c.args.job.now.found.marks.items stream before
+    left_part (job_of g.F.Field.coding c.args.job.now) stream before
     c.args.groups.now c.loop-group.group-index c.args.from c.loop-group.number c.group-item.result first
     (lent c.loop-group.outside)
     (lent c.send_group.new.outside)
@@ -37,7 +37,7 @@ returns-in_err-change-clause-cost g c =
 
 pub returns-then-is_some-clause-all : goal.returns-then-is_some-clause-all
 returns-then-is_some-clause-all g c stream first before at all h =
-    left_change (way_of c.args.job.now.to) c.args.job.now.found.source c.args.job.now.found.marks.items stream before
+    left_change (job_of g.F.Field.coding c.args.job.now) stream before
     c.args.groups.now c.loop-group.group-index c.args.from c.loop-group.number c.group-item.result first
     (lent c.loop-group.outside)
     (lent c.send_group.new.outside) c.in_ok-change.change
@@ -47,20 +47,18 @@ returns-then-is_some-clause-all g c stream first before at all h =
 
 pub loop-group-preserved : goal.loop-group-preserved
 loop-group-preserved g c =
-    let way = way_of c.args.job.now.to in
     let source = c.args.job.now.found.source in
-    let marks = c.args.job.now.found.marks.items in
     let number = c.loop-group.number in
     let group = c.group-item.result in
     let old = lent c.loop-group.outside in
     let new = lent c.send_group.new.outside in
-    let sends = sends_none (SendsGroup (job way source marks) number group old new)
-    (Differs (job way source marks) number group old new) c.in_ok-change.change
+    let sends = sends_none (SendsGroup (job_of g.F.Field.coding c.args.job.now) number group old new)
+    (Differs (job_of g.F.Field.coding c.args.job.now) number group old new) c.in_ok-change.change
     (sym c.is_some.ensures ∙ c.if-is_some.false) c.in_ok-change.ensures.sends in
     record {
       count = omega (arith, c.loop-group.invariant.count);
       sent = λ first before at h.
-          left_more way source marks before c.args.groups.now c.loop-group.group-index c.args.from number group first
+          left_more (job_of g.F.Field.coding c.args.job.now) before c.args.groups.now c.loop-group.group-index c.args.from number group first
           old new
           c.loop-group-test.true (sym c.group-item.is) at c.loop-group.invariant.count
           (c.loop-group.invariant.sent first before at h) sends c.send_group.ensures.others.place.target;
@@ -78,12 +76,11 @@ loop-group-preserved g c =
 pub returns-clause-all : goal.returns-clause-all
 returns-clause-all g c stream first before at all h =
     let source = c.args.job.now.found.source in
-    let marks = c.args.job.now.found.marks.items in
     let groups = c.args.groups.now in
     let i : ℕ = c.loop-group.group-index in
     let now = lent c.loop-group.outside in
     let whole : take i groups ≡ groups = take_all i groups (omega (arith, c.loop-group-test.false)) in
-    ends_lost (way_of c.args.job.now.to) source marks stream
+    ends_lost (job_of g.F.Field.coding c.args.job.now) stream
     (before ++ groups) c.loop-group.number first now c.first_lost.result
     (omega (
       arith,
@@ -93,7 +90,7 @@ returns-clause-all g c stream first before at all h =
       c.loop-group-test.false,
       c.loop-group.auto.group-index-end,
     ))
-    (subst (λ (l : List CutGroup). HasSentSome (job_of c.args.job.now) (before ++ l) first now) whole
+    (subst (λ (l : List CutGroup). HasSentSome (job_of g.F.Field.coding c.args.job.now) (before ++ l) first now) whole
     (c.loop-group.invariant.sent first before at h))
     (all_found source.priority stream (before ++ groups) all) c.first_lost.ensures.lost c.first_lost.ensures.none
 
@@ -112,7 +109,7 @@ overflow_add-number g c =
     omega (
       arith,
       c.args.job.now.few,
-      sent_within (way_of c.args.job.now.to) c.args.job.now.found.source c.args.job.now.found.marks.items c.loop-group.number
+      sent_within (job_of g.F.Field.coding c.args.job.now) c.loop-group.number
           c.group-item.result (lent c.loop-group.outside)
           (lent c.send_group.new.outside)
           c.in_ok-change.change (sym c.is_some.ensures ∙ c.if-is_some.false) c.in_ok-change.ensures.sends,

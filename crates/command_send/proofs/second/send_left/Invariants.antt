@@ -11,8 +11,8 @@ abbrev pub invariant-loop-group : goal.invariant-loop-group
 invariant-loop-group g l = record {
   count : l.number ≡ l.from + l.group-index;
   sent : (first : Routes) (before : List CutGroup) → l.from ≡ length before
-      → HasSentSome (job_of l.job) before first (lent l.initial.outside)
-      → HasSentSome (job_of l.job)
+      → HasSentSome (job_of g.F.Field.coding l.job) before first (lent l.initial.outside)
+      → HasSentSome (job_of g.F.Field.coding l.job)
       (before ++ take l.group-index l.groups) first (lent l.outside);
   others : OnlyGrows (lent l.initial.outside) (lent l.outside);
   calm_place : (lent l.outside).place.faults ≡ (lent l.initial.outside).place.faults;

@@ -4,7 +4,7 @@ use Rattle.pet_base.specs.laws.Through.{on_any_err}
 use Rattle.stream_groups.specs.CutGroups.{CutGroup}
 use Rattle.stream_session.specs.laws.MarkLaws.{mark_found}
 use Rattle.stream_session.specs.Marks.{mark_of}
-use Rattle.stream_session.specs.Tables.{table_of}
+use Rattle.stream_session.specs.Tables.{table_of_in}
 use Rattle.command_send.specs.inside.Job.{lent}
 use Rattle.command_send.proofs.sent_group.send_group.Goals as goal
 
@@ -25,7 +25,7 @@ returns-then-not-has_table-clause-sends g c =
             c.none.ensures,
             sym c.first_mark-first.ensures ∙ same ∙ second,
             λ e. not_both (sym (c.has_table.ensures.1
-                (e ∙ ap (λ (x : CutGroup). Some (table_of c.args.job.now.found.source.priority x.cut))
+                (e ∙ ap (λ (x : CutGroup). Some (table_of_in c.args.job.now.format c.args.job.now.found.source.priority x.cut))
                 (sym c.group.view_is))) ∙ c.if-not-has_table.true),
           );
       differ = λ e. mark_found group.bytes c.requires.filled (sym second ∙ sym same ∙ e ∙ c.none.ensures);
@@ -43,7 +43,7 @@ returns-in_err-put_packets-clause-part g c =
         mark = sym c.first_mark-first.ensures ∙ same ∙ second;
         table =
             c.has_table.ensures.0 c.if-not-has_table.false
-            ∙ ap (λ (x : CutGroup). Some (table_of c.args.job.now.found.source.priority x.cut)) c.group.view_is;
+            ∙ ap (λ (x : CutGroup). Some (table_of_in c.args.job.now.format c.args.job.now.found.source.priority x.cut)) c.group.view_is;
       },
       c.in_err-put_packets.ensures.part,
     )
@@ -58,7 +58,7 @@ returns-clause-sends g c =
         mark = sym c.first_mark-first.ensures ∙ same ∙ second;
         table =
             c.has_table.ensures.0 c.if-not-has_table.false
-            ∙ ap (λ (x : CutGroup). Some (table_of c.args.job.now.found.source.priority x.cut)) c.group.view_is;
+            ∙ ap (λ (x : CutGroup). Some (table_of_in c.args.job.now.format c.args.job.now.found.source.priority x.cut)) c.group.view_is;
       },
       c.in_ok-put_packets.ensures.sends,
     )
