@@ -1,4 +1,4 @@
-//! The command `send`, and what it stands on: the sending of a session in any format.
+//! The commands `send` and `bsend`, and what both stand on: the sending of a session in any format.
 ghost use Rattle.std.specs.Prelude.{◌≡◌, ◌≤◌};
 ghost use Rattle.pet_base.specs.Lent.{seen, AreSame};
 ghost use Rattle.pet_base.specs.Seen.{PlaceStops};
@@ -6,15 +6,17 @@ ghost use Rattle.pet_base.specs.LinkSeen.{LinkStops};
 ghost use Rattle.command_send.specs.Failures.{end_of_place, end_of_link};
 ghost use Rattle.outside_routes.specs.Way.{way_of};
 ghost use Rattle.command_send.specs.Sends.{IsOther, Sends, SendsIn};
+ghost use Rattle.command_send.specs.SendsBytes.{SendsBytes, SendsByteSession};
 ghost use Rattle.command_send.specs.SendsSession.{SendsSession, SendsSessionIn};
 ghost use Rattle.stream_session.specs.Tables.{IsSessionFormat};
 
 use crate::sent_group::Change;
 use crate::session::{Sent, send_all};
 use field_values::AllValues;
+use gf8::Gf8Tables;
 use mpeg_scan::Scan;
 use outside_routes::Route;
-use packet_frame::{FORMAT, Format};
+use packet_frame::{BYTE_FORMAT, FORMAT, Format};
 use pet_base::{Link, Outside, Place, Sink};
 use pet_field::Gf16Tables;
 use priority_file::PriorityFault;
@@ -99,4 +101,29 @@ pub fn send_by<P: Place, K: Link, S: Sink, L: Ledger, F: AllValues>(
         Ok(sent) => SendEnd::Done(sent),
         Err(fault) => fault.end(),
     }
+}
+
+/// The same of the byte profile: a byte of the layers is a word, and each packet has one byte for each stripe. A priority of more than
+/// 255 packets, and a group whose layers have more than 2,097,152 bytes, are refused too.
+#[tactic(auto, using(stream_session::specs::laws::FormatLaws::bytewise_is))]
+pub fn bsend<P: Place, K: Link, S: Sink, L: Ledger>(
+    alloc: Global,
+    stream: &str,
+    priority: &str,
+    to: Route<'_>,
+    outside: &mut Outside<P, K, S, L>,
+) -> SendEnd
+    requires differ { IsOther (way_of to) stream.now }
+    ensures sends { SendsBytes stream.now priority.now (way_of to.entry) (seen outside.old)
+        (seen outside.new) result }
+    ensures completes { SendsByteSession stream.now priority.now (way_of to.entry) (seen outside.old)
+        (seen outside.new) result }
+    ensures once_place { PlaceStops (end_of_place result) (seen outside.old).place
+        (seen outside.new).place }
+    ensures once_link { LinkStops (end_of_link result) (seen outside.old).link
+        (seen outside.new).link }
+    ensures same { AreSame outside.old outside.new }
+{
+    let field = Gf8Tables::new();
+    send_by(alloc, &field, BYTE_FORMAT, stream, priority, to, outside)
 }

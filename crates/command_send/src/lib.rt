@@ -1,5 +1,6 @@
-//! The command `send`: it sends the packets of the session that a stream and a priority file are to
-//! a datagram file or by a link.
+//! The commands `send` and `bsend`: each sends the packets of the session that a stream and a priority
+//! file are to a datagram file or by a link, `bsend` those of the byte profile. `send_by` does so in any
+//! format, and both stand on it.
 //!
 //! What it leaves at each of its ends stands in `specs/Sends.antt`; `specs/SendsSession.antt` says
 //! when it is done. The stream is read twice, and none of it is held but the group that has not
@@ -16,6 +17,6 @@ mod sent_group;
 mod session;
 mod table;
 
-pub use command::{SendEnd, send, send_by};
+pub use command::{SendEnd, bsend, send, send_by};
 pub use sent_group::Change;
 pub use session::Sent;
