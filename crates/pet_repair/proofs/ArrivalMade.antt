@@ -1,7 +1,7 @@
 -- One arrival, step by step.
 use Rattle.std.proofs.Common.{◌≡◌, ◌≢◌, ℕ, ◌+◌, ◌<◌, true, false, List, [], ◌∷◌, map, None, Some}
 use Rattle.std.proofs.Common.{refl, sym, ap, subst, ◌∙◌, arith, inl, inr}
-use Rattle.std.specs.Prelude.{All, IfErr, IsErrAnd, Result, Ok, Err, is_none}
+use Rattle.std.specs.Prelude.{All, IfErr, IsErrAnd, OnOk, Result, Ok, Err, is_none}
 use Rattle.field_elements.specs.Gf16.{gf16_coding}
 use Rattle.packet_frame.specs.Frame.{text}
 use Rattle.packet_frame.specs.Refusals.{fields_of}
@@ -237,3 +237,12 @@ pub err_is : {T F : Type 0} (P : F → Type 0) (result : Result T F) (e : F) →
     → IfErr result P
 err_is P (Ok x) e is p = tt
 err_is P (Err x) e is p = subst P (sym is) p
+
+-- what holds in any case holds of the stop of an answer, and of one that has none
+pub ok_so : {T F : Type 0} (P : Type 0) (result : Result T F) → P → OnOk result P
+ok_so P (Ok x) p = p
+ok_so P (Err x) p = tt
+
+pub err_so : {T F : Type 0} (P : F → Type 0) (result : Result T F) → ((e : F) → P e) → IfErr result P
+err_so P (Ok x) p = tt
+err_so P (Err x) p = p x

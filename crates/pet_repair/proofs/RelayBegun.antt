@@ -21,8 +21,8 @@ use Rattle.outside_routes.specs.declared.fault.RouteFailed.{RouteFailed}
 use Rattle.outside_routes.specs.declared.fault.RouteFailed.TheVariants as failed
 use Rattle.outside_routes.specs.declared.fault.RouteStop.{RouteStop}
 use Rattle.outside_routes.specs.declared.fault.RouteStop.TheVariants as stop
-use Rattle.packet_reading.specs.Begun.{Begun, Begins, EnteringFailed, StopsBeginning}
-use Rattle.packet_reading.specs.Opened.{KeepsLink, PrintedPort}
+use Rattle.packet_reading.specs.Begun.{Begun, Begins, EnteringFailed, IsBoundWhereStopped, StopsBeginning}
+use Rattle.packet_reading.specs.Opened.{IsBoundTo, KeepsLink, PrintedPort}
 use Rattle.packet_reading.specs.Layers.{HaveLeft, IsReadFirst}
 use Rattle.packet_reading.specs.laws.BegunLaws.{is_read, link_failed, there}
 use Rattle.pet_receive.specs.Arrivals.{ReceiverState, kept_set}
@@ -31,7 +31,7 @@ use Rattle.packet_met.specs.Kept.{nothing_of}
 use Rattle.packet_verdicts.specs.KeptSet.{kept_in_all}
 use Rattle.pet_repair.specs.Repaired.{on_end}
 use Rattle.pet_repair.specs.Relays.{Relays, RelaysFront, RelaysToUnlike, IsReadTo, HasNotBegun}
-use Rattle.pet_repair.specs.Relays.{relay_uses, routes_of, EndsRelay}
+use Rattle.pet_repair.specs.Relays.{relay_uses, routes_of, EndsRelay, IsBoundAtRelayEnd, DoesRelay}
 use Rattle.pet_repair.specs.SentTo.{SentTo, SentFront}
 use Rattle.pet_repair.specs.declared.arriving.RelayStop.{RelayStop}
 use Rattle.pet_repair.specs.declared.arriving.RelayStop.TheVariants.{Route, Unlike}
@@ -353,13 +353,30 @@ pub open_opened : (to : Way) (mid opened : Routes) → IsOpened to mid opened �
 open_opened (OnFile name) mid opened is = is.output
 open_opened (OnLink address) mid opened is = tt
 
--- for want of memory nothing was done
-pub nothing_relayed : (from : Way) (session : List ℕ) (to : Way) (now : OutsideSeen)
-    → EndsRelay from session to now now end.NoMemory
-nothing_relayed (OnFile name) session to now =
-    inl (record { untouched = record { files = refl; feed = tt }; sent = refl }, refl)
-nothing_relayed (OnLink address) session to now =
-    inl (record { untouched = record { files = refl; feed = refl }; sent = refl }, refl)
+-- where the link is bound once FROM is begun it stays so
+pub bound_kept : (from : Way) (before mid new : LinkSeen) → new.bound ≡ mid.bound → IsBoundTo from before mid
+    → IsBoundTo from before new
+bound_kept (OnFile name) before mid new same bound = tt
+bound_kept (OnLink address) before mid new same bound = same ∙ bound
+
+-- where FROM was begun the link is bound at each end, and where it was not at the end of that stop
+pub bound_at_any : (from : Way) (old new : LinkSeen) (e : RelayEnd) → IsBoundTo from old new
+    → IsBoundAtRelayEnd from old new e
+bound_at_any from old new (end.Done read sent) bound = bound
+bound_at_any from old new (end.Incomplete read sent) bound = bound
+bound_at_any from old new (end.TurnsSpent read sent) bound = bound
+bound_at_any from old new (end.Unlike group number) bound = bound
+bound_at_any from old new end.OutFault bound = bound
+bound_at_any from old new end.PlaceFault bound = bound
+bound_at_any from old new end.NoMemory bound = inr bound
+bound_at_any from old new end.LinkFault bound = inr bound
+
+pub bound_at_stop : (from : Way) (old new : LinkSeen) (s : RouteStop) → IsBoundWhereStopped from old new s
+    → IsBoundAtRelayEnd from old new (end_of_relay (Route s))
+bound_at_stop from old new stop.NoMemory bound = bound
+bound_at_stop from old new stop.Place bound = bound
+bound_at_stop from old new stop.Link bound = bound
+bound_at_stop from old new stop.Out bound = bound
 
 -- an end with numbers tells of no failure
 pub no_place : (x : Relaying) (e : RelayEnd) → IsEndOf x e → relay_end_of_place e ≡ false
@@ -399,7 +416,7 @@ stop_link (Unlike group number) = refl
 
 -- by the texts of the ends
 pub relays_at : (from a to b : Way) (session : List ℕ) (before after : OutsideSeen) (e : RelayEnd) → from ≡ a → to ≡ b
-    → EndsRelay from session to before after e → EndsRelay a session b before after e
-relays_at from a to b session before after e p q ends =
-    subst (λ (w : Way). EndsRelay w session b before after e) p
-    (subst (λ (w : Way). EndsRelay from session w before after e) q ends)
+    → DoesRelay from session to before after e → DoesRelay a session b before after e
+relays_at from a to b session before after e p q does =
+    subst (λ (w : Way). DoesRelay w session b before after e) p
+    (subst (λ (w : Way). DoesRelay from session w before after e) q does)

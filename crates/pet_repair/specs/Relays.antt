@@ -2,16 +2,17 @@
 use Rattle.std.specs.Prelude.{◌≡◌, ◌⊎◌, ℕ, ◌+◌, ◌<◌, ◌≤◌, List, [], ◌∷◌, ◌++◌, length}
 use Rattle.pet_base.specs.declared.limits.TheConstants.{MAX_DATAGRAMS}
 use Rattle.pet_base.specs.Entries.{datagrams}
+use Rattle.pet_base.specs.LinkSeen.{LinkSeen}
 use Rattle.pet_base.specs.OutsideSeen.{OutsideSeen}
 use Rattle.pet_base.specs.Seen.{Blame}
 use Rattle.outside_files.specs.Printed.{Unprinted}
 use Rattle.outside_files.specs.Uses.{reading, writing, Failed}
-use Rattle.outside_routes.specs.Coming.{HaveCome}
+use Rattle.outside_routes.specs.Coming.{HaveCome, KeepsFeed}
 use Rattle.outside_routes.specs.RouteFaults.{AimedFailed, BoundFailed}
 use Rattle.outside_routes.specs.Sending.{Routes, AreFirstDatagrams}
 use Rattle.outside_routes.specs.Way.{Way, OnFile, OnLink}
 use Rattle.store_text.specs.Files.{HasFile}
-use Rattle.packet_reading.specs.Opened.{IsUntouched, PortFailed, PrintedPort}
+use Rattle.packet_reading.specs.Opened.{IsBoundTo, IsUntouched, PortFailed, PrintedPort}
 use Rattle.packet_reading.specs.Layers.{IsRead, IsReadFirst}
 use Rattle.field_elements.specs.Gf16.{gf16_coding}
 use Rattle.pet_receive.specs.Arrivals.{ReceiverState, kept_set}
@@ -124,3 +125,22 @@ EndsRelay from session to before after LinkFault =
     (BoundFailed from before.link after.link ⊎ AimedFailed to before.link after.link)
     × ((HasNotBegun from before after × (Unprinted before after ⊎ PrintedPort from before after))
     ⊎ (RelaysFront from session to before after × PrintedPort from before after))
+
+-- The link receives at FROM, at each end that tells of what came or comes behind the making ready of TO. Want of memory,
+-- and a failure of the link, may come before, and then nothing has left it.
+abbrev pub IsBoundAtRelayEnd : Way → LinkSeen → LinkSeen → RelayEnd → Type 0
+IsBoundAtRelayEnd from old new (Done read sent) = IsBoundTo from old new
+IsBoundAtRelayEnd from old new (Incomplete read sent) = IsBoundTo from old new
+IsBoundAtRelayEnd from old new (TurnsSpent read sent) = IsBoundTo from old new
+IsBoundAtRelayEnd from old new (Unlike group number) = IsBoundTo from old new
+IsBoundAtRelayEnd from old new OutFault = IsBoundTo from old new
+IsBoundAtRelayEnd from old new PlaceFault = IsBoundTo from old new
+IsBoundAtRelayEnd from old new NoMemory = KeepsFeed from old new ⊎ IsBoundTo from old new
+IsBoundAtRelayEnd from old new LinkFault = KeepsFeed from old new ⊎ IsBoundTo from old new
+
+-- what `relay` does: the link receives at FROM, and the faults of the output do not fall
+pub record DoesRelay (from : Way) (session : List ℕ) (to : Way) (before after : OutsideSeen)
+    (end : RelayEnd) : Type 0 where
+  pub bound : IsBoundAtRelayEnd from before.link after.link end
+  pub later : before.out_faults ≤ after.out_faults
+  pub ends : EndsRelay from session to before after end

@@ -5,3 +5,4 @@ pub mod CompletesLaws
 pub mod RelayIsRule
 pub mod OutputLaws
 pub mod SessionRelayed
+pub mod StreamZeros

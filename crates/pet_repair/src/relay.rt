@@ -1,12 +1,12 @@
 //! The command `relay`, and how it ends.
-ghost use Rattle.std.specs.Prelude.{◌≡◌, ◌≤◌};
+ghost use Rattle.std.specs.Prelude.{◌≡◌};
 ghost use Rattle.pet_base.specs.Lent.{seen, AreSame};
 ghost use Rattle.pet_base.specs.LinkSeen.{LinkStops};
 ghost use Rattle.pet_base.specs.OutsideSeen.{outside_seen};
 ghost use Rattle.pet_base.specs.Seen.{PlaceStops};
 ghost use Rattle.outside_routes.specs.Way.{way_of};
 ghost use Rattle.pet_repair.specs.Failures.{relay_end_of_place, relay_end_of_link};
-ghost use Rattle.pet_repair.specs.Relays.{EndsRelay};
+ghost use Rattle.pet_repair.specs.Relays.{DoesRelay};
 ghost use Rattle.pet_repair.specs.RelaysSession.{CompletesRelay};
 ghost use Rattle.pet_repair.specs.SentTo.{way_at};
 ghost use Rattle.pet_repair.specs.inside.RelayEnds.{end_of_relay, IsEndOf};
@@ -70,13 +70,12 @@ pub fn relay_loop<P: Place, K: Link, S: Sink, L: Ledger>(
     out: &mut S,
     steps: &mut Steps<L>,
 ) -> RelayEnd
-    ensures relays { EndsRelay (way_at from_udp from.now) session (way_at to_udp to.now)
+    ensures relays { DoesRelay (way_at from_udp from.now) session (way_at to_udp to.now)
         (outside_seen P.Place K.Link S.Sink place.old link.old out.old steps.old)
         (outside_seen P.Place K.Link S.Sink place.new link.new out.new steps.new) result }
     ensures completes { CompletesRelay (way_at from_udp from.now) session (way_at to_udp to.now)
         (outside_seen P.Place K.Link S.Sink place.old link.old out.old steps.old)
         (outside_seen P.Place K.Link S.Sink place.new link.new out.new steps.new) result }
-    ensures later { S.faults out.old ≤ S.faults out.new }
     ensures once_place { PlaceStops (relay_end_of_place result) (P.seen place.old) (P.seen place.new) }
     ensures once_link { LinkStops (relay_end_of_link result) (K.seen link.old) (K.seen link.new) }
 {
@@ -95,10 +94,9 @@ fn relay_between<P: Place, K: Link, S: Sink, L: Ledger>(
     out: &mut S,
     steps: &mut Steps<L>,
 ) -> RelayEnd
-    ensures relays { EndsRelay (way_of from.entry) session (way_of to.entry)
+    ensures relays { DoesRelay (way_of from.entry) session (way_of to.entry)
         (outside_seen P.Place K.Link S.Sink place.old link.old out.old steps.old)
         (outside_seen P.Place K.Link S.Sink place.new link.new out.new steps.new) result }
-    ensures later { S.faults out.old ≤ S.faults out.new }
     ensures once_place { PlaceStops (relay_end_of_place result) (P.seen place.old) (P.seen place.new) }
     ensures once_link { LinkStops (relay_end_of_link result) (K.seen link.old) (K.seen link.new) }
 {
@@ -119,9 +117,8 @@ fn relay_routes<P: Place, K: Link, S: Sink, L: Ledger>(
     to: Route<'_>,
     outside: &mut Outside<P, K, S, L>,
 ) -> RelayEnd
-    ensures relays { EndsRelay (way_of from.entry) session (way_of to.entry) (seen outside.old)
+    ensures relays { DoesRelay (way_of from.entry) session (way_of to.entry) (seen outside.old)
         (seen outside.new) result }
-    ensures later { (seen outside.old).out_faults ≤ (seen outside.new).out_faults }
     ensures same { AreSame outside.old outside.new }
     ensures once_place { PlaceStops (relay_end_of_place result) (seen outside.old).place
         (seen outside.new).place }

@@ -1,5 +1,5 @@
 //! Reading the datagrams of a file or of a link, and sending what each gives.
-ghost use Rattle.std.specs.Prelude.{◌≡◌, ◌↔◌, ◌≤◌, ℕ, length, IsTrue, IfOk, IfErr, vec_len};
+ghost use Rattle.std.specs.Prelude.{◌≡◌, ◌↔◌, ◌≤◌, ℕ, length, IsTrue, IfOk, IfErr, OnOk, vec_len};
 ghost use Rattle.pet_base.specs.declared.limits.TheConstants.{MAX_ENTRY};
 ghost use Rattle.pet_base.specs.Causes.{stops};
 ghost use Rattle.pet_base.specs.Lent.{seen, AreSame};
@@ -10,11 +10,11 @@ ghost use Rattle.outside_routes.specs.Coming.{HasInput};
 ghost use Rattle.outside_routes.specs.Sending.{routes, IsOpen};
 ghost use Rattle.outside_routes.specs.Way.{way_of};
 ghost use Rattle.packet_reading.specs.Begun.{Begins};
-ghost use Rattle.packet_reading.specs.Opened.{PrintedPort};
+ghost use Rattle.packet_reading.specs.Opened.{IsBoundTo, PrintedPort};
 ghost use Rattle.packet_verdicts.specs.KeptSet.{kept_in_all};
 ghost use Rattle.pet_receive.specs.Arrivals.{kept_set};
 ghost use Rattle.pet_receive.specs.ShownBytes.{IsComplete};
-ghost use Rattle.pet_repair.specs.Relays.{Relays, EndsRelay};
+ghost use Rattle.pet_repair.specs.Relays.{Relays, EndsRelay, IsBoundAtRelayEnd};
 ghost use Rattle.pet_repair.specs.inside.Arrivals.{StandsIn, relay_of_place, relay_of_link};
 ghost use Rattle.pet_repair.specs.inside.RelayEnds.{end_of_relay, IsRelayingOf, OnlyBegins};
 ghost use Rattle.pet_repair.specs.inside.RelaySoFar.{KeepsAddresses, RelayedAll, StopsRelaying};
@@ -52,6 +52,10 @@ pub(crate) fn relay<P: Place, K: Link, S: Sink, L: Ledger>(
         × PrintedPort (way_of from.entry) (seen outside.old) (seen outside.new)) }
     ensures stopped { IfErr result (λ stop. EndsRelay (way_of from.entry) session (way_of to.entry)
         (seen outside.old) (seen outside.new) (end_of_relay stop)) }
+    ensures listens { OnOk result (IsBoundTo (way_of from.entry) (seen outside.old).link
+        (seen outside.new).link) }
+    ensures bound { IfErr result (λ stop. IsBoundAtRelayEnd (way_of from.entry) (seen outside.old).link
+        (seen outside.new).link (end_of_relay stop)) }
     ensures later { (seen outside.old).out_faults ≤ (seen outside.new).out_faults }
     ensures same { AreSame outside.old outside.new }
     ensures once_place { PlaceStops (stops relay_of_place result) (seen outside.old).place
@@ -94,6 +98,7 @@ fn relay_begun<P: Place, K: Link, S: Sink, L: Ledger>(
         → OnlyBegins (way_of from.entry) before (seen outside.old)
         → EndsRelay (way_of from.entry) session (way_of to.entry) before (seen outside.new)
         (end_of_relay stop)) }
+    ensures bound { (seen outside.new).link.bound ≡ (seen outside.old).link.bound }
     ensures out { (seen outside.new).out_faults ≡ (seen outside.old).out_faults }
     ensures same { AreSame outside.old outside.new }
     ensures once_place { PlaceStops (stops relay_of_place result) (seen outside.old).place

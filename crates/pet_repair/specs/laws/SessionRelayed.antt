@@ -37,6 +37,7 @@ use Rattle.packet_rebuild.specs.Message.{HaveZeroEnds}
 use Rattle.pet_repair.specs.Arrival.{HaveArrived}
 use Rattle.pet_repair.specs.Repaired.{on_end}
 use Rattle.pet_repair.specs.Relays.{Relayed, Relays, RelaysToUnlike, IsReadTo, AreCounts, EndsRelay, routes_of}
+use Rattle.pet_repair.specs.Relays.{IsBoundAtRelayEnd, DoesRelay}
 use Rattle.pet_repair.specs.RelaysSession.{CanRelay, RelaysSession, CompletesRelay, relayed_pairs, relayed_datagrams}
 use Rattle.pet_repair.specs.RelaysSession.{relayed_end}
 use Rattle.pet_repair.specs.SentTo.{SentTo}
@@ -155,17 +156,17 @@ module _ (s : Session) (from to : Way) (files : Files) (ds : List (List ℕ)) (b
   by_rule : (read : List (List ℕ)) (x : Relayed s.number read) → All (IsPlain gf16_coding s) read
       → HasRelayed gf16_coding s MAX_SESSION [] read (on_end x.sent) (kept_set x.now)
   by_rule read x plain =
-      arrivals_relayed (λ a. a < 65536) gf16_coding s MAX_SESSION refl can.given.session can.given.fits can.zeros []
+      arrivals_relayed (λ a. a < 65536) gf16_coding s MAX_SESSION refl can.given.packets.session can.given.packets.fits can.given.zeros []
       x.start read x.sent x.now plain (follows_start read x) x.arrived
 
   module _ (r : Relays from s.number to before after) where
     read_is : (ds ≡ r.read) × (length r.read < MAX_DATAGRAMS)
-    read_is = all_read from r.read ds files before after can.given.told can.given.found can.given.few r.input
+    read_is = all_read from r.read ds files before after can.given.packets.told can.given.packets.found can.given.packets.few r.input
 
     has : HasRelayed gf16_coding s MAX_SESSION [] r.read (on_end r.relayed.sent) (kept_set r.relayed.now)
     has =
         by_rule r.read r.relayed
-        (subst (λ (l : List (List ℕ)). All (IsPlain gf16_coding s) l) read_is.0 can.given.packets)
+        (subst (λ (l : List (List ℕ)). All (IsPlain gf16_coding s) l) read_is.0 can.given.packets.packets)
 
     sent_is : on_end r.relayed.sent ≡ relayed_datagrams s ds
     sent_is = has.sent_is ∙ ap (relayed_datagrams s) (sym read_is.0)
@@ -178,7 +179,7 @@ module _ (s : Session) (from to : Way) (files : Files) (ds : List (List ℕ)) (b
         × (all_shown s (met_in s.number ds) ≡ true → IsComplete (kept_set r.relayed.now))
     shown_where =
         let complete = complete_is (made gf16_coding) s MAX_SESSION (relayed_pairs s r.read) (kept_set r.relayed.now)
-        can.given.session has.follows in
+        can.given.packets.session has.follows in
         let same : all_shown s (met_in s.number ds) ≡ all_shown s (relayed_pairs s r.read) =
         sym (shown_alike s ds) ∙ ap (λ (l : List (List ℕ)). all_shown s (relayed_pairs s l)) read_is.0 in
         ((λ all. same ∙ complete.0 all), (λ all. complete.1 (sym same ∙ all)))
@@ -196,41 +197,57 @@ module _ (s : Session) (from to : Way) (files : Files) (ds : List (List ℕ)) (b
   port_well (OnFile name) failed = absurd failed
   port_well (OnLink address) failed = failed.rose
 
-  pub relayed_so : (end : RelayEnd) → whole ≡ end → EndsRelay from s.number to before after end
-      → RelaysSession s from to ds before after end
-  relayed_so (Done read many) is ends = record {
+  pub relayed_so : (end : RelayEnd) → whole ≡ end → IsBoundAtRelayEnd from before.link after.link end
+      → EndsRelay from s.number to before after end → RelaysSession s from to ds before after end
+  relayed_so (Done read many) is bound ends = record {
     sent = sent ends.0;
+    listens = bound;
     ended = ended ends.0 true read many ends.3 ((shown_where ends.0).0 ends.2);
     printed = ends.4;
   }
-  relayed_so (Incomplete read many) is ends = record {
+  relayed_so (Incomplete read many) is bound ends = record {
     sent = sent ends.0;
+    listens = bound;
     ended =
         ended ends.0 false read many ends.3
         (false_from_ne_true (all_shown s (met_in s.number ds)) (λ all. ends.2 ((shown_where ends.0).1 all)));
     printed = ends.4;
   }
-  relayed_so (TurnsSpent read many) is ends =
+  relayed_so (TurnsSpent read many) is bound ends =
       absurd (let few = (read_is ends.0).1 in let spent = ends.1 in omega (arith, few, spent))
-  relayed_so (Unlike group number) is ends = absurd (unlike ends.0)
+  relayed_so (Unlike group number) is bound ends = absurd (unlike ends.0)
     where
       unlike : RelaysToUnlike from s.number to group number before after → ⊥
       unlike u =
-          let plain = plain_to s from files ds before after can.given u.read u.last u.input in
+          let plain = plain_to s from files ds before after can.given.packets u.read u.last u.input in
           never_stopped (λ a. a < 65536) gf16_coding s MAX_SESSION (relayed_pairs s u.read) u.relayed.now u.last refl
-          can.given.session can.given.fits can.zeros plain.1 (by_rule u.read u.relayed plain.0).follows group number
+          can.given.packets.session can.given.packets.fits can.given.zeros plain.1 (by_rule u.read u.relayed plain.0).follows group number
           u.stopped
-  relayed_so OutFault is ends = absurd (can.well.out (port_well from ends.1))
-  relayed_so NoMemory is ends = absurd (can.memory is)
-  relayed_so PlaceFault is ends = absurd (can.well.place ends.0)
-  relayed_so LinkFault is ends = absurd (either ends.0)
+  relayed_so OutFault is bound ends = absurd (can.well.out (port_well from ends.1))
+  relayed_so NoMemory is bound ends = absurd (can.memory is)
+  relayed_so PlaceFault is bound ends = absurd (can.well.place ends.0)
+  relayed_so LinkFault is bound ends = absurd (either ends.0)
     where
       either : BoundFailed from before.link after.link ⊎ AimedFailed to before.link after.link → ⊥
       either (inl failed) = can.bound failed
       either (inr failed) = can.aimed failed
 
 pub completes_relay : (from : Way) (session : List ℕ) (to : Way) (before after : OutsideSeen) (end : RelayEnd)
-    → EndsRelay from session to before after end → CompletesRelay from session to before after end
-completes_relay from session to before after end ends = λ s files ds is can.
-    relayed_so s from to files ds before after end can end refl
-    (subst (λ (n : List ℕ). EndsRelay from n to before after end) is ends)
+    → DoesRelay from session to before after end → CompletesRelay from session to before after end
+completes_relay from session to before after end does = λ s files ds is can.
+    relayed_so s from to files ds before after end can end refl does.bound
+    (subst (λ (n : List ℕ). EndsRelay from n to before after end) is does.ends)
+
+-- a command that has done nothing for want of memory
+pub nothing_relayed : (from : Way) (session : List ℕ) (to : Way) (now : OutsideSeen)
+    → DoesRelay from session to now now NoMemory
+nothing_relayed (OnFile name) session to now = record {
+  bound = inl tt;
+  later = omega arith;
+  ends = inl (record { untouched = record { files = refl; feed = tt }; sent = refl }, refl);
+}
+nothing_relayed (OnLink address) session to now = record {
+  bound = inl refl;
+  later = omega arith;
+  ends = inl (record { untouched = record { files = refl; feed = refl }; sent = refl }, refl);
+}

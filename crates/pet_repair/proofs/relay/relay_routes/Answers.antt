@@ -4,14 +4,20 @@ use Rattle.pet_base.specs.LinkSeen.{LinkStops}
 use Rattle.pet_base.specs.Seen.{PlaceStops}
 use Rattle.outside_routes.specs.Way.{way_of}
 use Rattle.pet_repair.specs.Failures.{relay_end_of_place, relay_end_of_link}
-use Rattle.pet_repair.specs.Relays.{EndsRelay}
-use Rattle.pet_repair.proofs.RelayBegun.{ends_relay, no_place, no_link, stop_place, stop_link}
+use Rattle.pet_repair.specs.Relays.{DoesRelay}
+use Rattle.pet_repair.proofs.RelayBegun.{bound_at_any, ends_relay, no_place, no_link, stop_place, stop_link}
 use Rattle.pet_repair.proofs.relay.relay_routes.Goals as goal
 
 pub returns-in-Ok-clause-relays : goal.returns-in-Ok-clause-relays
-returns-in-Ok-clause-relays g c =
-    ends_relay (way_of c.args.from) c.args.session (way_of c.args.to) (seen c.args.outside.now) (seen c.relay.new.outside)
-    c.in-Ok.relaying c.end_after.result c.end_after.ensures c.in-Ok.ensures.done
+returns-in-Ok-clause-relays g c = record {
+  bound =
+      bound_at_any (way_of c.args.from) (seen c.args.outside.now).link (seen c.relay.new.outside).link
+      c.end_after.result c.in-Ok.ensures.listens;
+  later = c.relay.ensures.later;
+  ends =
+      ends_relay (way_of c.args.from) c.args.session (way_of c.args.to) (seen c.args.outside.now)
+      (seen c.relay.new.outside) c.in-Ok.relaying c.end_after.result c.end_after.ensures c.in-Ok.ensures.done;
+}
 
 pub returns-in-Ok-clause-once_place : goal.returns-in-Ok-clause-once_place
 returns-in-Ok-clause-once_place g c =
@@ -25,8 +31,12 @@ returns-in-Ok-clause-once_link g c =
 
 pub returns-in-Err-clause-relays : goal.returns-in-Err-clause-relays
 returns-in-Err-clause-relays g c =
-    subst (EndsRelay (way_of c.args.from) c.args.session (way_of c.args.to) (seen c.args.outside.now)
-    (seen c.relay.new.outside)) (sym c.stopped.ensures) c.in-Err.ensures.stopped
+    subst (DoesRelay (way_of c.args.from) c.args.session (way_of c.args.to) (seen c.args.outside.now)
+    (seen c.relay.new.outside)) (sym c.stopped.ensures) (record {
+      bound = c.in-Err.ensures.bound;
+      later = c.relay.ensures.later;
+      ends = c.in-Err.ensures.stopped;
+    })
 
 pub returns-in-Err-clause-once_place : goal.returns-in-Err-clause-once_place
 returns-in-Err-clause-once_place g c =

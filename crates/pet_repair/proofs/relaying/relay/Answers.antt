@@ -2,26 +2,28 @@ use Rattle.std.proofs.lemmas.Result.{IfOk-weaker, IfErr-weaker}
 use Rattle.pet_base.specs.Lent.{seen}
 use Rattle.outside_routes.specs.Way.{way_of}
 use Rattle.outside_routes.specs.declared.fault.RouteStop.TheVariants as stop
-use Rattle.packet_reading.specs.laws.BegunLaws.{begun_input}
-use Rattle.pet_repair.specs.Relays.{EndsRelay}
+use Rattle.packet_reading.specs.Opened.{IsBoundTo}
+use Rattle.packet_reading.specs.laws.BegunLaws.{begun_bound, begun_input}
+use Rattle.pet_repair.specs.Relays.{EndsRelay, IsBoundAtRelayEnd}
 use Rattle.pet_repair.specs.declared.arriving.RelayStop.TheVariants.{Route}
 use Rattle.pet_repair.specs.inside.RelayEnds.{OnlyBegins, end_of_relay}
-use Rattle.pet_repair.proofs.ArrivalMade.{err_is}
-use Rattle.pet_repair.proofs.RelayBegun.{nothing_relayed, stops_beginning}
+use Rattle.pet_repair.proofs.ArrivalMade.{err_is, err_so, ok_so}
+use Rattle.pet_repair.specs.laws.SessionRelayed.{nothing_relayed}
+use Rattle.pet_repair.proofs.RelayBegun.{bound_at_any, bound_at_stop, bound_kept, stops_beginning}
 use Rattle.pet_repair.proofs.relaying.relay.Goals as goal
 
 pub returns-in_err-buffer-clause-stopped : goal.returns-in_err-buffer-clause-stopped
 returns-in_err-buffer-clause-stopped g c =
     err_is (λ s. EndsRelay (way_of c.args.from) c.args.session (way_of c.args.to) (seen c.args.outside.now)
     (seen c.args.outside.now) (end_of_relay s)) c.from_residual.result (Route stop.NoMemory) c.from_residual.ensures.1
-    (nothing_relayed (way_of c.args.from) c.args.session (way_of c.args.to) (seen c.args.outside.now))
+    (nothing_relayed (way_of c.args.from) c.args.session (way_of c.args.to) (seen c.args.outside.now)).ends
 
 pub returns-in_err-field-clause-stopped : goal.returns-in_err-field-clause-stopped
 returns-in_err-field-clause-stopped g c =
     err_is (λ s. EndsRelay (way_of c.args.from) c.args.session (way_of c.args.to) (seen c.args.outside.now)
     (seen c.args.outside.now) (end_of_relay s)) c.from_residual-in_err-field.result (Route stop.NoMemory)
     c.from_residual-in_err-field.ensures.1
-    (nothing_relayed (way_of c.args.from) c.args.session (way_of c.args.to) (seen c.args.outside.now))
+    (nothing_relayed (way_of c.args.from) c.args.session (way_of c.args.to) (seen c.args.outside.now)).ends
 
 pub returns-in_err-begin-clause-stopped : goal.returns-in_err-begin-clause-stopped
 returns-in_err-begin-clause-stopped g c =
@@ -51,3 +53,46 @@ returns-clause-stopped g c =
     record { untouched = c.begin.ensures.untouched; others = c.begin.ensures.others } in
     IfErr-weaker c.relay_begun.result _ _
     (λ s stops. stops (seen c.args.outside.now) c.in_ok-begin.ensures.begins only) c.relay_begun.ensures.stopped
+
+pub returns-in_err-buffer-clause-bound : goal.returns-in_err-buffer-clause-bound
+returns-in_err-buffer-clause-bound g c =
+    let now = seen c.args.outside.now in
+    err_is (λ s. IsBoundAtRelayEnd (way_of c.args.from) now.link now.link (end_of_relay s)) c.from_residual.result
+    (Route stop.NoMemory) c.from_residual.ensures.1
+    (nothing_relayed (way_of c.args.from) c.args.session (way_of c.args.to) now).bound
+
+pub returns-in_err-field-clause-bound : goal.returns-in_err-field-clause-bound
+returns-in_err-field-clause-bound g c =
+    let now = seen c.args.outside.now in
+    err_is (λ s. IsBoundAtRelayEnd (way_of c.args.from) now.link now.link (end_of_relay s))
+    c.from_residual-in_err-field.result (Route stop.NoMemory) c.from_residual-in_err-field.ensures.1
+    (nothing_relayed (way_of c.args.from) c.args.session (way_of c.args.to) now).bound
+
+pub returns-in_err-begin-clause-bound : goal.returns-in_err-begin-clause-bound
+returns-in_err-begin-clause-bound g c =
+    let s = c.in_err-begin.field-0.0 in
+    let old = (seen c.args.outside.now).link in
+    let new = (seen c.begin.new.outside).link in
+    err_is (λ s. IsBoundAtRelayEnd (way_of c.args.from) old new (end_of_relay s)) c.from_residual-in_err-begin.result
+    (Route s) c.from_residual-in_err-begin.ensures.1
+    (bound_at_stop (way_of c.args.from) old new s c.in_err-begin.ensures.bound)
+
+pub returns-clause-listens : goal.returns-clause-listens
+returns-clause-listens g c =
+    ok_so (IsBoundTo (way_of c.args.from) (seen c.args.outside.now).link (seen c.relay_begun.new.outside).link)
+    c.relay_begun.result
+    (bound_kept (way_of c.args.from) (seen c.args.outside.now).link (seen c.begin.new.outside).link
+    (seen c.relay_begun.new.outside).link c.relay_begun.ensures.bound
+    (begun_bound (way_of c.args.from) (seen c.args.outside.now) (seen c.begin.new.outside)
+    c.in_ok-begin.ensures.begins.begun))
+
+pub returns-clause-bound : goal.returns-clause-bound
+returns-clause-bound g c =
+    err_so (λ s. IsBoundAtRelayEnd (way_of c.args.from) (seen c.args.outside.now).link
+    (seen c.relay_begun.new.outside).link (end_of_relay s)) c.relay_begun.result
+    (λ s. bound_at_any (way_of c.args.from) (seen c.args.outside.now).link (seen c.relay_begun.new.outside).link
+    (end_of_relay s)
+    (bound_kept (way_of c.args.from) (seen c.args.outside.now).link (seen c.begin.new.outside).link
+    (seen c.relay_begun.new.outside).link c.relay_begun.ensures.bound
+    (begun_bound (way_of c.args.from) (seen c.args.outside.now) (seen c.begin.new.outside)
+    c.in_ok-begin.ensures.begins.begun)))
