@@ -1,0 +1,4 @@
+use Rattle.test_keep.proofs.image_tests.first_otherwise.Given as goal
+
+abbrev pub ghosts-keeps_what_was_answered : goal.ghosts-keeps_what_was_answered
+ghosts-keeps_what_was_answered a = record { name = a.blank.name; parts = a.blank.parts }
