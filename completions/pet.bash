@@ -25,7 +25,7 @@ _pet() {
     read -a words <<<"${COMP_LINE:0:COMP_POINT}"
     [[ ${COMP_LINE:0:COMP_POINT} == *[[:space:]] ]] && words+=("")
     local at=$((${#words[@]} - 1))
-    local current=${words[at]} names="plan check send receive merge video unwrap wrap migrate repair replay sample breceive help --version"
+    local current=${words[at]} names="plan check send receive merge video unwrap wrap migrate repair relay replay sample breceive help --version"
     # This is a word of the script in a checkout.
     [[ ${words[0]} == */* ]] && names+=" build"
     COMPREPLY=()
@@ -35,7 +35,7 @@ _pet() {
             _pet_files "$current" ""
             ;;
         unwrap:3) _pet_offer "$current" < <(compgen -W "$(printf 'e%x ' {0..15})" -- "$current") ;;
-        send:4 | receive:2 | repair:3 | breceive:2)
+        send:4 | receive:2 | repair:3 | relay:[24] | breceive:2)
             if [[ $current == file:* ]]; then
                 _pet_files "$current" file:
             elif [[ $current != udp:* ]]; then

@@ -27,6 +27,10 @@ abbrev pub repaired_text : ℕ → ℕ → List ℕ
 repaired_text groups packets =
     codes "repaired " ++ decimal groups ++ codes " datagrams " ++ decimal packets ++ codes "\n"
 
+-- how many datagrams were read, and how many were sent
+abbrev pub relay_text : ℕ → ℕ → List ℕ
+relay_text read sent = codes "read " ++ decimal read ++ codes " sent " ++ decimal sent ++ codes "\n"
+
 -- how many datagrams the migrated store has
 abbrev pub migrated_text : ℕ → List ℕ
 migrated_text datagrams = codes "migrated " ++ decimal datagrams ++ codes "\n"

@@ -1,5 +1,5 @@
 -- The command words, this project's own.
-use Rattle.std.specs.Prelude.{ℕ, ◌+◌, ◌-◌, ◌*◌, ◌&&◌, ◌==◌, not, nat_le, nat_lt, nat_eq, Bool, true, List, [], ◌∷◌, length}
+use Rattle.std.specs.Prelude.{ℕ, ◌+◌, ◌-◌, ◌*◌, ◌&&◌, ◌==◌, not, nat_le, nat_lt, nat_eq, Bool, true, false, List, [], ◌∷◌, length}
 use Rattle.std.specs.Prelude.{drop, map, Option, None, Some, option_map, codes, String, string_bytes, if◌then◌else◌}
 use Rattle.std.specs.List.{starts_with}
 use Rattle.std.specs.Str.{bytes_eq}
@@ -12,7 +12,7 @@ use Rattle.pet_text.specs.declared.end.End.{End}
 use Rattle.pet_text.specs.declared.end.End.TheVariants.{File, Udp}
 use Rattle.pet_text.specs.declared.words.Command.{Command}
 use Rattle.pet_text.specs.declared.words.Command.TheVariants.{Plan, Check, Send, Receive, Merge, Video, Unwrap, Wrap}
-use Rattle.pet_text.specs.declared.words.Command.TheVariants.{Migrate, Replay, Sample, Repair, Breceive}
+use Rattle.pet_text.specs.declared.words.Command.TheVariants.{Migrate, Replay, Sample, Repair, Breceive, Relay}
 
 -- the texts of the words
 abbrev pub texts_of : List (String Global) → List (List ℕ)
@@ -114,12 +114,20 @@ abbrev pub breceive_files : End → List ℕ → Bool
 breceive_files (File from) layers = is_name layers && not (bytes_eq from layers)
 breceive_files (Udp address) layers = is_name layers
 
+-- a file that is read, and another that is written; or one of the two, and an address
+abbrev pub relay_files : End → End → Bool
+relay_files (File from) (File to) = not (bytes_eq from to)
+relay_files (File from) (Udp address) = true
+relay_files (Udp address) (File to) = true
+relay_files (Udp address) (Udp other) = false
+
 -- two files that are read, maybe one and the same, and another file that is written
 abbrev pub merge_files : List ℕ → List ℕ → List ℕ → Bool
 merge_files first second out =
     is_name first && (is_name second && (is_name out && (not (bytes_eq out first) && not (bytes_eq out second))))
 
--- the files of a command have names, and a file that is written has another name than each other file of it
+-- The files of a command have names, and a file that is written has another name than each other file of it. One end of
+-- a relay is a file.
 abbrev pub names_files : Command → Bool
 names_files (Plan stream priority) = is_name stream && is_name priority
 names_files (Check stream priority plan) = three_files stream priority plan
@@ -134,6 +142,7 @@ names_files (Replay stream priority script) = three_files stream priority script
 names_files (Sample seed groups) = true
 names_files (Repair store to) = repair_files store to
 names_files (Breceive from session layers) = breceive_files from layers
+names_files (Relay from session to) = relay_files from to
 
 -- the command, where it so names its files
 abbrev pub if_named : Command → Option Command
@@ -155,6 +164,13 @@ abbrev pub breceive_of : Option End → Option (List ℕ) → List ℕ → Optio
 breceive_of None session layers = None
 breceive_of (Some from) None layers = None
 breceive_of (Some from) (Some session) layers = if_named (Breceive from session layers)
+
+-- `relay FROM SESSION TO`
+abbrev pub relay_of : Option End → Option (List ℕ) → Option End → Option Command
+relay_of None session to = None
+relay_of (Some from) None to = None
+relay_of (Some from) (Some session) None = None
+relay_of (Some from) (Some session) (Some to) = if_named (Relay from session to)
 
 -- `unwrap FILE ID OUT`
 abbrev pub unwrap_of : List ℕ → Option ℕ → List ℕ → Option Command
@@ -190,6 +206,7 @@ command_of (word ∷ first ∷ second ∷ third ∷ []) =
     else if bytes_eq word (codes "unwrap") then unwrap_of first (id_of second) third
     else if bytes_eq word (codes "replay") then if_named (Replay first second third)
     else if bytes_eq word (codes "breceive") then breceive_of (end_of 0 first) (session_of second) third
+    else if bytes_eq word (codes "relay") then relay_of (end_of 0 first) (session_of second) (end_of 1 third)
     else None
 command_of (word ∷ first ∷ second ∷ third ∷ fourth ∷ []) =
     if bytes_eq word (codes "receive") then receive_of (end_of 0 first) (session_of second) third fourth else None

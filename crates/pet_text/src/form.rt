@@ -1,7 +1,7 @@
 //! What the words of a command give, before their texts are copied.
 ghost use Rattle.std.specs.Prelude.{◌≡◌, [], ◌∷◌, option_map};
 ghost use Rattle.std.specs.Str.{bytes_eq};
-ghost use Rattle.pet_text.specs.Words.{texts_of, end_of, session_of, id_of, plain_number, groups_of, send_files, receive_files, merge_files, if_named, send_of, receive_of, unwrap_of, sample_of, repair_files, repair_of, breceive_files, breceive_of, command_of};
+ghost use Rattle.pet_text.specs.Words.{texts_of, end_of, session_of, id_of, plain_number, groups_of, send_files, receive_files, merge_files, if_named, send_of, receive_of, unwrap_of, sample_of, repair_files, repair_of, breceive_files, breceive_of, relay_files, relay_of, command_of};
 ghost use Rattle.pet_text.specs.declared.words.Command.TheVariants.{Plan, Check, Merge, Video, Wrap, Migrate, Replay};
 ghost use Rattle.pet_text.specs.inside.Forms.{command_in};
 ghost use Rattle.pet_text.specs.Ends.{end_in};
@@ -74,6 +74,11 @@ pub(crate) enum Form<'a> {
         session: [u8; 8],
         layers: &'a str,
     },
+    Relay {
+        from: Route<'a>,
+        session: [u8; 8],
+        to: Route<'a>,
+    },
 }
 
 /// The form that the words have, where they have one.
@@ -137,6 +142,8 @@ fn three_words<'a>(word: &str, first: &'a str, second: &'a str, third: &'a str) 
         replay_words(first, second, third)
     } else if same(word, "breceive") {
         breceive_words(first, second, third)
+    } else if same(word, "relay") {
+        relay_words(first, second, third)
     } else {
         None
     }
@@ -384,6 +391,31 @@ fn are_breceive_files(from: Route<'_>, layers: &str) -> bool
     match from {
         Route::File(from) => !same(from, layers),
         Route::Udp(_) => true,
+    }
+}
+
+/// The words behind `relay`.
+fn relay_words<'a>(from: &'a str, session: &str, to: &'a str) -> Option<Form<'a>>
+    ensures { option_map command_in result
+        ≡ relay_of (end_of 0 from.now) (session_of session.now) (end_of 1 to.now) }
+{
+    let from = read_end(from, 0)?;
+    let session = read_session(session)?;
+    let to = read_end(to, 1)?;
+    if !are_relay_files(from, to) {
+        return None;
+    }
+    Some(Form::Relay { from, session, to })
+}
+
+/// Whether one of the two is a file, and not both are one and the same.
+fn are_relay_files(from: Route<'_>, to: Route<'_>) -> bool
+    ensures { result ≡ relay_files (end_in from.entry) (end_in to.entry) }
+{
+    match (from, to) {
+        (Route::File(from), Route::File(to)) => !same(from, to),
+        (Route::Udp(_), Route::Udp(_)) => false,
+        (Route::File(_), Route::Udp(_)) | (Route::Udp(_), Route::File(_)) => true,
     }
 }
 

@@ -1,10 +1,10 @@
 //! The texts of the program: the command words that it takes, the lines of `check`, `send`, `receive`, `merge`, `video`,
-//! `unwrap`, `wrap`, `migrate` and `repair`; and, given out again, the statuses of `text_status`, the text of `plan` of `text_plan`, the
+//! `unwrap`, `wrap`, `migrate`, `repair` and `relay`; and, given out again, the statuses of `text_status`, the text of `plan` of `text_plan`, the
 //! script of `text_script`, the lines of `replay` and `sample` of `text_world`, the stream of `sample` of `stream_sample`,
 //! and the line of a link's port of `outside_routes`.
 //!
-//! `read_words` reads exactly the words of a form. `least_line`, `send_line`, `receive_line`, `merged_line`, `video_line`,
-//! `unwrapped_line`, `wrapped_line`, `migrated_line` and `repaired_line`, which take no memory, leave exactly the defined line.
+//! `read_words` reads exactly the words of a form. `least_line` and the other calls for the line of a command, which take no memory,
+//! leave exactly the defined one.
 #![tactic(auto)]
 
 mod end;
@@ -19,8 +19,8 @@ mod words;
 pub use end::End;
 pub use keep_words::{KeepWords, read_keep_words};
 pub use lines::{
-    least_line, merged_line, migrated_line, receive_line, repaired_line, send_line, unwrapped_line,
-    video_line, wrapped_line,
+    least_line, merged_line, migrated_line, receive_line, relay_line, repaired_line, send_line,
+    unwrapped_line, video_line, wrapped_line,
 };
 pub use name::Name;
 pub use outside_routes::bound_line;

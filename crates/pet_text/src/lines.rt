@@ -1,12 +1,12 @@
-//! The printed lines.
+//! The printed lines. None of these calls takes memory.
 ghost use Rattle.std.specs.Prelude.{◌≡◌, []};
 ghost use Rattle.text_plan.specs.PlanLines.{least_text, send_text};
-ghost use Rattle.pet_text.specs.Lines.{receive_text, merged_text, video_text, unwrapped_text, wrapped_text, migrated_text, repaired_text};
+ghost use Rattle.pet_text.specs.Lines.{receive_text, merged_text, video_text, unwrapped_text, wrapped_text, migrated_text, repaired_text, relay_text};
 
 use arrayvec::ArrayVec;
 use text_pieces::{append_count, append_session, append_text, number_line};
 
-/// Leaves the line of `check` in `into`, which must be empty: for how many groups the lists are certificates. It takes no memory.
+/// Leaves the line of `check` in `into`, which must be empty: for how many groups the lists are certificates.
 pub fn least_line(groups: u32, into: &mut ArrayVec<u8, 64>)
     requires { into.old.items ≡ [] }
     ensures { into.new.items ≡ least_text groups }
@@ -14,8 +14,7 @@ pub fn least_line(groups: u32, into: &mut ArrayVec<u8, 64>)
     number_line("least ", u64::from(groups), into);
 }
 
-/// Leaves the line of `send` in `into`, which must be empty: the session's number in hexadecimal digits, its groups, and the
-/// datagrams of all of them. It takes no memory.
+/// Leaves the line of `send` in `into`, which must be empty: the session's number in hexadecimal digits, its groups and datagrams.
 pub fn send_line(session: &[u8; 8], groups: u32, datagrams: u32, into: &mut ArrayVec<u8, 64>)
     requires { into.old.items ≡ [] }
     ensures { into.new.items ≡ send_text session.now groups datagrams }
@@ -29,8 +28,7 @@ pub fn send_line(session: &[u8; 8], groups: u32, datagrams: u32, into: &mut Arra
     append_text("\n", into);
 }
 
-/// Leaves the line of `receive` in `into`, which must be empty: how many datagrams were read, how many packets are kept and how
-/// many layers are shown. It takes no memory.
+/// Leaves the line of `receive` in `into`, which must be empty: how many datagrams were read, packets kept, and layers shown.
 pub fn receive_line(read: u32, kept: u32, shown: u32, into: &mut ArrayVec<u8, 64>)
     requires { into.old.items ≡ [] }
     ensures { into.new.items ≡ receive_text read kept shown }
@@ -44,7 +42,7 @@ pub fn receive_line(read: u32, kept: u32, shown: u32, into: &mut ArrayVec<u8, 64
     append_text("\n", into);
 }
 
-/// Leaves the line of `merge` in `into`, which must be empty: how many datagrams the merged store has. It takes no memory.
+/// Leaves the line of `merge` in `into`, which must be empty: how many datagrams the merged store has.
 pub fn merged_line(datagrams: u32, into: &mut ArrayVec<u8, 64>)
     requires { into.old.items ≡ [] }
     ensures { into.new.items ≡ merged_text datagrams }
@@ -52,7 +50,7 @@ pub fn merged_line(datagrams: u32, into: &mut ArrayVec<u8, 64>)
     number_line("merged ", u64::from(datagrams), into);
 }
 
-/// Leaves the line of `video` in `into`, which must be empty: how many bytes the video of the store has. It takes no memory.
+/// Leaves the line of `video` in `into`, which must be empty: how many bytes the video of the store has.
 pub fn video_line(bytes: u64, into: &mut ArrayVec<u8, 64>)
     requires { into.old.items ≡ [] }
     ensures { into.new.items ≡ video_text bytes }
@@ -60,7 +58,7 @@ pub fn video_line(bytes: u64, into: &mut ArrayVec<u8, 64>)
     number_line("video ", bytes, into);
 }
 
-/// Leaves the line of `unwrap` in `into`, which must be empty: how many bytes the video has. It takes no memory.
+/// Leaves the line of `unwrap` in `into`, which must be empty: how many bytes the video has.
 pub fn unwrapped_line(bytes: u64, into: &mut ArrayVec<u8, 64>)
     requires { into.old.items ≡ [] }
     ensures { into.new.items ≡ unwrapped_text bytes }
@@ -68,7 +66,7 @@ pub fn unwrapped_line(bytes: u64, into: &mut ArrayVec<u8, 64>)
     number_line("unwrapped ", bytes, into);
 }
 
-/// Leaves the line of `wrap` in `into`, which must be empty: how many bytes the system stream has. It takes no memory.
+/// Leaves the line of `wrap` in `into`, which must be empty: how many bytes the system stream has.
 pub fn wrapped_line(bytes: u64, into: &mut ArrayVec<u8, 64>)
     requires { into.old.items ≡ [] }
     ensures { into.new.items ≡ wrapped_text bytes }
@@ -76,7 +74,7 @@ pub fn wrapped_line(bytes: u64, into: &mut ArrayVec<u8, 64>)
     number_line("wrapped ", bytes, into);
 }
 
-/// Leaves the line of `migrate` in `into`, which must be empty: how many datagrams the new store has. It takes no memory.
+/// Leaves the line of `migrate` in `into`, which must be empty: how many datagrams the new store has.
 pub fn migrated_line(datagrams: u32, into: &mut ArrayVec<u8, 64>)
     requires { into.old.items ≡ [] }
     ensures { into.new.items ≡ migrated_text datagrams }
@@ -84,8 +82,7 @@ pub fn migrated_line(datagrams: u32, into: &mut ArrayVec<u8, 64>)
     number_line("migrated ", u64::from(datagrams), into);
 }
 
-/// Leaves the line of `repair` in `into`, which must be empty: how many groups were whole, and how many packets of them were
-/// sent. It takes no memory.
+/// Leaves the line of `repair` in `into`, which must be empty: how many groups were whole, and how many packets they have.
 pub fn repaired_line(groups: u32, packets: u32, into: &mut ArrayVec<u8, 64>)
     requires { into.old.items ≡ [] }
     ensures { into.new.items ≡ repaired_text groups packets }
@@ -94,5 +91,17 @@ pub fn repaired_line(groups: u32, packets: u32, into: &mut ArrayVec<u8, 64>)
     append_count(groups, into);
     append_text(" datagrams ", into);
     append_count(packets, into);
+    append_text("\n", into);
+}
+
+/// Leaves the line of `relay` in `into`, which must be empty: how many datagrams were read, and how many were sent.
+pub fn relay_line(read: u32, sent: u32, into: &mut ArrayVec<u8, 64>)
+    requires { into.old.items ≡ [] }
+    ensures { into.new.items ≡ relay_text read sent }
+{
+    append_text("read ", into);
+    append_count(read, into);
+    append_text(" sent ", into);
+    append_count(sent, into);
     append_text("\n", into);
 }

@@ -1,6 +1,6 @@
 //! The command words.
 ghost use Rattle.std.specs.Prelude.{◌≡◌, ◌↔◌, Err, None, Some, IfOk};
-ghost use Rattle.pet_text.specs.declared.words.Command.TheVariants.{Plan, Check, Send, Receive, Merge, Video, Unwrap, Wrap, Migrate, Replay, Sample, Repair, Breceive};
+ghost use Rattle.pet_text.specs.declared.words.Command.TheVariants.{Plan, Check, Send, Receive, Merge, Video, Unwrap, Wrap, Migrate, Replay, Sample, Repair, Breceive, Relay};
 ghost use Rattle.pet_text.specs.Words.{texts_of, command_of};
 ghost use Rattle.pet_text.specs.inside.Forms.{command_in};
 ghost use Rattle.pet_text.specs.Ends.{end_in};
@@ -121,7 +121,19 @@ pub enum Command {
         /// The file that the layers are written to.
         layers: Name,
     },
+    /// Sends on the datagrams of a session, and with the last layer of a group its other packets.
+    Relay {
+        /// Where the datagrams come from.
+        from: End,
+        /// The number of the session.
+        session: [u8; 8],
+        /// Where they go to, not both are addresses, and a file differs from one that is read.
+        to: End,
+    },
 }
+
+/// A command with copies of its texts.
+type Owned = Result<Command, AllocError>;
 
 /// Why there is no command.
 #[derive(Clone, Copy, Debug, PartialEq, Eq)]
@@ -155,7 +167,7 @@ pub fn read_words(alloc: Global, words: &[String]) -> Result<Command, WordsFault
 }
 
 /// The command of a form, with copies of its texts.
-fn own_command(alloc: Global, form: Form<'_>) -> Result<Command, AllocError>
+fn own_command(alloc: Global, form: Form<'_>) -> Owned
     ensures { IfOk result (λ command. command ≡ command_in form.entry) }
 {
     match form {
@@ -193,10 +205,11 @@ fn own_command(alloc: Global, form: Form<'_>) -> Result<Command, AllocError>
             session,
             layers,
         } => own_breceive(alloc, from, session, layers),
+        Form::Relay { from, session, to } => own_relay(alloc, from, session, to),
     }
 }
 
-fn own_plan(alloc: Global, stream: &str, priority: &str) -> Result<Command, AllocError>
+fn own_plan(alloc: Global, stream: &str, priority: &str) -> Owned
     ensures { IfOk result (λ command. command ≡ Plan stream.now priority.now) }
 {
     let stream = Name::new(alloc, stream)?;
@@ -204,7 +217,7 @@ fn own_plan(alloc: Global, stream: &str, priority: &str) -> Result<Command, Allo
     Ok(Command::Plan { stream, priority })
 }
 
-fn own_check(alloc: Global, stream: &str, priority: &str, plan: &str) -> Result<Command, AllocError>
+fn own_check(alloc: Global, stream: &str, priority: &str, plan: &str) -> Owned
     ensures { IfOk result (λ command. command ≡ Check stream.now priority.now plan.now) }
 {
     let stream = Name::new(alloc, stream)?;
@@ -217,12 +230,7 @@ fn own_check(alloc: Global, stream: &str, priority: &str, plan: &str) -> Result<
     })
 }
 
-fn own_send(
-    alloc: Global,
-    stream: &str,
-    priority: &str,
-    to: Route<'_>,
-) -> Result<Command, AllocError>
+fn own_send(alloc: Global, stream: &str, priority: &str, to: Route<'_>) -> Owned
     ensures { IfOk result (λ command. command ≡ Send stream.now priority.now (end_in to.entry)) }
 {
     let stream = Name::new(alloc, stream)?;
@@ -235,13 +243,7 @@ fn own_send(
     })
 }
 
-fn own_receive(
-    alloc: Global,
-    from: Route<'_>,
-    session: [u8; 8],
-    layers: &str,
-    store: &str,
-) -> Result<Command, AllocError>
+fn own_receive(alloc: Global, from: Route<'_>, session: [u8; 8], layers: &str, store: &str) -> Owned
     ensures { IfOk result (λ command. command
         ≡ Receive (end_in from.entry) session layers.now store.now) }
 {
@@ -256,12 +258,7 @@ fn own_receive(
     })
 }
 
-fn own_breceive(
-    alloc: Global,
-    from: Route<'_>,
-    session: [u8; 8],
-    layers: &str,
-) -> Result<Command, AllocError>
+fn own_breceive(alloc: Global, from: Route<'_>, session: [u8; 8], layers: &str) -> Owned
     ensures { IfOk result (λ command. command ≡ Breceive (end_in from.entry) session layers.now) }
 {
     let from = own_end(alloc, from)?;
@@ -273,7 +270,15 @@ fn own_breceive(
     })
 }
 
-fn own_merge(alloc: Global, first: &str, second: &str, out: &str) -> Result<Command, AllocError>
+fn own_relay(alloc: Global, from: Route<'_>, session: [u8; 8], to: Route<'_>) -> Owned
+    ensures { IfOk result (λ command. command ≡ Relay (end_in from.entry) session (end_in to.entry)) }
+{
+    let from = own_end(alloc, from)?;
+    let to = own_end(alloc, to)?;
+    Ok(Command::Relay { from, session, to })
+}
+
+fn own_merge(alloc: Global, first: &str, second: &str, out: &str) -> Owned
     ensures { IfOk result (λ command. command ≡ Merge first.now second.now out.now) }
 {
     let first = Name::new(alloc, first)?;
@@ -282,7 +287,7 @@ fn own_merge(alloc: Global, first: &str, second: &str, out: &str) -> Result<Comm
     Ok(Command::Merge { first, second, out })
 }
 
-fn own_video(alloc: Global, store: &str, out: &str) -> Result<Command, AllocError>
+fn own_video(alloc: Global, store: &str, out: &str) -> Owned
     ensures { IfOk result (λ command. command ≡ Video store.now out.now) }
 {
     let store = Name::new(alloc, store)?;
@@ -290,7 +295,7 @@ fn own_video(alloc: Global, store: &str, out: &str) -> Result<Command, AllocErro
     Ok(Command::Video { store, out })
 }
 
-fn own_unwrap(alloc: Global, file: &str, id: u8, out: &str) -> Result<Command, AllocError>
+fn own_unwrap(alloc: Global, file: &str, id: u8, out: &str) -> Owned
     ensures { IfOk result (λ command. command ≡ Unwrap file.now id out.now) }
 {
     let file = Name::new(alloc, file)?;
@@ -298,7 +303,7 @@ fn own_unwrap(alloc: Global, file: &str, id: u8, out: &str) -> Result<Command, A
     Ok(Command::Unwrap { file, id, out })
 }
 
-fn own_wrap(alloc: Global, file: &str, out: &str) -> Result<Command, AllocError>
+fn own_wrap(alloc: Global, file: &str, out: &str) -> Owned
     ensures { IfOk result (λ command. command ≡ Wrap file.now out.now) }
 {
     let file = Name::new(alloc, file)?;
@@ -306,7 +311,7 @@ fn own_wrap(alloc: Global, file: &str, out: &str) -> Result<Command, AllocError>
     Ok(Command::Wrap { file, out })
 }
 
-fn own_migrate(alloc: Global, store: &str, out: &str) -> Result<Command, AllocError>
+fn own_migrate(alloc: Global, store: &str, out: &str) -> Owned
     ensures { IfOk result (λ command. command ≡ Migrate store.now out.now) }
 {
     let store = Name::new(alloc, store)?;
@@ -314,12 +319,7 @@ fn own_migrate(alloc: Global, store: &str, out: &str) -> Result<Command, AllocEr
     Ok(Command::Migrate { store, out })
 }
 
-fn own_replay(
-    alloc: Global,
-    stream: &str,
-    priority: &str,
-    script: &str,
-) -> Result<Command, AllocError>
+fn own_replay(alloc: Global, stream: &str, priority: &str, script: &str) -> Owned
     ensures { IfOk result (λ command. command ≡ Replay stream.now priority.now script.now) }
 {
     let stream = Name::new(alloc, stream)?;
@@ -332,7 +332,7 @@ fn own_replay(
     })
 }
 
-fn own_repair(alloc: Global, store: &str, to: Route<'_>) -> Result<Command, AllocError>
+fn own_repair(alloc: Global, store: &str, to: Route<'_>) -> Owned
     ensures { IfOk result (λ command. command ≡ Repair store.now (end_in to.entry)) }
 {
     let store = Name::new(alloc, store)?;

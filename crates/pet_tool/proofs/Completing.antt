@@ -58,11 +58,12 @@ use Rattle.pet_repair.specs.Repaired.{complete_packets}
 use Rattle.pet_repair.specs.Repairs.{Repairs, uses as repair_uses}
 use Rattle.pet_repair.specs.SentTo.{SentTo}
 use Rattle.pet_repair.specs.laws.SessionRepaired.{completes_repair}
+use Rattle.pet_repair.specs.laws.StreamZeros.{stream_zeros}
 use Rattle.text_status.specs.declared.status.Status.{Status}
 use Rattle.text_status.specs.declared.status.Status.TheVariants.{Done, Incomplete, OutFault, TurnsSpent}
 use Rattle.pet_text.specs.declared.words.Command.{Command}
 use Rattle.pet_text.specs.declared.words.Command.TheVariants.{Plan, Check, Send, Receive, Merge, Video, Unwrap, Wrap}
-use Rattle.pet_text.specs.declared.words.Command.TheVariants.{Migrate, Replay, Sample, Repair, Breceive}
+use Rattle.pet_text.specs.declared.words.Command.TheVariants.{Migrate, Replay, Sample, Repair, Breceive, Relay}
 use Rattle.outside_routes.specs.RouteFaults.{AimedFailed, BoundFailed}
 use Rattle.outside_routes.specs.Sending.{Routes, Sent}
 use Rattle.outside_routes.specs.Way.{Way, OnFile, OnLink}
@@ -70,7 +71,7 @@ use Rattle.pet_text.specs.Ends.{way_in}
 use Rattle.text_status.specs.Statuses.{fault_text}
 use Rattle.pet_text.specs.Lines.{video_text}
 use Rattle.pet_tool.specs.Completes.{Completes, CompletesPlan, CompletesCheck, CompletesSend, CompletesMerge}
-use Rattle.pet_tool.specs.Completes.{CompletesMigrate, CompletesReplay, CompletesSample, CompletesRepair}
+use Rattle.pet_tool.specs.Completes.{CompletesMigrate, CompletesReplay, CompletesSample, RepairsPackets}
 use Rattle.pet_tool.specs.declared.end.End.{End}
 use Rattle.pet_tool.specs.declared.end.End.TheVariants as end
 use Rattle.pet_tool.specs.Does.{Does, Runs, OnFiles, OnRead, OnCountedRead, OnMemory, OnRoutes}
@@ -79,6 +80,7 @@ use Rattle.pet_tool.specs.Lines.{line_of_receive, line_of_migrate, line_of_repla
 use Rattle.pet_tool.specs.Lines.{totals_text}
 use Rattle.pet_tool.proofs.BytesCompleted.{breceive_completes}
 use Rattle.pet_tool.proofs.LinesTold.{ends_with, lines_told}
+use Rattle.pet_tool.proofs.RelayCompleted.{relay_completes}
 use Rattle.pet_tool.proofs.SystemCompleted.{unwrap_completes, wrap_completes}
 use Rattle.pet_tool.proofs.Telling.{ended_as, told, Told}
 use Rattle.pet_tool.specs.Headline.{Headline, HasWhatWasSent, NamesWhatItStores, ReceivesWhatWasSent}
@@ -375,7 +377,7 @@ same_routes between after place link = λ i. record { place = place i; link = li
 
 repair_completes : (store : List ℕ) (to : Way) (before after : OutsideSeen) (status : Status)
     → Runs end.Repair (OnRoutes (Repairs store to)) before after status
-    → CompletesRepair store to before after status
+    → RepairsPackets store to before after status
 repair_completes store to before after status runs = λ s files pairs calm given.
     let said = told (line_of_repair runs.end) (status_of_repair runs.end) runs.between after status runs.tells
     (λ rose. calm.calm.well.out (subst (λ (n : ℕ). Rose n after.out_faults) runs.did.out_faults rose)) in
@@ -458,6 +460,25 @@ completes (Some (Replay stream priority script)) before after status runs =
 completes (Some (Sample seed groups)) before after status runs =
     sample_completes seed groups before after status runs
 completes (Some (Repair store to)) before after status runs =
-    repair_completes store (way_in to) before after status runs
+    let repairs = repair_completes store (way_in to) before after status runs in
+    record {
+      packets = repairs;
+      of_stream = λ p b files pairs calm has. repairs (session_of p b) files pairs calm (record {
+        session = is_session p b has.bytes has.session;
+        fits = session_fits p b has.session;
+        zeros = stream_zeros p b;
+        told = has.told;
+        found = has.store_is;
+      });
+    }
 completes (Some (Breceive from session layers)) before after status runs =
     breceive_completes (way_in from) session layers before after status runs
+completes (Some (Relay from session to)) before after status runs =
+    let relays = relay_completes (way_in from) session (way_in to) before after status runs in
+    record {
+      packets = relays;
+      of_send = λ p b files ds is calm sent. relays (session_of p b) files ds is calm (record {
+        packets = sent_given p b (way_in from) files ds before sent;
+        zeros = stream_zeros p b;
+      });
+    }

@@ -36,9 +36,11 @@ use Rattle.command_send.specs.declared.command.SendEnd.TheVariants as send
 use Rattle.command_receive.specs.Failures.{end_of_place as receive_place, end_of_link as receive_link}
 use Rattle.command_receive.specs.declared.command.ReceiveEnd.{ReceiveEnd}
 use Rattle.command_receive.specs.declared.command.ReceiveEnd.TheVariants as receive
-use Rattle.pet_repair.specs.Failures.{repair_of_place, repair_of_link}
+use Rattle.pet_repair.specs.Failures.{repair_of_place, repair_of_link, relay_end_of_place, relay_end_of_link}
 use Rattle.pet_repair.specs.declared.repair.RepairEnd.{RepairEnd}
 use Rattle.pet_repair.specs.declared.repair.RepairEnd.TheVariants as repair
+use Rattle.pet_repair.specs.declared.relay.RelayEnd.{RelayEnd}
+use Rattle.pet_repair.specs.declared.relay.RelayEnd.TheVariants as relay
 use Rattle.pet_byte.specs.Failures.{byte_of_place, byte_of_link}
 use Rattle.pet_byte.specs.declared.breceive.ByteEnd.{ByteEnd}
 use Rattle.pet_byte.specs.declared.breceive.ByteEnd.TheVariants as byte
@@ -48,12 +50,12 @@ use Rattle.pet_tool.specs.declared.end.End.{End}
 use Rattle.pet_tool.specs.Does.{Runs}
 use Rattle.pet_tool.specs.Lines.{line_of, line_of_plan, line_of_check, line_of_send, line_of_merge, line_of_video}
 use Rattle.pet_tool.specs.Lines.{line_of_unwrap, line_of_wrap, line_of_migrate, line_of_replay, line_of_sample}
-use Rattle.pet_tool.specs.Lines.{line_of_breceive, line_of_receive, line_of_repair, totals_text}
+use Rattle.pet_tool.specs.Lines.{line_of_breceive, line_of_receive, line_of_relay, line_of_repair, totals_text}
 use Rattle.pet_tool.specs.Statuses.{of_place, of_link, status_of, status_of_session, status_of_plan, status_of_check}
 use Rattle.pet_tool.specs.Statuses.{status_of_send, status_of_receive, status_of_merge, status_of_video}
 use Rattle.pet_tool.specs.Statuses.{status_of_unwrap, status_of_wrap, status_of_migrate, status_of_replay, status_of_sample}
 use Rattle.pet_tool.specs.Statuses.{status_of_repair}
-use Rattle.pet_tool.specs.Statuses.{status_of_breceive}
+use Rattle.pet_tool.specs.Statuses.{status_of_breceive, status_of_relay}
 use Rattle.pet_tool.specs.Told.{Tells}
 use Rattle.pet_tool.proofs.Telling.{strikes}
 
@@ -196,6 +198,17 @@ breceive_agrees (byte.Incomplete read kept shown) =
     lined_as (line_of_breceive (byte.Incomplete read kept shown)) refl refl
 breceive_agrees (byte.TurnsSpent read kept shown) =
     lined_as (line_of_breceive (byte.TurnsSpent read kept shown)) refl refl
+
+pub relay_agrees : (end : RelayEnd)
+    → Agrees (relay_end_of_place end) (relay_end_of_link end) (line_of_relay end) (status_of_relay end)
+relay_agrees (relay.Done read sent) = lined_as (line_of_relay (relay.Done read sent)) refl refl
+relay_agrees relay.NoMemory = unlined refl refl
+relay_agrees relay.PlaceFault = unlined refl refl
+relay_agrees relay.LinkFault = unlined refl refl
+relay_agrees relay.OutFault = unlined refl refl
+relay_agrees (relay.Incomplete read sent) = lined_as (line_of_relay (relay.Incomplete read sent)) refl refl
+relay_agrees (relay.TurnsSpent read sent) = lined_as (line_of_relay (relay.TurnsSpent read sent)) refl refl
+relay_agrees (relay.Unlike group number) = unlined refl refl
 
 -- a command did this, the first failure ended it, and then the run told of its end
 pub runs_with : {E : Type 0} (of : E → End) (Did : OutsideSeen → OutsideSeen → E → Type 0) (p k : Bool)

@@ -3,6 +3,7 @@ pub mod Ends
 pub mod SystemCompleted
 pub mod LinesTold
 pub mod BytesCompleted
+pub mod RelayCompleted
 pub mod Completing
 pub mod NoMemory
 pub mod WordsRead

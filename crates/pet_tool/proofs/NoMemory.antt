@@ -14,12 +14,14 @@ use Rattle.command_migrate.specs.declared.command.MigrateEnd.TheVariants as migr
 use Rattle.command_replay.specs.declared.command.ReplayEnd.TheVariants as replay
 use Rattle.command_sample.specs.declared.command.SampleEnd.TheVariants as sample
 use Rattle.pet_repair.specs.declared.repair.RepairEnd.TheVariants as repair
+use Rattle.pet_repair.specs.declared.relay.RelayEnd.TheVariants as relay
+use Rattle.pet_repair.specs.laws.SessionRelayed.{nothing_relayed}
 use Rattle.pet_byte.specs.declared.breceive.ByteEnd.TheVariants as byte
 use Rattle.pet_byte.specs.laws.BytesLaws.{no_bytes_received}
 use Rattle.text_status.specs.declared.status.Status.TheVariants.{NoMemory}
 use Rattle.pet_text.specs.declared.words.Command.{Command}
 use Rattle.pet_text.specs.declared.words.Command.TheVariants.{Plan, Check, Send, Receive, Merge, Video, Unwrap, Wrap}
-use Rattle.pet_text.specs.declared.words.Command.TheVariants.{Migrate, Replay, Sample, Repair, Breceive}
+use Rattle.pet_text.specs.declared.words.Command.TheVariants.{Migrate, Replay, Sample, Repair, Breceive, Relay}
 use Rattle.command_receive.specs.laws.SessionReceived.{nothing_received}
 use Rattle.pet_text.specs.Ends.{way_in}
 use Rattle.pet_text.specs.declared.end.End.TheVariants.{File, Udp}
@@ -168,6 +170,13 @@ module _ (before after : OutsideSeen) (status : Status) (tells : Tells [] NoMemo
     between = before;
     end = byte.NoMemory;
     did = no_bytes_received (way_in from) session layers before;
+    tells = tells;
+    once = no_failure;
+  }
+  no_memory (Relay from session to) = record {
+    between = before;
+    end = relay.NoMemory;
+    did = nothing_relayed (way_in from) session (way_in to) before;
     tells = tells;
     once = no_failure;
   }

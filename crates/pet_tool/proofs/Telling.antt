@@ -139,6 +139,7 @@ usage_told e status before after line known = (
     to (end.Sample x) known is = absurd (known (λ same. cc) is)
     to (end.Repair x) known is = absurd (known (λ same. cc) is)
     to (end.Breceive x) known is = absurd (known (λ same. cc) is)
+    to (end.Relay x) known is = absurd (known (λ same. cc) is)
 
     from : PrintedWhole [] Usage before after status ⊎ PrintedShort [] before after status → status ≡ Usage
     from (inl whole) = whole.ended

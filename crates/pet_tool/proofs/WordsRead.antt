@@ -2,14 +2,19 @@
 use Rattle.std.proofs.Common.{◌≡◌, ◌<◌, ◌≤◌, ℕ, List, Some, sym, ap, subst, ◌∙◌}
 use Rattle.outside_routes.specs.Way.{Way}
 use Rattle.pet_base.specs.declared.limits.TheConstants.{MAX_SAMPLE_GROUPS}
+use Rattle.pet_base.specs.OutsideSeen.{OutsideSeen}
 use Rattle.pet_base.specs.Seen.{Seen}
 use Rattle.command_plan.specs.Checks.{Checks}
 use Rattle.command_plan.specs.declared.checking.CheckEnd.{CheckEnd}
+use Rattle.command_receive.specs.Receives.{Receives}
+use Rattle.command_receive.specs.declared.command.ReceiveEnd.{ReceiveEnd}
 use Rattle.command_replay.specs.Replays.{Replays}
 use Rattle.command_replay.specs.declared.command.ReplayEnd.{ReplayEnd}
 use Rattle.command_send.specs.Sends.{IsOther}
 use Rattle.mpeg_system.specs.Unwraps.{Unwraps}
 use Rattle.mpeg_system.specs.declared.unwrap_files.UnwrapEnd.{UnwrapEnd}
+use Rattle.pet_repair.specs.Relays.{DoesRelay}
+use Rattle.pet_repair.specs.declared.relay.RelayEnd.{RelayEnd}
 use Rattle.pet_text.specs.declared.words.Command.{Command}
 use Rattle.pet_text.specs.declared.words.Command.TheVariants.{Sample, Send, Unwrap}
 use Rattle.pet_text.specs.declared.end.End.{End}
@@ -66,3 +71,17 @@ pub unwraps_named : (f o file out : List ℕ) (id : ℕ) (old new : Seen) (end :
 unwraps_named f o file out id old new end f_is o_is did =
     subst (λ (x : List ℕ). Unwraps file id x old new end) o_is
     (subst (λ (x : List ℕ). Unwraps x id o old new end) f_is did)
+
+-- what `receive` does of texts that are these names
+pub receives_named : (from : Way) (session l t layers store : List ℕ) (old new : OutsideSeen) (end : ReceiveEnd)
+    → l ≡ layers → t ≡ store → Receives from session l t old new end → Receives from session layers store old new end
+receives_named from session l t layers store old new end l_is t_is did =
+    subst (λ (x : List ℕ). Receives from session layers x old new end) t_is
+    (subst (λ (x : List ℕ). Receives from session x t old new end) l_is did)
+
+-- what `relay` does between files and addresses that are these
+pub relays_between : (f t from to : Way) (session : List ℕ) (old new : OutsideSeen) (end : RelayEnd) → f ≡ from → t ≡ to
+    → DoesRelay f session t old new end → DoesRelay from session to old new end
+relays_between f t from to session old new end f_is t_is did =
+    subst (λ (way : Way). DoesRelay from session way old new end) t_is
+    (subst (λ (way : Way). DoesRelay way session t old new end) f_is did)

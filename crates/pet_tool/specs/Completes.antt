@@ -39,10 +39,11 @@ use Rattle.text_status.specs.declared.status.Status.{Status}
 use Rattle.text_status.specs.declared.status.Status.TheVariants.{Done, BadSystem}
 use Rattle.pet_text.specs.declared.words.Command.{Command}
 use Rattle.pet_text.specs.declared.words.Command.TheVariants.{Plan, Check, Send, Receive, Merge, Video, Unwrap, Wrap}
-use Rattle.pet_text.specs.declared.words.Command.TheVariants.{Migrate, Replay, Sample, Repair, Breceive}
+use Rattle.pet_text.specs.declared.words.Command.TheVariants.{Migrate, Replay, Sample, Repair, Breceive, Relay}
 use Rattle.pet_text.specs.Ends.{way_in}
 use Rattle.pet_tool.specs.ByteHeadline.{ByteHeadline}
 use Rattle.pet_tool.specs.Headline.{MeetsHeadline}
+use Rattle.pet_tool.specs.RelayHeadline.{CompletesRelay}
 use Rattle.pet_tool.specs.Undisturbed.{IsUndisturbed, IsUndisturbedOn, EndsWith}
 
 -- two files that are told and an accepted session are planned
@@ -141,16 +142,31 @@ CompletesReplay stream priority script before after status =
     → script_in p b t ≡ Ok events
     → EndsWith Done (replay_text (session_of p b) events) before after status
 
--- of the store of packets of a session, whose messages have the byte 0 past each odd end, all packets of the complete
--- groups are sent
-abbrev pub CompletesRepair : List ℕ → Way → OutsideSeen → OutsideSeen → Status → Type 0
-CompletesRepair store to before after status =
-    (s : Session) (files : Files) (pairs : List Pair)
-    → IsUndisturbedOn (AimedFailed to) (repair_uses store to) before after status
-    → HasSessionStore s pairs files store before.place
-    → SentTo to (map text (complete_packets gf16_coding s pairs)) (routes_in before) (routes_in after)
+-- all packets of the groups of a session are sent that these pairs make complete, and their numbers are told
+abbrev pub SendsComplete : Session → List Pair → Way → OutsideSeen → OutsideSeen → Status → Type 0
+SendsComplete s pairs to before after status =
+    SentTo to (map text (complete_packets gf16_coding s pairs)) (routes_in before) (routes_in after)
     × EndsWith Done (repaired_text (complete_groups s pairs) (length (complete_packets gf16_coding s pairs)))
     before after status
+
+-- so it is of the store of packets of a session, whose messages have the byte 0 past each odd end
+abbrev pub RepairsPackets : List ℕ → Way → OutsideSeen → OutsideSeen → Status → Type 0
+RepairsPackets store to before after status =
+    (s : Session) (files : Files) (pairs : List Pair)
+    → IsUndisturbedOn (AimedFailed to) (repair_uses store to) before after status
+    → HasSessionStore s pairs files store before.place → SendsComplete s pairs to before after status
+
+-- and of the store of packets of a session of a stream
+abbrev pub RepairsStream : List ℕ → Way → OutsideSeen → OutsideSeen → Status → Type 0
+RepairsStream store to before after status =
+    (p b : List ℕ) (files : Files) (pairs : List Pair)
+    → IsUndisturbedOn (AimedFailed to) (repair_uses store to) before after status
+    → HasStoreOf p b store files pairs before.place → SendsComplete (session_of p b) pairs to before after status
+
+-- both
+pub record CompletesRepair (store : List ℕ) (to : Way) (before after : OutsideSeen) (status : Status) : Type 0 where
+  pub packets : RepairsPackets store to before after status
+  pub of_stream : RepairsStream store to before after status
 
 -- a sample is made and received, whatever its seed
 abbrev pub CompletesSample : ℕ → ℕ → OutsideSeen → OutsideSeen → Status → Type 0
@@ -179,3 +195,5 @@ Completes (Some (Sample seed groups)) before after status = CompletesSample seed
 Completes (Some (Repair store to)) before after status = CompletesRepair store (way_in to) before after status
 Completes (Some (Breceive from session layers)) before after status =
     ByteHeadline (way_in from) session layers before after status
+Completes (Some (Relay from session to)) before after status =
+    CompletesRelay (way_in from) session (way_in to) before after status

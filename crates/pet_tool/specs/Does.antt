@@ -17,13 +17,14 @@ use Rattle.command_video.specs.Videos.{Videos}
 use Rattle.mpeg_system.specs.Unwraps.{Unwraps}
 use Rattle.mpeg_system.specs.Wraps.{Wraps}
 use Rattle.outside_routes.specs.Sending.{Routes}
+use Rattle.pet_repair.specs.Relays.{DoesRelay}
 use Rattle.pet_repair.specs.Repairs.{Repairs}
 use Rattle.pet_byte.specs.ReceivesBytes.{ReceivesBytes}
 use Rattle.text_status.specs.declared.status.Status.{Status}
 use Rattle.text_status.specs.declared.status.Status.TheVariants.{Usage}
 use Rattle.pet_text.specs.declared.words.Command.{Command}
 use Rattle.pet_text.specs.declared.words.Command.TheVariants.{Plan, Check, Send, Receive, Merge, Video, Unwrap, Wrap}
-use Rattle.pet_text.specs.declared.words.Command.TheVariants.{Migrate, Replay, Sample, Repair, Breceive}
+use Rattle.pet_text.specs.declared.words.Command.TheVariants.{Migrate, Replay, Sample, Repair, Breceive, Relay}
 use Rattle.pet_text.specs.Ends.{way_in}
 use Rattle.text_status.specs.Statuses.{fault_text}
 use Rattle.pet_tool.specs.declared.end.End.{End}
@@ -112,3 +113,5 @@ Does (Some (Repair store to)) before after status =
     Runs end.Repair (OnRoutes (Repairs store (way_in to))) before after status
 Does (Some (Breceive from session layers)) before after status =
     Runs end.Breceive (ReceivesBytes (way_in from) session layers) before after status
+Does (Some (Relay from session to)) before after status =
+    Runs end.Relay (DoesRelay (way_in from) session (way_in to)) before after status

@@ -5,5 +5,6 @@ pub mod Does
 pub mod Undisturbed
 pub mod Headline
 pub mod ByteHeadline
+pub mod RelayHeadline
 pub mod Completes
 pub mod Starts

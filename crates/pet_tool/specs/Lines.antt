@@ -12,6 +12,8 @@ use Rattle.command_receive.specs.declared.command.ReceiveEnd.TheVariants as rece
 use Rattle.packet_reading.specs.declared.reading.Totals.{Totals}
 use Rattle.pet_byte.specs.declared.breceive.ByteEnd.{ByteEnd}
 use Rattle.pet_byte.specs.declared.breceive.ByteEnd.TheVariants as byte
+use Rattle.pet_repair.specs.declared.relay.RelayEnd.{RelayEnd}
+use Rattle.pet_repair.specs.declared.relay.RelayEnd.TheVariants as relay
 use Rattle.command_merge.specs.declared.command.MergeEnd.{MergeEnd}
 use Rattle.command_merge.specs.declared.command.MergeEnd.TheVariants as merge
 use Rattle.command_video.specs.declared.command.VideoEnd.{VideoEnd}
@@ -29,10 +31,10 @@ use Rattle.command_sample.specs.declared.command.SampleEnd.TheVariants as sample
 use Rattle.pet_repair.specs.declared.repair.RepairEnd.{RepairEnd}
 use Rattle.pet_repair.specs.declared.repair.RepairEnd.TheVariants as repair
 use Rattle.pet_text.specs.Lines.{receive_text, merged_text, video_text, unwrapped_text, wrapped_text, migrated_text}
-use Rattle.pet_text.specs.Lines.{repaired_text}
+use Rattle.pet_text.specs.Lines.{repaired_text, relay_text}
 use Rattle.pet_tool.specs.declared.end.End.{End}
 use Rattle.pet_tool.specs.declared.end.End.TheVariants.{Usage, NoMemory, Plan, Check, Send, Receive, Merge, Video}
-use Rattle.pet_tool.specs.declared.end.End.TheVariants.{Unwrap, Wrap, Migrate, Replay, Sample, Repair, Breceive}
+use Rattle.pet_tool.specs.declared.end.End.TheVariants.{Unwrap, Wrap, Migrate, Replay, Sample, Repair, Breceive, Relay}
 
 abbrev pub line_of_plan : PlanEnd → List ℕ
 line_of_plan (plan.Done text) = text.items
@@ -145,7 +147,17 @@ line_of_breceive byte.OutFault = []
 line_of_breceive (byte.Incomplete read kept shown) = receive_text read kept shown
 line_of_breceive (byte.TurnsSpent read kept shown) = receive_text read kept shown
 
--- the line of the port, which `receive` and `breceive` print themselves, is no line of their end
+abbrev pub line_of_relay : RelayEnd → List ℕ
+line_of_relay (relay.Done read sent) = relay_text read sent
+line_of_relay relay.NoMemory = []
+line_of_relay relay.PlaceFault = []
+line_of_relay relay.LinkFault = []
+line_of_relay relay.OutFault = []
+line_of_relay (relay.Incomplete read sent) = relay_text read sent
+line_of_relay (relay.TurnsSpent read sent) = relay_text read sent
+line_of_relay (relay.Unlike group number) = []
+
+-- the line of the port, which `receive`, `breceive` and `relay` print themselves, is no line of their end
 abbrev pub line_of : End → List ℕ
 line_of Usage = []
 line_of NoMemory = []
@@ -162,3 +174,4 @@ line_of (Replay end) = line_of_replay end
 line_of (Sample end) = line_of_sample end
 line_of (Repair end) = line_of_repair end
 line_of (Breceive end) = line_of_breceive end
+line_of (Relay end) = line_of_relay end

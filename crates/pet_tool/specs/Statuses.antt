@@ -29,6 +29,8 @@ use Rattle.pet_repair.specs.declared.repair.RepairEnd.{RepairEnd}
 use Rattle.pet_repair.specs.declared.repair.RepairEnd.TheVariants as repair
 use Rattle.pet_byte.specs.declared.breceive.ByteEnd.{ByteEnd}
 use Rattle.pet_byte.specs.declared.breceive.ByteEnd.TheVariants as byte
+use Rattle.pet_repair.specs.declared.relay.RelayEnd.{RelayEnd}
+use Rattle.pet_repair.specs.declared.relay.RelayEnd.TheVariants as relay
 use Rattle.pet_tool.specs.declared.end.End.{End}
 use Rattle.pet_tool.specs.declared.end.End.TheVariants as end
 use Rattle.text_status.specs.declared.status.PlanKind.TheVariants as kind
@@ -159,6 +161,16 @@ status_of_breceive byte.OutFault = OutFault
 status_of_breceive (byte.Incomplete read kept shown) = Incomplete
 status_of_breceive (byte.TurnsSpent read kept shown) = TurnsSpent
 
+abbrev pub status_of_relay : RelayEnd → Status
+status_of_relay (relay.Done read sent) = Done
+status_of_relay relay.NoMemory = NoMemory
+status_of_relay relay.PlaceFault = PlaceFault
+status_of_relay relay.LinkFault = LinkFault
+status_of_relay relay.OutFault = OutFault
+status_of_relay (relay.Incomplete read sent) = Incomplete
+status_of_relay (relay.TurnsSpent read sent) = TurnsSpent
+status_of_relay (relay.Unlike group number) = Unlike group number
+
 abbrev pub status_of : End → Status
 status_of end.Usage = Usage
 status_of end.NoMemory = NoMemory
@@ -175,6 +187,7 @@ status_of (end.Replay e) = status_of_replay e
 status_of (end.Sample e) = status_of_sample e
 status_of (end.Repair e) = status_of_repair e
 status_of (end.Breceive e) = status_of_breceive e
+status_of (end.Relay e) = status_of_relay e
 
 -- which statuses tell of a failure of the place, and which of one of the link
 abbrev pub of_place : Status → Bool

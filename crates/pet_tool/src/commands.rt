@@ -16,6 +16,7 @@ ghost use Rattle.command_video.specs.Videos.{Videos};
 ghost use Rattle.mpeg_system.specs.Unwraps.{Unwraps};
 ghost use Rattle.mpeg_system.specs.Wraps.{Wraps};
 ghost use Rattle.outside_routes.specs.Way.{way_of};
+ghost use Rattle.pet_repair.specs.Relays.{DoesRelay};
 ghost use Rattle.pet_repair.specs.Repairs.{Repairs};
 ghost use Rattle.pet_repair.specs.SentTo.{way_at};
 ghost use Rattle.pet_byte.specs.ReceivesBytes.{ReceivesBytes};
@@ -39,7 +40,7 @@ use mpeg_system::{unwrap_loop, wrap_loop};
 use outside_routes::Route;
 use pet_base::{Link, Outside, Place, Sink};
 use pet_byte::breceive_loop;
-use pet_repair::repair_loop;
+use pet_repair::{relay_loop, repair_loop};
 use pet_text::{Command, Name};
 use std::alloc::Global;
 use std::sync::ledger::Ledger;
@@ -78,10 +79,7 @@ pub(crate) fn run_command<P: Place, K: Link, S: Sink, L: Ledger>(
             session,
             layers,
             store,
-        } => {
-            let (layers, store) = (layers.as_str(), store.as_str());
-            run_receive(alloc, from.route(), *session, layers, store, outside)
-        }
+        } => run_receive(alloc, from.route(), *session, layers, store, outside),
         Command::Merge { first, second, out } => {
             let out = out.as_str();
             run_merge(alloc, first.as_str(), second.as_str(), out, outside)
@@ -104,6 +102,9 @@ pub(crate) fn run_command<P: Place, K: Link, S: Sink, L: Ledger>(
             session,
             layers,
         } => run_breceive(alloc, from.route(), *session, layers.as_str(), outside),
+        Command::Relay { from, session, to } => {
+            run_relay(alloc, from.route(), *session, to.route(), outside)
+        }
     }
 }
 
@@ -162,8 +163,8 @@ fn run_receive<P: Place, K: Link, S: Sink, L: Ledger>(
     alloc: Global,
     from: Route<'_>,
     session: [u8; 8],
-    layers: &str,
-    store: &str,
+    layers: &Name,
+    store: &Name,
     outside: &mut Outside<P, K, S, L>,
 ) -> End
     ensures does { (told : OutsideSeen) (status : Status) → Tells (line_of result) (status_of result) (seen outside.new) told status
@@ -171,6 +172,7 @@ fn run_receive<P: Place, K: Link, S: Sink, L: Ledger>(
     ensures known { result ≢ End.Usage }
     ensures same { AreSame outside.old outside.new }
 {
+    let (layers, store) = (layers.as_str(), store.as_str());
     End::Receive(receive(alloc, from, session, layers, store, outside))
 }
 
@@ -349,6 +351,35 @@ fn run_breceive<P: Place, K: Link, S: Sink, L: Ledger>(
         udp,
         session,
         layers,
+        outside.place,
+        outside.link,
+        outside.out,
+        outside.steps,
+    ))
+}
+
+/// Runs `relay`.
+fn run_relay<P: Place, K: Link, S: Sink, L: Ledger>(
+    alloc: Global,
+    from: Route<'_>,
+    session: [u8; 8],
+    to: Route<'_>,
+    outside: &mut Outside<P, K, S, L>,
+) -> End
+    ensures does { (told : OutsideSeen) (status : Status) → Tells (line_of result) (status_of result) (seen outside.new) told status
+        → Runs End.Relay (DoesRelay (way_of from.entry) session (way_of to.entry)) (seen outside.old) told status }
+    ensures known { result ≢ End.Usage }
+    ensures same { AreSame outside.old outside.new }
+{
+    let (source, from_udp) = name_of(from);
+    let (target, to_udp) = name_of(to);
+    End::Relay(relay_loop(
+        alloc,
+        source,
+        from_udp,
+        session,
+        target,
+        to_udp,
         outside.place,
         outside.link,
         outside.out,

@@ -5,8 +5,8 @@ ghost use Rattle.pet_tool.specs.Statuses.{status_of};
 
 use crate::statuses::{
     breceive_status, check_status, merge_status, migrate_status, plan_status, receive_status,
-    repair_status, replay_status, sample_status, send_status, unwrap_status, video_status,
-    wrap_status,
+    relay_status, repair_status, replay_status, sample_status, send_status, unwrap_status,
+    video_status, wrap_status,
 };
 use arrayvec::ArrayVec;
 use command_merge::MergeEnd;
@@ -19,10 +19,10 @@ use command_send::SendEnd;
 use command_video::VideoEnd;
 use mpeg_system::{UnwrapEnd, WrapEnd};
 use pet_byte::ByteEnd;
-use pet_repair::RepairEnd;
+use pet_repair::{RelayEnd, RepairEnd};
 use pet_text::{
-    Status, least_line, merged_line, migrated_line, receive_line, repaired_line, send_line,
-    unwrapped_line, video_line, wrapped_line,
+    Status, least_line, merged_line, migrated_line, receive_line, relay_line, repaired_line,
+    send_line, unwrapped_line, video_line, wrapped_line,
 };
 
 /// How a run ended, before its line and that of its status are printed.
@@ -58,6 +58,8 @@ pub enum End {
     Repair(RepairEnd),
     /// A run of `breceive`.
     Breceive(ByteEnd),
+    /// A run of `relay`.
+    Relay(RelayEnd),
 }
 
 /// The status of each end.
@@ -81,6 +83,7 @@ pub(crate) fn end_status(end: &End) -> Status
         End::Sample(end) => sample_status(end),
         End::Repair(end) => repair_status(end),
         End::Breceive(end) => breceive_status(end),
+        End::Relay(end) => relay_status(end),
     }
 }
 
@@ -107,6 +110,11 @@ pub(crate) fn end_line<'a>(end: &'a End, room: &'a mut ArrayVec<u8, 64>) -> &'a 
             | ByteEnd::Incomplete { read, kept, shown }
             | ByteEnd::TurnsSpent { read, kept, shown },
         ) => receive_line(*read, *kept, *shown, room),
+        End::Relay(
+            RelayEnd::Done { read, sent }
+            | RelayEnd::Incomplete { read, sent }
+            | RelayEnd::TurnsSpent { read, sent },
+        ) => relay_line(*read, *sent, room),
         End::Merge(MergeEnd::Done(packets)) => merged_line(*packets, room),
         End::Video(VideoEnd::Done(bytes)) => video_line(*bytes, room),
         End::Unwrap(UnwrapEnd::Done(bytes)) => unwrapped_line(*bytes, room),
@@ -129,7 +137,8 @@ pub(crate) fn end_line<'a>(end: &'a End, room: &'a mut ArrayVec<u8, 64>) -> &'a 
         | End::Replay(_)
         | End::Sample(_)
         | End::Repair(_)
-        | End::Breceive(_) => {}
+        | End::Breceive(_)
+        | End::Relay(_) => {}
     }
     room.as_slice()
 }

@@ -1,6 +1,6 @@
 //! The status of each end of each command.
 ghost use Rattle.std.specs.Prelude.{◌≡◌, ◌≢◌};
-ghost use Rattle.pet_tool.specs.Statuses.{status_of_plan, status_of_check, status_of_send, status_of_receive, status_of_merge, status_of_video, status_of_unwrap, status_of_wrap, status_of_migrate, status_of_replay, status_of_sample, status_of_repair, status_of_breceive, status_of_session};
+ghost use Rattle.pet_tool.specs.Statuses.{status_of_plan, status_of_check, status_of_send, status_of_receive, status_of_merge, status_of_video, status_of_unwrap, status_of_wrap, status_of_migrate, status_of_replay, status_of_sample, status_of_repair, status_of_breceive, status_of_relay, status_of_session};
 
 use command_merge::MergeEnd;
 use command_migrate::MigrateEnd;
@@ -13,7 +13,7 @@ use command_video::VideoEnd;
 use mpeg_system::{UnwrapEnd, WrapEnd};
 use pet_base::MAX_GROUPS;
 use pet_byte::ByteEnd;
-use pet_repair::RepairEnd;
+use pet_repair::{RelayEnd, RepairEnd};
 use pet_text::{PlanKind, Status};
 use stream_session::SessionFault;
 
@@ -212,6 +212,23 @@ pub(crate) fn breceive_status(end: &ByteEnd) -> Status
         ByteEnd::OutFault => Status::OutFault,
         ByteEnd::Incomplete { .. } => Status::Incomplete,
         ByteEnd::TurnsSpent { .. } => Status::TurnsSpent,
+    }
+}
+
+/// The status of each end of `relay`.
+pub(crate) fn relay_status(end: &RelayEnd) -> Status
+    ensures status { result ≡ status_of_relay end.now }
+    ensures known { result ≢ Status.Usage }
+{
+    match end {
+        RelayEnd::Done { .. } => Status::Done,
+        RelayEnd::NoMemory => Status::NoMemory,
+        RelayEnd::PlaceFault => Status::PlaceFault,
+        RelayEnd::LinkFault => Status::LinkFault,
+        RelayEnd::OutFault => Status::OutFault,
+        RelayEnd::Incomplete { .. } => Status::Incomplete,
+        RelayEnd::TurnsSpent { .. } => Status::TurnsSpent,
+        RelayEnd::Unlike(group, number) => Status::Unlike(*group, *number),
     }
 }
 

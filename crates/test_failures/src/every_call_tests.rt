@@ -23,9 +23,11 @@ const SENT: &str = "session a5ac9461b03bcf36 groups 1 datagrams 6\n";
 
 const REPAIRED: &str = "repaired 1 datagrams 6\n";
 
+const RELAYED: &str = "read 6 sent 6\n";
+
 const BOTH: &[(&str, Text)] = &[("l", Text::Layers), ("t", Text::Store)];
 
-static ROWS: [Row; 13] = [
+static ROWS: [Row; 16] = [
     (&["plan", "s", "f"], &[], test_example::PLAN, false),
     (&["check", "s", "f", "p"], &[], "least 1\n", false),
     (
@@ -84,6 +86,24 @@ static ROWS: [Row; 13] = [
         false,
     ),
     (&["repair", "b", "udp:x:1"], &[], REPAIRED, true),
+    (
+        &["relay", "file:q", "a5ac9461b03bcf36", "file:o"],
+        &[("o", Text::Datagrams)],
+        RELAYED,
+        false,
+    ),
+    (
+        &["relay", "udp:x:1", "a5ac9461b03bcf36", "file:o"],
+        &[("o", Text::Datagrams)],
+        "bound 40000\nread 6 sent 6\n",
+        false,
+    ),
+    (
+        &["relay", "file:q", "a5ac9461b03bcf36", "udp:x:1"],
+        &[],
+        RELAYED,
+        true,
+    ),
 ];
 
 /// A run that has ended.

@@ -13,6 +13,8 @@ mod breceive_run_tests;
 #[cfg(test)]
 mod migrate_tests;
 #[cfg(test)]
+mod relay_run_tests;
+#[cfg(test)]
 mod repair_run_tests;
 #[cfg(test)]
 mod run_fixtures;

@@ -60,6 +60,7 @@ fn names_of(command: &Command) -> [&str; 4] {
             ["breceive", text_of(from), layers.as_str(), ""]
         }
         Command::Repair { store, to } => ["repair", store.as_str(), text_of(to), ""],
+        Command::Relay { from, to, .. } => ["relay", text_of(from), text_of(to), ""],
     }
 }
 

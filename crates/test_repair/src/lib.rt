@@ -4,8 +4,10 @@
 //! the tests' own. No program uses this crate.
 #![tactic(auto)]
 
+mod entries;
 mod head;
 
+pub use entries::{FORGED, append_entry};
 pub use head::count_bytes;
 
 #[cfg(test)]

@@ -9,7 +9,7 @@ use pet_text::{
     Command, End, GroupMark, Name, PlanFault, PlanKind, Repeat, ScriptFault, Status, WordsFault,
     bound_line, fault_line, least_line, lengths_line, merged_line, migrated_line, plan_group_line,
     plan_layer_line, plan_session_line, read_plan, read_script, read_words, receive_line,
-    repaired_line, sample_stream, send_line, unwrapped_line, video_line, wrapped_line,
+    relay_line, repaired_line, sample_stream, send_line, unwrapped_line, video_line, wrapped_line,
 };
 use std::alloc::{AllocError, Global};
 use std::test::Fail;
@@ -43,6 +43,7 @@ fn names_of(command: &Command) -> (&str, &str) {
         Command::Sample { .. } => ("", ""),
         Command::Breceive { from, layers, .. } => (text_of(from), layers.as_str()),
         Command::Repair { store, to } => (store.as_str(), text_of(to)),
+        Command::Relay { from, to, .. } => (text_of(from), text_of(to)),
     }
 }
 
@@ -57,7 +58,7 @@ fn text_of(end: &End) -> &str {
 /// Words, and what they name first and last.
 type Row = (&'static [&'static str], &'static str, &'static str);
 
-static ROWS: [Row; 13] = [
+static ROWS: [Row; 14] = [
     (&["plan", "s", "f"], "s", "f"),
     (&["check", "s", "f", "p"], "s", "p"),
     (&["send", "s", "f", "file:d"], "s", "d"),
@@ -79,6 +80,11 @@ static ROWS: [Row; 13] = [
         "l",
     ),
     (&["repair", "t", "file:d"], "t", "d"),
+    (
+        &["relay", "udp:x:1", "0001020304050607", "file:d"],
+        "x:1",
+        "d",
+    ),
 ];
 
 /// Whether the words of this row are read.
@@ -158,18 +164,20 @@ fn lines_of_plan_and_of_a_port(rt: HostRuntime) {
 /// A printed line, whose making is handed in.
 type Room = ArrayVec<u8, 64>;
 
-/// Whether the lines of `check`, `merge`, `migrate` and `repair` are so.
+/// Whether the lines of `check`, `merge`, `migrate`, `repair` and `relay` are so.
 fn counts_are_printed() -> bool {
     let (mut least, mut merged, mut migrated) = (Room::new(), Room::new(), Room::new());
-    let mut repaired = Room::new();
+    let (mut repaired, mut relayed) = (Room::new(), Room::new());
     least_line(3, &mut least);
     merged_line(7, &mut merged);
     migrated_line(6, &mut migrated);
     repaired_line(1, 6, &mut repaired);
+    relay_line(7, 6, &mut relayed);
     least.as_slice() == b"least 3\n".as_slice()
         && merged.as_slice() == b"merged 7\n".as_slice()
         && migrated.as_slice() == b"migrated 6\n".as_slice()
         && repaired.as_slice() == b"repaired 1 datagrams 6\n".as_slice()
+        && relayed.as_slice() == b"read 7 sent 6\n".as_slice()
 }
 
 /// Whether those of `video`, `unwrap`, `wrap`, `send` and `receive` are.

@@ -4,7 +4,7 @@ use Rattle.pet_text.specs.declared.form.Form.TheVariants as form
 use Rattle.pet_text.specs.Ends.{end_in}
 use Rattle.pet_text.specs.declared.words.Command.{Command}
 use Rattle.pet_text.specs.declared.words.Command.TheVariants.{Plan, Check, Send, Receive, Merge, Video, Unwrap, Wrap}
-use Rattle.pet_text.specs.declared.words.Command.TheVariants.{Migrate, Replay, Sample, Repair, Breceive}
+use Rattle.pet_text.specs.declared.words.Command.TheVariants.{Migrate, Replay, Sample, Repair, Breceive, Relay}
 
 abbrev pub command_in : Form → Command
 command_in (form.Plan stream priority) = Plan stream.now priority.now
@@ -20,3 +20,4 @@ command_in (form.Replay stream priority script) = Replay stream.now priority.now
 command_in (form.Sample seed groups) = Sample seed groups
 command_in (form.Repair store to) = Repair store.now (end_in to)
 command_in (form.Breceive from session layers) = Breceive (end_in from) session layers.now
+command_in (form.Relay from session to) = Relay (end_in from) session (end_in to)

@@ -4,7 +4,7 @@ use Rattle.std.specs.Str.{bytes_eq}
 use Rattle.pet_text.specs.declared.end.End.TheVariants.{File, Udp}
 use Rattle.pet_text.specs.declared.words.Command.{Command}
 use Rattle.pet_text.specs.declared.words.Command.TheVariants.{Send, Receive, Merge, Video, Unwrap, Wrap, Migrate, Repair}
-use Rattle.pet_text.specs.declared.words.Command.TheVariants.{Breceive}
+use Rattle.pet_text.specs.declared.words.Command.TheVariants.{Breceive, Relay}
 
 -- the name of each file that a command writes differs, as a text, from every other file name of the command
 abbrev pub writes_others : Command → Bool
@@ -19,4 +19,5 @@ writes_others (Wrap file out) = not (bytes_eq out file)
 writes_others (Migrate store out) = not (bytes_eq out store)
 writes_others (Repair store (File to)) = not (bytes_eq to store)
 writes_others (Breceive (File from) session layers) = not (bytes_eq from layers)
+writes_others (Relay (File from) session (File to)) = not (bytes_eq from to)
 writes_others _ = true

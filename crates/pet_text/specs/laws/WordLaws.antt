@@ -9,10 +9,10 @@ use Rattle.pet_text.specs.declared.end.End.{End}
 use Rattle.pet_text.specs.declared.end.End.TheVariants.{File, Udp}
 use Rattle.pet_text.specs.declared.words.Command.{Command}
 use Rattle.pet_text.specs.declared.words.Command.TheVariants.{Plan, Check, Send, Receive, Merge, Video, Unwrap, Wrap}
-use Rattle.pet_text.specs.declared.words.Command.TheVariants.{Migrate, Replay, Sample, Repair, Breceive}
+use Rattle.pet_text.specs.declared.words.Command.TheVariants.{Migrate, Replay, Sample, Repair, Breceive, Relay}
 use Rattle.pet_text.specs.Words.{is_name, digit_of, end_of, session_of, id_of, some_groups, plain_number, groups_of}
 use Rattle.pet_text.specs.Words.{names_files, if_named, send_of, receive_of, unwrap_of, sample_of, repair_of}
-use Rattle.pet_text.specs.Words.{breceive_of, command_of}
+use Rattle.pet_text.specs.Words.{breceive_of, relay_of, command_of}
 use Rattle.pet_text.specs.inside.WrittenFiles.{writes_others}
 
 -- the id of `unwrap` is that of a video, from E0 to EF, and the groups of `sample` are from 1 to 100
@@ -104,6 +104,13 @@ module _ (c : Command) where
   by_breceive (Some from) None layers e = by_none e
   by_breceive (Some from) (Some session) layers e = by_named (Breceive from session layers) tt e
 
+  by_relay : (from : Option End) (session : Option (List ℕ)) (to : Option End) → relay_of from session to ≡ Some c
+      → HasForm c
+  by_relay None session to e = by_none e
+  by_relay (Some from) None to e = by_none e
+  by_relay (Some from) (Some session) None e = by_none e
+  by_relay (Some from) (Some session) (Some to) e = by_named (Relay from session to) tt e
+
   by_unwrap : (file : List ℕ) (id : Option ℕ) (out : List ℕ) → ((n : ℕ) → id ≡ Some n → (0xE0 ≤ n) × (n ≤ 0xEF))
       → unwrap_of file id out ≡ Some c → HasForm c
   by_unwrap file None out is e = by_none e
@@ -144,7 +151,8 @@ module _ (c : Command) where
       (either (bytes_eq word (codes "unwrap")) _ _ (by_unwrap first (id_of second) third (video_id_of second))
       (either (bytes_eq word (codes "replay")) _ _ (by_named (Replay first second third) tt)
       (either (bytes_eq word (codes "breceive")) _ _ (by_breceive (end_of 0 first) (session_of second) third)
-      by_none)))))
+      (either (bytes_eq word (codes "relay")) _ _ (by_relay (end_of 0 first) (session_of second) (end_of 1 third))
+      by_none))))))
       e
   has_form (word ∷ first ∷ second ∷ third ∷ fourth ∷ []) e =
       either (bytes_eq word (codes "receive")) _ _
@@ -176,6 +184,10 @@ others (Replay stream priority script) e = refl
 others (Sample seed groups) e = refl
 others (Breceive (Udp address) session layers) e = refl
 others (Breceive (File from) session layers) e = (and_parts (is_name layers) (not (bytes_eq from layers)) e).1
+others (Relay (File from) session (File to)) e = e
+others (Relay (File from) session (Udp address)) e = refl
+others (Relay (Udp address) session (File to)) e = refl
+others (Relay (Udp address) session (Udp other)) e = refl
 others (Repair store (Udp address)) e = refl
 others (Repair store (File to)) e = (and_parts (is_name store) (not (bytes_eq to store)) e).1
 
