@@ -2,14 +2,16 @@
 //! machine.
 //!
 //! With no words it starts itself as `pet`, a receiver and a sender for each kind of address, and looks at what the two printed
-//! and left; then a receiver at a port that is in use, and a receiver and a sender with an address of no machine, which are
-//! refused. It also starts commands whose files have several names, or are a directory or a pipe, and one whose standard streams are
-//! closed. Of what is refused it looks at the line on standard error too. With words it is `pet`.
+//! and left; then a relay on the way, once to a link and once from one; then a receiver at a port that is in use, and a receiver and
+//! a sender with an address of no machine, which are refused. It also starts commands whose files have several names, or are a
+//! directory or a pipe, and one whose standard streams are closed. Of what is refused it looks at the line on standard error too. With
+//! words it is `pet`.
 #![tactic(auto)]
 
 mod files;
 mod left;
 mod refused;
+mod relayed;
 mod started;
 mod trial;
 
@@ -17,6 +19,7 @@ use crate::files::{
     keeps_its_line_out_of_a_file, reads_a_pipe_once, refuses_a_directory, refuses_another_name,
 };
 use crate::refused::{refuses_a_port_in_use, refuses_an_address_of_no_machine};
+use crate::relayed::{relays_from_a_link, relays_to_a_link};
 use crate::trial::{Outcome, receive_and_send};
 use pet_tool::{start_words, words};
 use std::io;
@@ -26,6 +29,8 @@ use std::process::ExitCode;
 const HERE: &str = "127.0.0.1: what was received is what the store has";
 
 const HERE_BY_6: &str = "[::1]: the same, or no address of this machine";
+
+const RELAYED: &str = "a relay: what a file has lost is sent, and what is sent to it once is there";
 
 const IN_USE: &str = "a port in use: refused, and no file is made";
 
@@ -62,6 +67,10 @@ fn links_come_out(rt: &HostRuntime) -> io::Result<bool> {
             rt,
             receive_and_send(rt, "[::1]")? != Outcome::Differs,
             HERE_BY_6,
+        )? && comes_out(
+            rt,
+            relays_to_a_link(rt)? && relays_from_a_link(rt)?,
+            RELAYED,
         )? && comes_out(rt, refuses_a_port_in_use(rt)?, IN_USE)?
             && comes_out(rt, refuses_an_address_of_no_machine(rt)?, OF_NO_MACHINE)?,
     )

@@ -19,7 +19,8 @@ pub enum Outcome {
 
 /// Starts a receiver at a port of this host that the system chooses, and a sender to it, and waits for both.
 pub fn receive_and_send(rt: &HostRuntime, host: &str) -> io::Result<Outcome> {
-    let mut receiver = start_receiver(rt, host)?;
+    let from = format!(in rt.alloc(); "udp:{host}:0")?;
+    let mut receiver = start(rt, &["receive", &from, SESSION, "l", "t"])?;
     let Some(output) = receiver.stdout.take() else {
         return Ok(Outcome::Differs);
     };
@@ -27,12 +28,9 @@ pub fn receive_and_send(rt: &HostRuntime, host: &str) -> io::Result<Outcome> {
     send_to(rt, host, &mut receiver, &mut lines)
 }
 
-/// A receiver at a port of this host that the system chooses, whose output is to be read.
-fn start_receiver(rt: &HostRuntime, host: &str) -> io::Result<Child> {
-    let from = format!(in rt.alloc(); "udp:{host}:0")?;
-    pet(rt, &["receive", &from, SESSION, "l", "t"])?
-        .stdout(Stdio::piped())
-        .spawn(rt)
+/// A command of these words, whose output is to be read.
+pub fn start(rt: &HostRuntime, words: &[&str]) -> io::Result<Child> {
+    pet(rt, words)?.stdout(Stdio::piped()).spawn(rt)
 }
 
 /// Starts a sender to the port that the receiver tells in its first line, and waits for both.
@@ -55,7 +53,7 @@ fn send_to(
 }
 
 /// The line that comes next.
-fn next_line(alloc: Global, lines: &mut impl BufRead) -> io::Result<String> {
+pub fn next_line(alloc: Global, lines: &mut impl BufRead) -> io::Result<String> {
     let mut line = String::new(alloc);
     lines.read_line(&mut line)?;
     Ok(line)
@@ -95,7 +93,7 @@ fn judged(
 }
 
 /// The decimal number that follows this text at the front of the line.
-fn number_after(front: &str, line: &str) -> Option<u32> {
+pub fn number_after(front: &str, line: &str) -> Option<u32> {
     line.strip_prefix(front)?
         .split_whitespace()
         .next()?
