@@ -1,7 +1,8 @@
 -- What was relayed since FROM was begun and TO made ready, seen from before the command began.
-use Rattle.std.proofs.Common.{◌≡◌, ◌⊎◌, ◌↔◌, ℕ, ◌≤◌, List, [], ◌∷◌, ◌++◌, Option, true, false}
+use Rattle.std.proofs.Common.{◌≡◌, ◌⊎◌, ◌↔◌, ℕ, ◌≤◌, List, [], ◌∷◌, ◌++◌, Option, Bool, true, false, Ok, Err}
 use Rattle.std.proofs.Common.{refl, sym, ap, subst, ◌∙◌, arith, inl, inr}
-use Rattle.std.specs.Prelude.{IsTrue, IfSome, option_map}
+use Rattle.std.specs.Prelude.{IsTrue, IfSome, IsErrAnd, Result, option_map}
+use Rattle.pet_base.specs.Causes.{stops}
 use Rattle.std.specs.Io.KnownBytes.{append_known}
 use Rattle.pet_base.specs.declared.place.Side.TheVariants.{Read, Written}
 use Rattle.pet_base.specs.Entries.{datagrams}
@@ -21,7 +22,7 @@ use Rattle.outside_routes.specs.declared.fault.RouteFailed.{RouteFailed}
 use Rattle.outside_routes.specs.declared.fault.RouteFailed.TheVariants as failed
 use Rattle.outside_routes.specs.declared.fault.RouteStop.{RouteStop}
 use Rattle.outside_routes.specs.declared.fault.RouteStop.TheVariants as stop
-use Rattle.packet_reading.specs.Begun.{Begun, Begins, EnteringFailed, IsBoundWhereStopped, StopsBeginning}
+use Rattle.packet_reading.specs.Begun.{Begun, Begins, EnteringFailed, IsBoundWhereStopped, OutStops, StopsBeginning}
 use Rattle.packet_reading.specs.Opened.{IsBoundTo, KeepsLink, PrintedPort}
 use Rattle.packet_reading.specs.Layers.{HaveLeft, IsReadFirst}
 use Rattle.packet_reading.specs.laws.BegunLaws.{is_read, link_failed, there}
@@ -38,8 +39,8 @@ use Rattle.pet_repair.specs.declared.arriving.RelayStop.TheVariants.{Route, Unli
 use Rattle.pet_repair.specs.declared.relay.RelayEnd.{RelayEnd}
 use Rattle.pet_repair.specs.declared.relay.RelayEnd.TheVariants as end
 use Rattle.pet_repair.specs.declared.relaying.Relaying.{Relaying}
-use Rattle.pet_repair.specs.Failures.{relay_end_of_place, relay_end_of_link}
-use Rattle.pet_repair.specs.inside.Arrivals.{StandsIn, relay_of_place, relay_of_link}
+use Rattle.pet_repair.specs.Failures.{relay_end_of_place, relay_end_of_link, relay_end_of_output}
+use Rattle.pet_repair.specs.inside.Arrivals.{StandsIn, relay_of_place, relay_of_link, relay_of_output}
 use Rattle.pet_repair.specs.inside.Handed.{Handed, HandedPart}
 use Rattle.pet_repair.specs.inside.RelayEnds.{OnlyBegins, IsRelayingOf, IsEndOf, end_of_relay}
 use Rattle.pet_repair.specs.inside.RelaySoFar.{RelayedAll, CameFirst, CameTo, RelayedPart, RelayedTo, IsRelayUse}
@@ -420,3 +421,41 @@ pub relays_at : (from a to b : Way) (session : List ℕ) (before after : Outside
 relays_at from a to b session before after e p q does =
     subst (λ (w : Way). DoesRelay w session b before after e) p
     (subst (λ (w : Way). DoesRelay from session w before after e) q does)
+
+-- which end tells of a failure of the output
+pub no_output : (x : Relaying) (e : RelayEnd) → IsEndOf x e → relay_end_of_output e ≡ false
+no_output x (end.Done read sent) is = refl
+no_output x (end.Incomplete read sent) is = refl
+no_output x (end.TurnsSpent read sent) is = refl
+no_output x end.NoMemory is = absurd is
+no_output x end.PlaceFault is = absurd is
+no_output x end.LinkFault is = absurd is
+no_output x end.OutFault is = absurd is
+no_output x (end.Unlike group number) is = absurd is
+
+pub stop_output : (s : RelayStop) → relay_of_output s ≡ relay_end_of_output (end_of_relay s)
+stop_output (Route stop.NoMemory) = refl
+stop_output (Route stop.Place) = refl
+stop_output (Route stop.Link) = refl
+stop_output (Route stop.Out) = refl
+stop_output (Unlike group number) = refl
+
+pub route_output : (f : RouteFailed) → false ≡ relay_of_output (Route (stop_of_route f))
+route_output failed.Place = refl
+route_output failed.Link = refl
+
+pub relaying_output : (from to : Way) (start : ReceiverState ℕ) (first now : Routes) (s : RelayStop)
+    → StopsRelaying from to start first now s → false ≡ relay_of_output s
+relaying_output from to start first now (Route stop.NoMemory) stops = refl
+relaying_output from to start first now (Route stop.Place) stops = refl
+relaying_output from to start first now (Route stop.Link) stops = refl
+relaying_output from to start first now (Route stop.Out) stops = absurd stops.0
+relaying_output from to start first now (Unlike group number) stops = refl
+
+-- the output failed in this call exactly where the answer tells so
+pub out_of : {T : Type 0} (result : Result T RelayStop) (why : RelayStop) (broken : Bool) (before after : OutsideSeen)
+    → IsErrAnd result (λ s. s ≡ why) → broken ≡ relay_of_output why → OutStops broken before after
+    → OutStops (stops relay_of_output result) before after
+out_of (Ok x) why broken before after is alike out = absurd is
+out_of (Err e) why broken before after is alike out =
+    subst (λ (b : Bool). OutStops b before after) (alike ∙ ap relay_of_output (sym is)) out

@@ -1,4 +1,5 @@
--- Which ends of `repair` and `relay` tell of a failure of the place, and which of one of the link. This project's own.
+-- Which ends of `repair` and `relay` tell of a failure of the place, which of one of the link, and which of one of the
+-- output. This project's own.
 use Rattle.std.specs.Prelude.{Bool, true, false}
 use Rattle.pet_repair.specs.declared.repair.RepairEnd.{RepairEnd}
 use Rattle.pet_repair.specs.declared.repair.RepairEnd.TheVariants as repair
@@ -40,3 +41,13 @@ relay_end_of_link relay.OutFault = false
 relay_end_of_link (relay.Incomplete read sent) = false
 relay_end_of_link (relay.TurnsSpent read sent) = false
 relay_end_of_link (relay.Unlike group number) = false
+
+abbrev pub relay_end_of_output : RelayEnd → Bool
+relay_end_of_output (relay.Done read sent) = false
+relay_end_of_output relay.NoMemory = false
+relay_end_of_output relay.PlaceFault = false
+relay_end_of_output relay.LinkFault = false
+relay_end_of_output relay.OutFault = true
+relay_end_of_output (relay.Incomplete read sent) = false
+relay_end_of_output (relay.TurnsSpent read sent) = false
+relay_end_of_output (relay.Unlike group number) = false

@@ -13,7 +13,9 @@ use Rattle.outside_routes.specs.Sending.{Routes, AreFirstDatagrams}
 use Rattle.outside_routes.specs.Way.{Way, OnFile, OnLink}
 use Rattle.store_text.specs.Files.{HasFile}
 use Rattle.packet_reading.specs.Opened.{IsBoundTo, IsUntouched, PortFailed, PrintedPort}
+use Rattle.packet_reading.specs.Begun.{OutStops}
 use Rattle.packet_reading.specs.Layers.{IsRead, IsReadFirst}
+use Rattle.pet_repair.specs.Failures.{relay_end_of_output}
 use Rattle.field_elements.specs.Gf16.{gf16_coding}
 use Rattle.pet_receive.specs.Arrivals.{ReceiverState, kept_set}
 use Rattle.pet_receive.specs.ShownBytes.{IsComplete}
@@ -138,9 +140,11 @@ IsBoundAtRelayEnd from old new PlaceFault = IsBoundTo from old new
 IsBoundAtRelayEnd from old new NoMemory = KeepsFeed from old new ⊎ IsBoundTo from old new
 IsBoundAtRelayEnd from old new LinkFault = KeepsFeed from old new ⊎ IsBoundTo from old new
 
--- what `relay` does: the link receives at FROM, and the faults of the output do not fall
+-- what `relay` does: the link receives at FROM, the faults of the output do not fall, and it fails once at OutFault and at
+-- no other end
 pub record DoesRelay (from : Way) (session : List ℕ) (to : Way) (before after : OutsideSeen)
     (end : RelayEnd) : Type 0 where
   pub bound : IsBoundAtRelayEnd from before.link after.link end
   pub later : before.out_faults ≤ after.out_faults
+  pub out : OutStops (relay_end_of_output end) before after
   pub ends : EndsRelay from session to before after end

@@ -9,13 +9,13 @@ ghost use Rattle.pet_base.specs.Seen.{PlaceStops};
 ghost use Rattle.outside_routes.specs.Coming.{HasInput};
 ghost use Rattle.outside_routes.specs.Sending.{routes, IsOpen};
 ghost use Rattle.outside_routes.specs.Way.{way_of};
-ghost use Rattle.packet_reading.specs.Begun.{Begins};
+ghost use Rattle.packet_reading.specs.Begun.{Begins, OutStops};
 ghost use Rattle.packet_reading.specs.Opened.{IsBoundTo, PrintedPort};
 ghost use Rattle.packet_verdicts.specs.KeptSet.{kept_in_all};
 ghost use Rattle.pet_receive.specs.Arrivals.{kept_set};
 ghost use Rattle.pet_receive.specs.ShownBytes.{IsComplete};
 ghost use Rattle.pet_repair.specs.Relays.{Relays, EndsRelay, IsBoundAtRelayEnd};
-ghost use Rattle.pet_repair.specs.inside.Arrivals.{StandsIn, relay_of_place, relay_of_link};
+ghost use Rattle.pet_repair.specs.inside.Arrivals.{StandsIn, relay_of_place, relay_of_link, relay_of_output};
 ghost use Rattle.pet_repair.specs.inside.RelayEnds.{end_of_relay, IsRelayingOf, OnlyBegins};
 ghost use Rattle.pet_repair.specs.inside.RelaySoFar.{KeepsAddresses, RelayedAll, StopsRelaying};
 
@@ -57,6 +57,7 @@ pub(crate) fn relay<P: Place, K: Link, S: Sink, L: Ledger>(
     ensures bound { IfErr result (λ stop. IsBoundAtRelayEnd (way_of from.entry) (seen outside.old).link
         (seen outside.new).link (end_of_relay stop)) }
     ensures later { (seen outside.old).out_faults ≤ (seen outside.new).out_faults }
+    ensures out { OutStops (stops relay_of_output result) (seen outside.old) (seen outside.new) }
     ensures same { AreSame outside.old outside.new }
     ensures once_place { PlaceStops (stops relay_of_place result) (seen outside.old).place
         (seen outside.new).place }
@@ -99,7 +100,8 @@ fn relay_begun<P: Place, K: Link, S: Sink, L: Ledger>(
         → EndsRelay (way_of from.entry) session (way_of to.entry) before (seen outside.new)
         (end_of_relay stop)) }
     ensures bound { (seen outside.new).link.bound ≡ (seen outside.old).link.bound }
-    ensures out { (seen outside.new).out_faults ≡ (seen outside.old).out_faults }
+    ensures out { OutStops (stops relay_of_output result) (seen outside.old) (seen outside.new) }
+    ensures later { (seen outside.old).out_faults ≤ (seen outside.new).out_faults }
     ensures same { AreSame outside.old outside.new }
     ensures once_place { PlaceStops (stops relay_of_place result) (seen outside.old).place
         (seen outside.new).place }

@@ -244,10 +244,12 @@ pub nothing_relayed : (from : Way) (session : List ℕ) (to : Way) (now : Outsid
 nothing_relayed (OnFile name) session to now = record {
   bound = inl tt;
   later = omega arith;
+  out = refl;
   ends = inl (record { untouched = record { files = refl; feed = tt }; sent = refl }, refl);
 }
 nothing_relayed (OnLink address) session to now = record {
   bound = inl refl;
   later = omega arith;
+  out = refl;
   ends = inl (record { untouched = record { files = refl; feed = refl }; sent = refl }, refl);
 }

@@ -5,7 +5,9 @@ use Rattle.pet_base.specs.Seen.{PlaceStops}
 use Rattle.outside_routes.specs.Way.{way_of}
 use Rattle.pet_repair.specs.Failures.{relay_end_of_place, relay_end_of_link}
 use Rattle.pet_repair.specs.Relays.{DoesRelay}
-use Rattle.pet_repair.proofs.RelayBegun.{bound_at_any, ends_relay, no_place, no_link, stop_place, stop_link}
+use Rattle.pet_repair.proofs.RelayBegun.{bound_at_any, ends_relay, no_place, no_link, no_output, stop_place, stop_link}
+use Rattle.pet_repair.proofs.RelayBegun.{stop_output}
+use Rattle.packet_reading.specs.Begun.{OutStops}
 use Rattle.pet_repair.proofs.relay.relay_routes.Goals as goal
 
 pub returns-in-Ok-clause-relays : goal.returns-in-Ok-clause-relays
@@ -14,6 +16,9 @@ returns-in-Ok-clause-relays g c = record {
       bound_at_any (way_of c.args.from) (seen c.args.outside.now).link (seen c.relay.new.outside).link
       c.end_after.result c.in-Ok.ensures.listens;
   later = c.relay.ensures.later;
+  out =
+      subst (λ b. OutStops b (seen c.args.outside.now) (seen c.relay.new.outside))
+      (sym (no_output c.in-Ok.relaying c.end_after.result c.end_after.ensures)) c.in-Ok.ensures.out;
   ends =
       ends_relay (way_of c.args.from) c.args.session (way_of c.args.to) (seen c.args.outside.now)
       (seen c.relay.new.outside) c.in-Ok.relaying c.end_after.result c.end_after.ensures c.in-Ok.ensures.done;
@@ -35,6 +40,9 @@ returns-in-Err-clause-relays g c =
     (seen c.relay.new.outside)) (sym c.stopped.ensures) (record {
       bound = c.in-Err.ensures.bound;
       later = c.relay.ensures.later;
+      out =
+          subst (λ b. OutStops b (seen c.args.outside.now) (seen c.relay.new.outside)) (stop_output c.in-Err.stop)
+          c.in-Err.ensures.out;
       ends = c.in-Err.ensures.stopped;
     })
 

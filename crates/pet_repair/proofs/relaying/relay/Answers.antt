@@ -9,7 +9,11 @@ use Rattle.pet_repair.specs.declared.arriving.RelayStop.TheVariants.{Route}
 use Rattle.pet_repair.specs.inside.RelayEnds.{OnlyBegins, end_of_relay}
 use Rattle.pet_repair.proofs.ArrivalMade.{err_is, err_so, ok_so}
 use Rattle.pet_repair.specs.laws.SessionRelayed.{nothing_relayed}
-use Rattle.pet_repair.proofs.RelayBegun.{bound_at_any, bound_at_stop, bound_kept, stops_beginning}
+use Rattle.pet_repair.proofs.RelayBegun.{bound_at_any, bound_at_stop, bound_kept, out_of, stops_beginning}
+use Rattle.std.proofs.Common.{false, refl, ap, ◌∙◌}
+use Rattle.pet_base.specs.Causes.{count_after, stops}
+use Rattle.packet_reading.specs.Begun.{stop_of_an_output}
+use Rattle.pet_repair.specs.inside.Arrivals.{relay_of_output}
 use Rattle.pet_repair.proofs.relaying.relay.Goals as goal
 
 pub returns-in_err-buffer-clause-stopped : goal.returns-in_err-buffer-clause-stopped
@@ -96,3 +100,23 @@ returns-clause-bound g c =
     (seen c.relay_begun.new.outside).link c.relay_begun.ensures.bound
     (begun_bound (way_of c.args.from) (seen c.args.outside.now) (seen c.begin.new.outside)
     c.in_ok-begin.ensures.begins.begun)))
+
+pub returns-in_err-buffer-clause-out : goal.returns-in_err-buffer-clause-out
+returns-in_err-buffer-clause-out g c =
+    out_of c.from_residual.result (Route stop.NoMemory) false (seen c.args.outside.now) (seen c.args.outside.now)
+    c.from_residual.ensures.1 refl refl
+
+pub returns-in_err-field-clause-out : goal.returns-in_err-field-clause-out
+returns-in_err-field-clause-out g c =
+    out_of c.from_residual-in_err-field.result (Route stop.NoMemory) false (seen c.args.outside.now)
+    (seen c.args.outside.now) c.from_residual-in_err-field.ensures.1 refl refl
+
+pub returns-in_err-begin-clause-out : goal.returns-in_err-begin-clause-out
+returns-in_err-begin-clause-out g c =
+    let s = c.in_err-begin.field-0.0 in
+    out_of c.from_residual-in_err-begin.result (Route s) (stop_of_an_output s) (seen c.args.outside.now)
+    (seen c.begin.new.outside) c.from_residual-in_err-begin.ensures.1 refl c.in_err-begin.ensures.out
+
+pub returns-clause-out : goal.returns-clause-out
+returns-clause-out g c =
+    c.relay_begun.ensures.out ∙ ap (count_after (stops relay_of_output c.relay_begun.result)) c.in_ok-begin.ensures.out

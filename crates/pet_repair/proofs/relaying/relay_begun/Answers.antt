@@ -1,4 +1,4 @@
-use Rattle.std.proofs.Common.{[], refl}
+use Rattle.std.proofs.Common.{[], false, refl}
 use Rattle.pet_base.specs.Lent.{seen}
 use Rattle.pet_base.specs.OutsideSeen.{OutsideSeen, outside_seen}
 use Rattle.outside_routes.specs.Way.{way_of}
@@ -11,6 +11,7 @@ use Rattle.pet_repair.specs.inside.Arrivals.{StandsIn}
 use Rattle.pet_repair.specs.inside.RelayEnds.{OnlyBegins, end_of_relay}
 use Rattle.pet_repair.proofs.ArrivalMade.{err_is}
 use Rattle.pet_repair.proofs.RelayBegun.{stops_opening, stops_relaying, relays_with, input_opened, open_opened}
+use Rattle.pet_repair.proofs.RelayBegun.{out_of, relaying_output, route_output}
 use Rattle.pet_repair.proofs.relaying.relay_begun.Goals as goal
 
 pub returns-in_err-open_route-clause-stopped : goal.returns-in_err-open_route-clause-stopped
@@ -81,3 +82,22 @@ returns-clause-done g c before begins only =
     c.in_ok-open_route.ensures.opened c.relay_all.ensures.keeps c.new-receiver.result c.new-receiver.ensures.empty
     stands c.in_ok-read.read c.relay_all.new.receiver c.relaying_of.result c.in_ok-read.ensures.done told.read
     told.sent told.complete
+
+pub returns-in_err-open_route-clause-out : goal.returns-in_err-open_route-clause-out
+returns-in_err-open_route-clause-out g c =
+    let o = c.args.outside.now in
+    let new = outside_seen g.P.Place g.K.Link g.S.Sink c.open_route.new.place c.open_route.new.link o.out.now o.steps.now in
+    let why = c.in_err-open_route.field-0.0 in
+    out_of c.from_residual.result (Route (stop_of_route why)) false (seen o) new c.from_residual.ensures.1
+    (route_output why) refl
+
+pub returns-in_err-read-clause-out : goal.returns-in_err-read-clause-out
+returns-in_err-read-clause-out g c =
+    let o = c.args.outside.now in
+    let opened = routes g.P.Place g.K.Link c.open_route.new.place c.open_route.new.link in
+    let new = outside_seen g.P.Place g.K.Link g.S.Sink c.relay_all.new.place c.relay_all.new.link o.out.now
+    c.relay_all.new.steps in
+    let why = c.in_err-read.field-0.0 in
+    out_of c.from_residual-in_err-read.result why false (seen o) new c.from_residual-in_err-read.ensures.1
+    (relaying_output (way_of c.args.from) (way_of c.args.to) c.new-receiver.result opened
+    (routes g.P.Place g.K.Link c.relay_all.new.place c.relay_all.new.link) why c.in_err-read.ensures.stopped) refl
