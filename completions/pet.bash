@@ -25,17 +25,17 @@ _pet() {
     read -a words <<<"${COMP_LINE:0:COMP_POINT}"
     [[ ${COMP_LINE:0:COMP_POINT} == *[[:space:]] ]] && words+=("")
     local at=$((${#words[@]} - 1))
-    local current=${words[at]} names="plan check send receive merge video unwrap wrap migrate repair relay replay sample breceive help --version"
+    local current=${words[at]} names="plan check send receive merge video unwrap wrap migrate repair relay replay sample bsend breceive help --version"
     # This is a word of the script in a checkout.
     [[ ${words[0]} == */* ]] && names+=" build"
     COMPREPLY=()
     case ${words[1]}:$at in
         *:1) _pet_offer "$current" < <(compgen -W "$names" -- "$current") ;;
-        plan:[23] | check:[234] | send:[23] | receive:[45] | merge:[234] | video:[23] | unwrap:[24] | wrap:[23] | migrate:[23] | repair:2 | replay:[234] | breceive:4)
+        plan:[23] | check:[234] | send:[23] | receive:[45] | merge:[234] | video:[23] | unwrap:[24] | wrap:[23] | migrate:[23] | repair:2 | replay:[234] | bsend:[23] | breceive:4)
             _pet_files "$current" ""
             ;;
         unwrap:3) _pet_offer "$current" < <(compgen -W "$(printf 'e%x ' {0..15})" -- "$current") ;;
-        send:4 | receive:2 | repair:3 | relay:[24] | breceive:2)
+        send:4 | receive:2 | repair:3 | relay:[24] | bsend:4 | breceive:2)
             if [[ $current == file:* ]]; then
                 _pet_files "$current" file:
             elif [[ $current != udp:* ]]; then

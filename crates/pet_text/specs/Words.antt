@@ -12,7 +12,7 @@ use Rattle.pet_text.specs.declared.end.End.{End}
 use Rattle.pet_text.specs.declared.end.End.TheVariants.{File, Udp}
 use Rattle.pet_text.specs.declared.words.Command.{Command}
 use Rattle.pet_text.specs.declared.words.Command.TheVariants.{Plan, Check, Send, Receive, Merge, Video, Unwrap, Wrap}
-use Rattle.pet_text.specs.declared.words.Command.TheVariants.{Migrate, Replay, Sample, Repair, Breceive, Relay}
+use Rattle.pet_text.specs.declared.words.Command.TheVariants.{Migrate, Replay, Sample, Repair, Breceive, Relay, Bsend}
 
 -- the texts of the words
 abbrev pub texts_of : List (String Global) → List (List ℕ)
@@ -132,6 +132,7 @@ abbrev pub names_files : Command → Bool
 names_files (Plan stream priority) = is_name stream && is_name priority
 names_files (Check stream priority plan) = three_files stream priority plan
 names_files (Send stream priority to) = send_files stream priority to
+names_files (Bsend stream priority to) = send_files stream priority to
 names_files (Receive from session layers store) = receive_files from layers store
 names_files (Merge first second out) = merge_files first second out
 names_files (Video store out) = other_files store out
@@ -152,6 +153,11 @@ if_named command = if names_files command then Some command else None
 abbrev pub send_of : List ℕ → List ℕ → Option End → Option Command
 send_of stream priority None = None
 send_of stream priority (Some to) = if_named (Send stream priority to)
+
+-- `bsend STREAM PRIORITY TO`
+abbrev pub bsend_of : List ℕ → List ℕ → Option End → Option Command
+bsend_of stream priority None = None
+bsend_of stream priority (Some to) = if_named (Bsend stream priority to)
 
 -- `receive FROM SESSION LAYERS STORE`
 abbrev pub receive_of : Option End → Option (List ℕ) → List ℕ → List ℕ → Option Command
@@ -202,6 +208,7 @@ command_of (word ∷ first ∷ second ∷ []) =
 command_of (word ∷ first ∷ second ∷ third ∷ []) =
     if bytes_eq word (codes "check") then if_named (Check first second third)
     else if bytes_eq word (codes "send") then send_of first second (end_of 1 third)
+    else if bytes_eq word (codes "bsend") then bsend_of first second (end_of 1 third)
     else if bytes_eq word (codes "merge") then if_named (Merge first second third)
     else if bytes_eq word (codes "unwrap") then unwrap_of first (id_of second) third
     else if bytes_eq word (codes "replay") then if_named (Replay first second third)

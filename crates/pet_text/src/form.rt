@@ -1,7 +1,7 @@
 //! What the words of a command give, before their texts are copied.
 ghost use Rattle.std.specs.Prelude.{◌≡◌, [], ◌∷◌, option_map};
 ghost use Rattle.std.specs.Str.{bytes_eq};
-ghost use Rattle.pet_text.specs.Words.{texts_of, end_of, session_of, id_of, plain_number, groups_of, send_files, receive_files, merge_files, if_named, send_of, receive_of, unwrap_of, sample_of, repair_files, repair_of, breceive_files, breceive_of, relay_files, relay_of, command_of};
+ghost use Rattle.pet_text.specs.Words.{texts_of, end_of, session_of, id_of, plain_number, groups_of, send_files, receive_files, merge_files, if_named, send_of, receive_of, unwrap_of, sample_of, repair_files, repair_of, breceive_files, breceive_of, relay_files, relay_of, command_of, bsend_of};
 ghost use Rattle.pet_text.specs.declared.words.Command.TheVariants.{Plan, Check, Merge, Video, Wrap, Migrate, Replay};
 ghost use Rattle.pet_text.specs.inside.Forms.{command_in};
 ghost use Rattle.pet_text.specs.Ends.{end_in};
@@ -24,6 +24,11 @@ pub(crate) enum Form<'a> {
         plan: &'a str,
     },
     Send {
+        stream: &'a str,
+        priority: &'a str,
+        to: Route<'a>,
+    },
+    Bsend {
         stream: &'a str,
         priority: &'a str,
         to: Route<'a>,
@@ -134,6 +139,8 @@ fn three_words<'a>(word: &str, first: &'a str, second: &'a str, third: &'a str) 
         check_words(first, second, third)
     } else if same(word, "send") {
         send_words(first, second, third)
+    } else if same(word, "bsend") {
+        bsend_words(first, second, third)
     } else if same(word, "merge") {
         merge_words(first, second, third)
     } else if same(word, "unwrap") {
@@ -200,6 +207,21 @@ fn send_words<'a>(stream: &'a str, priority: &'a str, to: &'a str) -> Option<For
         return None;
     }
     Some(Form::Send {
+        stream,
+        priority,
+        to,
+    })
+}
+
+/// The words behind `bsend`.
+fn bsend_words<'a>(stream: &'a str, priority: &'a str, to: &'a str) -> Option<Form<'a>>
+    ensures { option_map command_in result ≡ bsend_of stream.now priority.now (end_of 1 to.now) }
+{
+    let to = read_end(to, 1)?;
+    if !are_send_files(stream, priority, to) {
+        return None;
+    }
+    Some(Form::Bsend {
         stream,
         priority,
         to,

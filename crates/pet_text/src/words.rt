@@ -1,6 +1,6 @@
 //! The command words.
 ghost use Rattle.std.specs.Prelude.{◌≡◌, ◌↔◌, Err, None, Some, IfOk};
-ghost use Rattle.pet_text.specs.declared.words.Command.TheVariants.{Plan, Check, Send, Receive, Merge, Video, Unwrap, Wrap, Migrate, Replay, Sample, Repair, Breceive, Relay};
+ghost use Rattle.pet_text.specs.declared.words.Command.TheVariants.{Plan, Check, Send, Receive, Merge, Video, Unwrap, Wrap, Migrate, Replay, Sample, Repair, Breceive, Relay, Bsend};
 ghost use Rattle.pet_text.specs.Words.{texts_of, command_of};
 ghost use Rattle.pet_text.specs.inside.Forms.{command_in};
 ghost use Rattle.pet_text.specs.Ends.{end_in};
@@ -32,6 +32,15 @@ pub enum Command {
     },
     /// Sends the packets of the session that a stream and a priority are.
     Send {
+        /// The file of the stream.
+        stream: Name,
+        /// The file of the priority.
+        priority: Name,
+        /// Where the datagrams go to.
+        to: End,
+    },
+    /// Sends the packets of the byte profile of the session that a stream and a priority are.
+    Bsend {
         /// The file of the stream.
         stream: Name,
         /// The file of the priority.
@@ -182,6 +191,11 @@ fn own_command(alloc: Global, form: Form<'_>) -> Owned
             priority,
             to,
         } => own_send(alloc, stream, priority, to),
+        Form::Bsend {
+            stream,
+            priority,
+            to,
+        } => own_bsend(alloc, stream, priority, to),
         Form::Receive {
             from,
             session,
@@ -237,6 +251,24 @@ fn own_send(alloc: Global, stream: &str, priority: &str, to: Route<'_>) -> Owned
     let priority = Name::new(alloc, priority)?;
     let to = own_end(alloc, to)?;
     Ok(Command::Send {
+        stream,
+        priority,
+        to,
+    })
+}
+
+fn own_bsend(
+    alloc: Global,
+    stream: &str,
+    priority: &str,
+    to: Route<'_>,
+) -> Result<Command, AllocError>
+    ensures { IfOk result (λ command. command ≡ Bsend stream.now priority.now (end_in to.entry)) }
+{
+    let stream = Name::new(alloc, stream)?;
+    let priority = Name::new(alloc, priority)?;
+    let to = own_end(alloc, to)?;
+    Ok(Command::Bsend {
         stream,
         priority,
         to,

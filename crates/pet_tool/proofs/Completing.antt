@@ -10,17 +10,13 @@ use Rattle.pet_base.specs.OutsideSeen.{OutsideSeen}
 use Rattle.pet_base.specs.LinkSeen.{LinkSeen}
 use Rattle.pet_base.specs.Seen.{Files, Seen, with_file}
 use Rattle.outside_files.specs.Uses.{reading, writing, Failed}
-use Rattle.outside_files.specs.Wrote.{Wrote}
 use Rattle.outside_files.specs.laws.PrintedLaws.{Rose-before, Rose-since}
 use Rattle.field_elements.specs.Gf16.{gf16_coding}
 use Rattle.packet_frame.specs.Frame.{text}
 use Rattle.packet_session.specs.Session.{IsSession, Session}
 use Rattle.packet_session.specs.Datagrams.{datagrams_text, IsItsDatagram}
 use Rattle.packet_session.specs.laws.SentLaws.{sent_are_packets}
-use Rattle.text_plan.specs.PlanLines.{send_text}
 use Rattle.stream_session.specs.Accepted.{session_of}
-use Rattle.stream_session.specs.Number.{session_number}
-use Rattle.stream_session.specs.Sessions.{tables_in}
 use Rattle.stream_session.specs.laws.SessionOfLaws.{is_session, session_fits}
 use Rattle.command_plan.specs.Checks.{Checks}
 use Rattle.command_plan.specs.Plans.{PlanEnds}
@@ -50,10 +46,7 @@ use Rattle.command_video.specs.VideosSession.{HasStoreOf, VideosSession}
 use Rattle.command_video.specs.laws.SessionVideo.{completes_video}
 use Rattle.command_video.specs.StreamVideo.{stream_video}
 use Rattle.packet_met.specs.Met.{Pair, all_shown, met_in}
-use Rattle.command_send.specs.Sends.{IsAimedAt, IsSentOf, Sends, packets_file, packets_in, routes_in, sent_line_text}
-use Rattle.command_send.specs.SendsSession.{SendsAll, uses}
-use Rattle.command_send.specs.declared.session.Sent.{Sent as SentNumbers}
-use Rattle.command_send.specs.laws.EndLaws.{sends_session}
+use Rattle.command_send.specs.Sends.{routes_in}
 use Rattle.pet_repair.specs.Repaired.{complete_packets}
 use Rattle.pet_repair.specs.Repairs.{Repairs, uses as repair_uses}
 use Rattle.pet_repair.specs.SentTo.{SentTo}
@@ -63,19 +56,23 @@ use Rattle.text_status.specs.declared.status.Status.{Status}
 use Rattle.text_status.specs.declared.status.Status.TheVariants.{Done, Incomplete, OutFault, TurnsSpent}
 use Rattle.pet_text.specs.declared.words.Command.{Command}
 use Rattle.pet_text.specs.declared.words.Command.TheVariants.{Plan, Check, Send, Receive, Merge, Video, Unwrap, Wrap}
-use Rattle.pet_text.specs.declared.words.Command.TheVariants.{Migrate, Replay, Sample, Repair, Breceive, Relay}
+use Rattle.pet_text.specs.declared.words.Command.TheVariants.{Migrate, Replay, Sample, Repair, Breceive, Relay, Bsend}
+use Rattle.field_elements.specs.Gf16.{gf16_coding}
+use Rattle.gf8.specs.Gf8.{gf8_coding}
+use Rattle.packet_frame.specs.declared.format.TheConstants.{FORMAT, BYTE_FORMAT}
+use Rattle.pet_tool.proofs.SessionSent.{session_completes}
 use Rattle.outside_routes.specs.RouteFaults.{AimedFailed, BoundFailed}
-use Rattle.outside_routes.specs.Sending.{Routes, Sent}
-use Rattle.outside_routes.specs.Way.{Way, OnFile, OnLink}
+use Rattle.outside_routes.specs.Sending.{Routes}
+use Rattle.outside_routes.specs.Way.{Way}
 use Rattle.pet_text.specs.Ends.{way_in}
 use Rattle.text_status.specs.Statuses.{fault_text}
 use Rattle.pet_text.specs.Lines.{video_text}
-use Rattle.pet_tool.specs.Completes.{Completes, CompletesPlan, CompletesCheck, CompletesSend, CompletesMerge}
+use Rattle.pet_tool.specs.Completes.{Completes, CompletesPlan, CompletesCheck, CompletesMerge}
 use Rattle.pet_tool.specs.Completes.{CompletesMigrate, CompletesReplay, CompletesSample, RepairsPackets}
 use Rattle.pet_tool.specs.declared.end.End.{End}
 use Rattle.pet_tool.specs.declared.end.End.TheVariants as end
 use Rattle.pet_tool.specs.Does.{Does, Runs, OnFiles, OnRead, OnCountedRead, OnMemory, OnRoutes}
-use Rattle.pet_tool.specs.Lines.{line_of, line_of_plan, line_of_check, line_of_send, line_of_merge, line_of_video}
+use Rattle.pet_tool.specs.Lines.{line_of, line_of_plan, line_of_check, line_of_merge, line_of_video}
 use Rattle.pet_tool.specs.Lines.{line_of_receive, line_of_migrate, line_of_replay, line_of_sample, line_of_repair}
 use Rattle.pet_tool.specs.Lines.{totals_text}
 use Rattle.pet_tool.proofs.BytesCompleted.{breceive_completes}
@@ -85,7 +82,7 @@ use Rattle.pet_tool.proofs.SystemCompleted.{unwrap_completes, wrap_completes}
 use Rattle.pet_tool.proofs.Telling.{ended_as, told, Told}
 use Rattle.pet_tool.specs.Headline.{Headline, HasWhatWasSent, NamesWhatItStores, ReceivesWhatWasSent}
 use Rattle.pet_tool.specs.Headline.{session_numbers}
-use Rattle.pet_tool.specs.Statuses.{status_of, status_of_plan, status_of_check, status_of_send, status_of_receive}
+use Rattle.pet_tool.specs.Statuses.{status_of, status_of_plan, status_of_check, status_of_receive}
 use Rattle.pet_tool.specs.Statuses.{status_of_merge, status_of_video, status_of_migrate, status_of_replay, status_of_sample}
 use Rattle.pet_tool.specs.Statuses.{status_of_repair}
 use Rattle.pet_tool.specs.Undisturbed.{IsUndisturbed, EndsWith}
@@ -134,43 +131,6 @@ check_completes stream priority plan before after status runs = λ p b calm give
     }) in
     done_with end.Check before runs.between after runs.end status _ only.written said (ap status_of_check ended)
     (ap line_of_check ended)
-
--- the line of what was sent
-sent_text : (p b : List ℕ) (sent : SentNumbers) → IsSentOf p b sent
-    → send_text sent.session sent.groups sent.datagrams ≡ sent_line_text p b
-sent_text p b sent is =
-    ap (λ (n : List ℕ). send_text n sent.groups sent.datagrams) is.session
-    ∙ ap (λ (g : ℕ). send_text (session_number p b) g sent.datagrams) is.groups
-    ∙ ap (λ (d : ℕ). send_text (session_number p b) (length (tables_in p b)) d) is.datagrams
-
--- it stays sent, whatever is printed behind
-still_sent : (to : Way) (p b : List ℕ) (before between after : OutsideSeen) → after.place ≡ between.place
-    → after.link ≡ between.link → SendsAll to p b before between → SendsAll to p b before after
-still_sent (OnFile name) p b before between after place link sent =
-    subst (λ (s : Seen). Wrote (packets_file name p b ∷ []) None before.place s) (sym place) sent
-still_sent (OnLink address) p b before between after place link sent = (
-  subst (λ (l : LinkSeen). Sent (packets_in p b) before.link l) (sym link) sent.0,
-  subst (λ (l : LinkSeen). IsAimedAt address before.link l) (sym link) sent.1,
-  ap (λ (s : Seen). s.files) place ∙ sent.2,
-)
-
-send_completes : (stream priority : List ℕ) (to : Way) (before after : OutsideSeen) (status : Status)
-    → Runs end.Send (Sends stream priority to) before after status
-    → CompletesSend stream priority to before after status
-send_completes stream priority to before after status runs = λ p b calm given.
-    let said = told (line_of_send runs.end) (status_of_send runs.end) runs.between after status runs.tells
-    (λ rose. calm.calm.well.out (subst (λ (n : ℕ). Rose n after.out_faults) runs.did.out_faults rose)) in
-    let sent = sends_session stream priority to before runs.between runs.end runs.did p b (record {
-      memory = λ none. calm.calm.memory (said.ended ∙ ap status_of_send none);
-      well = λ had. calm.calm.well.place
-          (subst (λ (now : Seen). Failed (uses stream priority to) before.place now) (sym said.place) had);
-      link = λ had. calm.link (subst (λ (l : LinkSeen). AimedFailed to before.link l) (sym said.link) had);
-      given = given;
-    }) in (
-      still_sent to p b before runs.between after said.place said.link sent.packets,
-      done_with end.Send before runs.between after runs.end status _ runs.did.written said
-          (ap status_of_send sent.ended) (ap line_of_send sent.ended ∙ sent_text p b sent.sent sent.is),
-    )
 
 -- the status and the line of the end, by whether all layers are shown
 shown_status : (all : Bool) (totals : Totals)
@@ -438,7 +398,11 @@ completes (Some (Plan stream priority)) before after status runs =
 completes (Some (Check stream priority plan)) before after status runs =
     check_completes stream priority plan before after status runs
 completes (Some (Send stream priority to)) before after status runs =
-    send_completes stream priority (way_in to) before after status runs
+    session_completes FORMAT gf16_coding stream priority (way_in to) before after status runs.between runs.end runs.did
+    runs.tells
+completes (Some (Bsend stream priority to)) before after status runs =
+    session_completes BYTE_FORMAT gf8_coding stream priority (way_in to) before after status runs.between runs.end
+    runs.did runs.tells
 completes (Some (Receive from session layers store)) before after status runs =
     let meets = headline (way_in from) session layers store before after status runs in
     record {

@@ -7,3 +7,4 @@ pub mod RelayCompleted
 pub mod Completing
 pub mod NoMemory
 pub mod WordsRead
+pub mod SessionSent

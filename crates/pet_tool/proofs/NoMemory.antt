@@ -21,10 +21,13 @@ use Rattle.pet_byte.specs.laws.BytesLaws.{no_bytes_received}
 use Rattle.text_status.specs.declared.status.Status.TheVariants.{NoMemory}
 use Rattle.pet_text.specs.declared.words.Command.{Command}
 use Rattle.pet_text.specs.declared.words.Command.TheVariants.{Plan, Check, Send, Receive, Merge, Video, Unwrap, Wrap}
-use Rattle.pet_text.specs.declared.words.Command.TheVariants.{Migrate, Replay, Sample, Repair, Breceive, Relay}
+use Rattle.pet_text.specs.declared.words.Command.TheVariants.{Migrate, Replay, Sample, Repair, Breceive, Relay, Bsend}
+use Rattle.field_elements.specs.Gf16.{gf16_coding}
+use Rattle.gf8.specs.Gf8.{gf8_coding}
+use Rattle.packet_frame.specs.declared.format.TheConstants.{FORMAT, BYTE_FORMAT}
+use Rattle.command_send.specs.laws.EndLaws.{nothing_sent}
 use Rattle.command_receive.specs.laws.SessionReceived.{nothing_received}
 use Rattle.pet_text.specs.Ends.{way_in}
-use Rattle.pet_text.specs.declared.end.End.TheVariants.{File, Udp}
 use Rattle.text_status.specs.declared.status.Status.{Status}
 use Rattle.pet_tool.specs.Does.{Does, Strikes}
 use Rattle.pet_tool.specs.Told.{Tells}
@@ -62,31 +65,17 @@ module _ (before after : OutsideSeen) (status : Status) (tells : Tells [] NoMemo
         tells = tells;
         once = no_failure;
       }
-  no_memory (Send stream priority (File to)) = record {
+  no_memory (Send stream priority to) = record {
     between = before;
     end = send.NoMemory;
-    did =
-        record {
-          link = refl;
-          written = refl;
-          out_faults = refl;
-          costs = inl refl;
-          tells = inl (Wrote-nothing before.place before.place refl);
-        };
+    did = nothing_sent FORMAT gf16_coding stream priority (way_in to) before;
     tells = tells;
     once = no_failure;
   }
-  no_memory (Send stream priority (Udp to)) = record {
+  no_memory (Bsend stream priority to) = record {
     between = before;
     end = send.NoMemory;
-    did =
-        record {
-          link = record { feed = refl; port = refl; bound = refl; later = omega arith };
-          written = refl;
-          out_faults = refl;
-          costs = inl refl;
-          tells = (inl refl, refl);
-        };
+    did = nothing_sent BYTE_FORMAT gf8_coding stream priority (way_in to) before;
     tells = tells;
     once = no_failure;
   }

@@ -8,11 +8,10 @@ use Rattle.outside_files.specs.Uses.{Failed}
 use Rattle.outside_files.specs.laws.PrintedLaws.{Rose-before, Rose-since}
 use Rattle.outside_routes.specs.Sending.{Routes}
 use Rattle.outside_routes.specs.Way.{Way}
-use Rattle.packet_session.specs.Session.{Session}
 use Rattle.packet_met.specs.Met.{all_shown, met_in}
 use Rattle.packet_reading.specs.Opened.{IsBoundTo}
 use Rattle.pet_repair.specs.Relays.{DoesRelay, relay_uses, routes_of}
-use Rattle.pet_repair.specs.RelaysSession.{RelaysSession, relayed_datagrams}
+use Rattle.pet_repair.specs.RelaysSession.{relayed_datagrams}
 use Rattle.pet_repair.specs.SentTo.{SentTo}
 use Rattle.pet_repair.specs.declared.relay.RelayEnd.TheVariants as relay
 use Rattle.pet_repair.specs.laws.SessionRelayed.{completes_relay}

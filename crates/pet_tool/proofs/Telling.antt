@@ -129,6 +129,7 @@ usage_told e status before after line known = (
     to (end.Plan x) known is = absurd (known (λ same. cc) is)
     to (end.Check x) known is = absurd (known (λ same. cc) is)
     to (end.Send x) known is = absurd (known (λ same. cc) is)
+    to (end.Bsend x) known is = absurd (known (λ same. cc) is)
     to (end.Receive x) known is = absurd (known (λ same. cc) is)
     to (end.Merge x) known is = absurd (known (λ same. cc) is)
     to (end.Video x) known is = absurd (known (λ same. cc) is)

@@ -22,6 +22,7 @@ use Rattle.stream_session.specs.Accepted.{session_of}
 use Rattle.stream_session.specs.Sessions.{IsGiven, IsGivenWithin, tables_in}
 use Rattle.command_plan.specs.SessionPlan.{session_plan}
 use Rattle.command_send.specs.Sends.{sent_line_text, routes_in}
+use Rattle.command_send.specs.SendsBytes.{SendsAllBytes, IsGivenBytes}
 use Rattle.command_send.specs.SendsSession.{SendsAll, uses}
 use Rattle.outside_routes.specs.RouteFaults.{AimedFailed}
 use Rattle.outside_routes.specs.Way.{Way}
@@ -39,7 +40,7 @@ use Rattle.text_status.specs.declared.status.Status.{Status}
 use Rattle.text_status.specs.declared.status.Status.TheVariants.{Done, BadSystem}
 use Rattle.pet_text.specs.declared.words.Command.{Command}
 use Rattle.pet_text.specs.declared.words.Command.TheVariants.{Plan, Check, Send, Receive, Merge, Video, Unwrap, Wrap}
-use Rattle.pet_text.specs.declared.words.Command.TheVariants.{Migrate, Replay, Sample, Repair, Breceive, Relay}
+use Rattle.pet_text.specs.declared.words.Command.TheVariants.{Migrate, Replay, Sample, Repair, Breceive, Relay, Bsend}
 use Rattle.pet_text.specs.Ends.{way_in}
 use Rattle.pet_tool.specs.ByteHeadline.{ByteHeadline}
 use Rattle.pet_tool.specs.Headline.{MeetsHeadline}
@@ -66,6 +67,13 @@ CompletesSend stream priority to before after status =
     (p b : List ℕ) → IsUndisturbedOn (AimedFailed to) (uses stream priority to) before after status
     → IsGiven before.place stream priority p b
     → SendsAll to p b before after × EndsWith Done (sent_line_text p b) before after status
+
+-- and those of the byte profile, where the two files are a session of it
+abbrev pub CompletesBsend : List ℕ → List ℕ → Way → OutsideSeen → OutsideSeen → Status → Type 0
+CompletesBsend stream priority to before after status =
+    (p b : List ℕ) → IsUndisturbedOn (AimedFailed to) (uses stream priority to) before after status
+    → IsGivenBytes before.place stream priority p b
+    → SendsAllBytes to p b before after × EndsWith Done (sent_line_text p b) before after status
 
 -- two stores of one session are merged into the store of the packets that the one or the other has
 abbrev pub CompletesMerge : List ℕ → List ℕ → List ℕ → OutsideSeen → OutsideSeen → Status → Type 0
@@ -182,6 +190,8 @@ Completes (Some (Check stream priority plan)) before after status =
     CompletesCheck stream priority plan before after status
 Completes (Some (Send stream priority to)) before after status =
     CompletesSend stream priority (way_in to) before after status
+Completes (Some (Bsend stream priority to)) before after status =
+    CompletesBsend stream priority (way_in to) before after status
 Completes (Some (Receive from session layers store)) before after status =
     MeetsHeadline (way_in from) session layers store before after status
 Completes (Some (Merge first second out)) before after status = CompletesMerge first second out before after status

@@ -13,6 +13,7 @@ use Rattle.command_replay.specs.Replays.{Replays}
 use Rattle.command_sample.specs.Samples.{SampleEnds}
 use Rattle.command_sample.specs.SampleSteps.{sample_steps}
 use Rattle.command_send.specs.Sends.{Sends, routes_in}
+use Rattle.command_send.specs.SendsBytes.{SendsBytes}
 use Rattle.command_video.specs.Videos.{Videos}
 use Rattle.mpeg_system.specs.Unwraps.{Unwraps}
 use Rattle.mpeg_system.specs.Wraps.{Wraps}
@@ -24,7 +25,7 @@ use Rattle.text_status.specs.declared.status.Status.{Status}
 use Rattle.text_status.specs.declared.status.Status.TheVariants.{Usage}
 use Rattle.pet_text.specs.declared.words.Command.{Command}
 use Rattle.pet_text.specs.declared.words.Command.TheVariants.{Plan, Check, Send, Receive, Merge, Video, Unwrap, Wrap}
-use Rattle.pet_text.specs.declared.words.Command.TheVariants.{Migrate, Replay, Sample, Repair, Breceive, Relay}
+use Rattle.pet_text.specs.declared.words.Command.TheVariants.{Migrate, Replay, Sample, Repair, Breceive, Relay, Bsend}
 use Rattle.pet_text.specs.Ends.{way_in}
 use Rattle.text_status.specs.Statuses.{fault_text}
 use Rattle.pet_tool.specs.declared.end.End.{End}
@@ -95,6 +96,8 @@ Does (Some (Check stream priority plan)) before after status =
     Runs end.Check (OnRead (λ old new. Checks old new stream priority plan)) before after status
 Does (Some (Send stream priority to)) before after status =
     Runs end.Send (Sends stream priority (way_in to)) before after status
+Does (Some (Bsend stream priority to)) before after status =
+    Runs end.Bsend (SendsBytes stream priority (way_in to)) before after status
 Does (Some (Receive from session layers store)) before after status =
     Runs end.Receive (Receives (way_in from) session layers store) before after status
 Does (Some (Merge first second out)) before after status =

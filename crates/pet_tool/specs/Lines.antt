@@ -34,7 +34,8 @@ use Rattle.pet_text.specs.Lines.{receive_text, merged_text, video_text, unwrappe
 use Rattle.pet_text.specs.Lines.{repaired_text, relay_text}
 use Rattle.pet_tool.specs.declared.end.End.{End}
 use Rattle.pet_tool.specs.declared.end.End.TheVariants.{Usage, NoMemory, Plan, Check, Send, Receive, Merge, Video}
-use Rattle.pet_tool.specs.declared.end.End.TheVariants.{Unwrap, Wrap, Migrate, Replay, Sample, Repair, Breceive, Relay}
+use Rattle.pet_tool.specs.declared.end.End.TheVariants.{Unwrap, Wrap, Migrate, Replay, Sample, Repair, Breceive}
+use Rattle.pet_tool.specs.declared.end.End.TheVariants.{Relay, Bsend}
 
 abbrev pub line_of_plan : PlanEnd → List ℕ
 line_of_plan (plan.Done text) = text.items
@@ -164,6 +165,7 @@ line_of NoMemory = []
 line_of (Plan end) = line_of_plan end
 line_of (Check end) = line_of_check end
 line_of (Send end) = line_of_send end
+line_of (Bsend end) = line_of_send end
 line_of (Receive end) = line_of_receive end
 line_of (Merge end) = line_of_merge end
 line_of (Video end) = line_of_video end

@@ -177,6 +177,7 @@ status_of end.NoMemory = NoMemory
 status_of (end.Plan e) = status_of_plan e
 status_of (end.Check e) = status_of_check e
 status_of (end.Send e) = status_of_send e
+status_of (end.Bsend e) = status_of_send e
 status_of (end.Receive e) = status_of_receive e
 status_of (end.Merge e) = status_of_merge e
 status_of (end.Video e) = status_of_video e

@@ -12,6 +12,7 @@ ghost use Rattle.command_replay.specs.Replays.{Replays};
 ghost use Rattle.command_sample.specs.Samples.{SampleEnds};
 ghost use Rattle.command_sample.specs.SampleSteps.{sample_steps};
 ghost use Rattle.command_send.specs.Sends.{IsOther, Sends};
+ghost use Rattle.command_send.specs.SendsBytes.{SendsBytes};
 ghost use Rattle.command_video.specs.Videos.{Videos};
 ghost use Rattle.mpeg_system.specs.Unwraps.{Unwraps};
 ghost use Rattle.mpeg_system.specs.Wraps.{Wraps};
@@ -34,7 +35,7 @@ use command_plan::{check, plan};
 use command_receive::receive;
 use command_replay::replay;
 use command_sample::sample;
-use command_send::send;
+use command_send::{bsend, send};
 use command_video::video;
 use mpeg_system::{unwrap_loop, wrap_loop};
 use outside_routes::Route;
@@ -74,22 +75,22 @@ pub(crate) fn run_command<P: Place, K: Link, S: Sink, L: Ledger>(
             let to = to.route();
             run_send(alloc, stream.as_str(), priority.as_str(), to, outside)
         }
+        Command::Bsend {
+            stream,
+            priority,
+            to,
+        } => run_bsend(alloc, stream, priority, to.route(), outside),
         Command::Receive {
             from,
             session,
             layers,
             store,
         } => run_receive(alloc, from.route(), *session, layers, store, outside),
-        Command::Merge { first, second, out } => {
-            let out = out.as_str();
-            run_merge(alloc, first.as_str(), second.as_str(), out, outside)
-        }
+        Command::Merge { first, second, out } => run_merge(alloc, first, second, out, outside),
         Command::Video { store, out } => run_video(alloc, store.as_str(), out.as_str(), outside),
         Command::Unwrap { file, id, out } => run_unwrap(alloc, file, *id, out, outside),
         Command::Wrap { file, out } => run_wrap(alloc, file.as_str(), out.as_str(), outside),
-        Command::Migrate { store, out } => {
-            run_migrate(alloc, store.as_str(), out.as_str(), outside)
-        }
+        Command::Migrate { store, out } => run_migrate(alloc, store, out, outside),
         Command::Replay {
             stream,
             priority,
@@ -158,6 +159,24 @@ fn run_send<P: Place, K: Link, S: Sink, L: Ledger>(
     End::Send(send(alloc, stream, priority, to, outside))
 }
 
+/// Runs `bsend`.
+fn run_bsend<P: Place, K: Link, S: Sink, L: Ledger>(
+    alloc: Global,
+    stream: &Name,
+    priority: &Name,
+    to: Route<'_>,
+    outside: &mut Outside<P, K, S, L>,
+) -> End
+    requires differ { IsOther (way_of to) stream.now }
+    ensures does { (told : OutsideSeen) (status : Status) → Tells (line_of result) (status_of result) (seen outside.new) told status
+        → Runs End.Bsend (SendsBytes stream.now priority.now (way_of to.entry)) (seen outside.old) told status }
+    ensures known { result ≢ End.Usage }
+    ensures same { AreSame outside.old outside.new }
+{
+    let (stream, priority) = (stream.as_str(), priority.as_str());
+    End::Bsend(bsend(alloc, stream, priority, to, outside))
+}
+
 /// Runs `receive`.
 fn run_receive<P: Place, K: Link, S: Sink, L: Ledger>(
     alloc: Global,
@@ -179,9 +198,9 @@ fn run_receive<P: Place, K: Link, S: Sink, L: Ledger>(
 /// Runs `merge`.
 fn run_merge<P: Place, K: Link, S: Sink, L: Ledger>(
     alloc: Global,
-    first: &str,
-    second: &str,
-    out: &str,
+    first: &Name,
+    second: &Name,
+    out: &Name,
     outside: &mut Outside<P, K, S, L>,
 ) -> End
     ensures does { (told : OutsideSeen) (status : Status) → Tells (line_of result) (status_of result) (seen outside.new) told status
@@ -189,6 +208,8 @@ fn run_merge<P: Place, K: Link, S: Sink, L: Ledger>(
     ensures known { result ≢ End.Usage }
     ensures same { AreSame outside.old outside.new }
 {
+    let (first, second) = (first.as_str(), second.as_str());
+    let out = out.as_str();
     End::Merge(merge(alloc, first, second, out, outside.place, outside.steps))
 }
 
@@ -243,8 +264,8 @@ fn run_wrap<P: Place, K: Link, S: Sink, L: Ledger>(
 /// Runs `migrate`.
 fn run_migrate<P: Place, K: Link, S: Sink, L: Ledger>(
     alloc: Global,
-    store: &str,
-    out: &str,
+    store: &Name,
+    out: &Name,
     outside: &mut Outside<P, K, S, L>,
 ) -> End
     ensures does { (told : OutsideSeen) (status : Status) → Tells (line_of result) (status_of result) (seen outside.new) told status
@@ -252,6 +273,7 @@ fn run_migrate<P: Place, K: Link, S: Sink, L: Ledger>(
     ensures known { result ≢ End.Usage }
     ensures same { AreSame outside.old outside.new }
 {
+    let (store, out) = (store.as_str(), out.as_str());
     End::Migrate(migrate(alloc, store, out, outside.place))
 }
 

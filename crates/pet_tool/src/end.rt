@@ -38,6 +38,8 @@ pub enum End {
     Check(CheckEnd),
     /// A run of `send`.
     Send(SendEnd),
+    /// A run of `bsend`.
+    Bsend(SendEnd),
     /// A run of `receive`.
     Receive(ReceiveEnd),
     /// A run of `merge`.
@@ -73,6 +75,7 @@ pub(crate) fn end_status(end: &End) -> Status
         End::Plan(end) => plan_status(end),
         End::Check(end) => check_status(end),
         End::Send(end) => send_status(end),
+        End::Bsend(end) => send_status(end),
         End::Receive(end) => receive_status(end),
         End::Merge(end) => merge_status(end),
         End::Video(end) => video_status(end),
@@ -98,6 +101,9 @@ pub(crate) fn end_line<'a>(end: &'a End, room: &'a mut ArrayVec<u8, 64>) -> &'a 
         End::Sample(SampleEnd::Done(text)) => return text.as_slice(),
         End::Check(CheckEnd::Done(groups)) => least_line(*groups, room),
         End::Send(SendEnd::Done(sent)) => {
+            send_line(&sent.session, sent.groups, sent.datagrams, room)
+        }
+        End::Bsend(SendEnd::Done(sent)) => {
             send_line(&sent.session, sent.groups, sent.datagrams, room)
         }
         End::Receive(
@@ -128,6 +134,7 @@ pub(crate) fn end_line<'a>(end: &'a End, room: &'a mut ArrayVec<u8, 64>) -> &'a 
         | End::Plan(_)
         | End::Check(_)
         | End::Send(_)
+        | End::Bsend(_)
         | End::Receive(_)
         | End::Merge(_)
         | End::Video(_)

@@ -51,7 +51,7 @@ pub(crate) fn check_status(end: &CheckEnd) -> Status
     }
 }
 
-/// The status of each end of `send`.
+/// The status of each end of `send` and of `bsend`.
 pub(crate) fn send_status(end: &SendEnd) -> Status
     ensures status { result ≡ status_of_send end.now }
     ensures known { result ≢ Status.Usage }

@@ -134,7 +134,7 @@ fn calls_of(alloc: Global, words: &[&str], object: Object) -> Result<Option<u64>
 /// Words, and how many calls of the link and of the output they come to.
 type Row = (&'static [&'static str], [u64; 2]);
 
-static ROWS: [Row; 18] = [
+static ROWS: [Row; 20] = [
     (&["plan", "s", "f"], [0, 1]),
     (&["check", "s", "f", "p"], [0, 1]),
     (&["send", "s", "f", "file:d"], [0, 1]),
@@ -152,6 +152,8 @@ static ROWS: [Row; 18] = [
     (&["replay", "s", "f", "e"], [0, 1]),
     (&["repair", "a", "file:o"], [0, 1]),
     (&["repair", "b", "udp:x:1"], [7, 1]),
+    (&["bsend", "s", "f", "file:d"], [0, 1]),
+    (&["bsend", "s", "f", "udp:x:1"], [7, 1]),
     (&["breceive", "file:q", "a5ac9461b03bcf36", "l"], [0, 1]),
     (&["relay", "file:q", "a5ac9461b03bcf36", "file:o"], [0, 1]),
     (&["relay", "udp:x:1", "a5ac9461b03bcf36", "file:o"], [8, 2]),

@@ -11,6 +11,8 @@ pub use statuses::bad_line;
 #[cfg(test)]
 mod breceive_run_tests;
 #[cfg(test)]
+mod bsend_run_tests;
+#[cfg(test)]
 mod migrate_tests;
 #[cfg(test)]
 mod relay_run_tests;

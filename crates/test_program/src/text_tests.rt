@@ -38,6 +38,11 @@ fn names_of(command: &Command) -> [&str; 4] {
             priority,
             to,
         } => ["send", stream.as_str(), priority.as_str(), text_of(to)],
+        Command::Bsend {
+            stream,
+            priority,
+            to,
+        } => ["bsend", stream.as_str(), priority.as_str(), text_of(to)],
         Command::Merge { first, second, out } => {
             ["merge", first.as_str(), second.as_str(), out.as_str()]
         }

@@ -31,6 +31,7 @@ fn names_of(command: &Command) -> (&str, &str) {
         Command::Plan { stream, priority } => (stream.as_str(), priority.as_str()),
         Command::Check { stream, plan, .. } => (stream.as_str(), plan.as_str()),
         Command::Send { stream, to, .. } => (stream.as_str(), text_of(to)),
+        Command::Bsend { stream, to, .. } => (stream.as_str(), text_of(to)),
         Command::Receive { from, store, .. } => (text_of(from), store.as_str()),
         Command::Merge { first, out, .. } => (first.as_str(), out.as_str()),
         Command::Video { store, out } | Command::Migrate { store, out } => {
@@ -58,10 +59,11 @@ fn text_of(end: &End) -> &str {
 /// Words, and what they name first and last.
 type Row = (&'static [&'static str], &'static str, &'static str);
 
-static ROWS: [Row; 14] = [
+static ROWS: [Row; 15] = [
     (&["plan", "s", "f"], "s", "f"),
     (&["check", "s", "f", "p"], "s", "p"),
     (&["send", "s", "f", "file:d"], "s", "d"),
+    (&["bsend", "s", "f", "file:d"], "s", "d"),
     (
         &["receive", "udp:x:1", "0001020304050607", "l", "t"],
         "x:1",

@@ -4,12 +4,13 @@ use Rattle.pet_text.specs.declared.form.Form.TheVariants as form
 use Rattle.pet_text.specs.Ends.{end_in}
 use Rattle.pet_text.specs.declared.words.Command.{Command}
 use Rattle.pet_text.specs.declared.words.Command.TheVariants.{Plan, Check, Send, Receive, Merge, Video, Unwrap, Wrap}
-use Rattle.pet_text.specs.declared.words.Command.TheVariants.{Migrate, Replay, Sample, Repair, Breceive, Relay}
+use Rattle.pet_text.specs.declared.words.Command.TheVariants.{Migrate, Replay, Sample, Repair, Breceive, Relay, Bsend}
 
 abbrev pub command_in : Form → Command
 command_in (form.Plan stream priority) = Plan stream.now priority.now
 command_in (form.Check stream priority plan) = Check stream.now priority.now plan.now
 command_in (form.Send stream priority to) = Send stream.now priority.now (end_in to)
+command_in (form.Bsend stream priority to) = Bsend stream.now priority.now (end_in to)
 command_in (form.Receive from session layers store) = Receive (end_in from) session layers.now store.now
 command_in (form.Merge first second out) = Merge first.now second.now out.now
 command_in (form.Video store out) = Video store.now out.now

@@ -9,10 +9,10 @@ use Rattle.pet_text.specs.declared.end.End.{End}
 use Rattle.pet_text.specs.declared.end.End.TheVariants.{File, Udp}
 use Rattle.pet_text.specs.declared.words.Command.{Command}
 use Rattle.pet_text.specs.declared.words.Command.TheVariants.{Plan, Check, Send, Receive, Merge, Video, Unwrap, Wrap}
-use Rattle.pet_text.specs.declared.words.Command.TheVariants.{Migrate, Replay, Sample, Repair, Breceive, Relay}
+use Rattle.pet_text.specs.declared.words.Command.TheVariants.{Migrate, Replay, Sample, Repair, Breceive, Relay, Bsend}
 use Rattle.pet_text.specs.Words.{is_name, digit_of, end_of, session_of, id_of, some_groups, plain_number, groups_of}
 use Rattle.pet_text.specs.Words.{names_files, if_named, send_of, receive_of, unwrap_of, sample_of, repair_of}
-use Rattle.pet_text.specs.Words.{breceive_of, relay_of, command_of}
+use Rattle.pet_text.specs.Words.{breceive_of, relay_of, command_of, bsend_of}
 use Rattle.pet_text.specs.inside.WrittenFiles.{writes_others}
 
 -- the id of `unwrap` is that of a video, from E0 to EF, and the groups of `sample` are from 1 to 100
@@ -92,6 +92,10 @@ module _ (c : Command) where
   by_send first second None e = by_none e
   by_send first second (Some to) e = by_named (Send first second to) tt e
 
+  by_bsend : (first second : List ℕ) (end : Option End) → bsend_of first second end ≡ Some c → HasForm c
+  by_bsend first second None e = by_none e
+  by_bsend first second (Some to) e = by_named (Bsend first second to) tt e
+
   by_receive : (from : Option End) (session : Option (List ℕ)) (layers store : List ℕ)
       → receive_of from session layers store ≡ Some c → HasForm c
   by_receive None session layers store e = by_none e
@@ -147,12 +151,13 @@ module _ (c : Command) where
   has_form (word ∷ first ∷ second ∷ third ∷ []) e =
       either (bytes_eq word (codes "check")) _ _ (by_named (Check first second third) tt)
       (either (bytes_eq word (codes "send")) _ _ (by_send first second (end_of 1 third))
+      (either (bytes_eq word (codes "bsend")) _ _ (by_bsend first second (end_of 1 third))
       (either (bytes_eq word (codes "merge")) _ _ (by_named (Merge first second third) tt)
       (either (bytes_eq word (codes "unwrap")) _ _ (by_unwrap first (id_of second) third (video_id_of second))
       (either (bytes_eq word (codes "replay")) _ _ (by_named (Replay first second third) tt)
       (either (bytes_eq word (codes "breceive")) _ _ (by_breceive (end_of 0 first) (session_of second) third)
       (either (bytes_eq word (codes "relay")) _ _ (by_relay (end_of 0 first) (session_of second) (end_of 1 third))
-      by_none))))))
+      by_none)))))))
       e
   has_form (word ∷ first ∷ second ∷ third ∷ fourth ∷ []) e =
       either (bytes_eq word (codes "receive")) _ _
@@ -169,6 +174,9 @@ others (Plan stream priority) e = refl
 others (Check stream priority plan) e = refl
 others (Send stream priority (Udp address)) e = refl
 others (Send stream priority (File to)) e =
+    behind stream priority (not (bytes_eq to stream) && not (bytes_eq to priority)) e
+others (Bsend stream priority (Udp address)) e = refl
+others (Bsend stream priority (File to)) e =
     behind stream priority (not (bytes_eq to stream) && not (bytes_eq to priority)) e
 others (Receive (File from) session layers store) e =
     behind layers store (not (bytes_eq from layers) && (not (bytes_eq from store) && not (bytes_eq layers store))) e
@@ -206,3 +214,11 @@ send_differs stream priority to words e =
     not_true (bytes_eq to stream)
     (and_parts (not (bytes_eq to stream)) (not (bytes_eq to priority))
     (written_differ (Send stream priority (File to)) words e)).0
+
+-- and so is that of `bsend`
+pub bsend_differs : (stream priority to : List ℕ) (words : List (List ℕ))
+    → command_of words ≡ Some (Bsend stream priority (File to)) → bytes_eq to stream ≡ false
+bsend_differs stream priority to words e =
+    not_true (bytes_eq to stream)
+    (and_parts (not (bytes_eq to stream)) (not (bytes_eq to priority))
+    (written_differ (Bsend stream priority (File to)) words e)).0

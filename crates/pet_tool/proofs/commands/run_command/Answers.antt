@@ -1,9 +1,11 @@
-use Rattle.std.proofs.Common.{Some, sym, subst}
-use Rattle.outside_routes.specs.Way.{way_of}
+use Rattle.std.proofs.Common.{Some, refl, sym, subst}
+use Rattle.outside_routes.specs.Way.{Way, way_of}
 use Rattle.pet_base.specs.Lent.{seen}
 use Rattle.pet_text.specs.declared.words.Command.{Command}
-use Rattle.pet_tool.specs.Does.{Does}
-use Rattle.pet_tool.proofs.WordsRead.{differs_in, groups_in, video_id_in}
+use Rattle.command_send.specs.SendsBytes.{SendsBytes}
+use Rattle.pet_tool.specs.Does.{Does, Runs}
+use Rattle.pet_tool.specs.declared.end.End.TheVariants.{Bsend}
+use Rattle.pet_tool.proofs.WordsRead.{bytes_differ_in, differs_in, groups_in, video_id_in}
 use Rattle.pet_tool.proofs.commands.run_command.Goals as goal
 
 pub run_send-requires : goal.run_send-requires
@@ -12,6 +14,13 @@ run_send-requires g c = record {
       differs_in c.requires.given.0 c.args.command.now c.in-Send.stream c.in-Send.priority c.as_str-in-Send.result.now
       (way_of c.route-to.result) c.in-Send.to
       c.requires.given.1 c.in-Send.is c.as_str-in-Send.ensures c.route-to.ensures;
+}
+
+pub run_bsend-requires : goal.run_bsend-requires
+run_bsend-requires g c = record {
+  differ =
+      bytes_differ_in c.requires.given.0 c.args.command.now c.in-Bsend.stream c.in-Bsend.priority c.in-Bsend.stream
+      (way_of c.route.result) c.in-Bsend.to c.requires.given.1 c.in-Bsend.is refl c.route.ensures;
 }
 
 pub run_unwrap-requires : goal.run_unwrap-requires
@@ -47,3 +56,19 @@ pub returns-in-Replay-clause-does : goal.returns-in-Replay-clause-does
 returns-in-Replay-clause-does g c told status tells =
     subst (λ (command : Command). Does (Some command) (seen c.args.outside.now) told status) (sym c.in-Replay.is)
     (c.run_replay.ensures.does told status tells)
+
+pub returns-in-Bsend-clause-does : goal.returns-in-Bsend-clause-does
+returns-in-Bsend-clause-does g c told status tells =
+    subst (λ (command : Command). Does (Some command) (seen c.args.outside.now) told status) (sym c.in-Bsend.is)
+    (subst (λ (to : Way). Runs Bsend (SendsBytes c.in-Bsend.stream c.in-Bsend.priority to) (seen c.args.outside.now) told
+    status) c.route.ensures (c.run_bsend.ensures.does told status tells))
+
+pub returns-in-Merge-clause-does : goal.returns-in-Merge-clause-does
+returns-in-Merge-clause-does g c told status tells =
+    subst (λ (command : Command). Does (Some command) (seen c.args.outside.now) told status) (sym c.in-Merge.is)
+    (c.run_merge.ensures.does told status tells)
+
+pub returns-in-Migrate-clause-does : goal.returns-in-Migrate-clause-does
+returns-in-Migrate-clause-does g c told status tells =
+    subst (λ (command : Command). Does (Some command) (seen c.args.outside.now) told status) (sym c.in-Migrate.is)
+    (c.run_migrate.ensures.does told status tells)
