@@ -1,16 +1,13 @@
-//! The texts of the program: the command words that it takes, the lines of `check`, `send`, `receive`, `merge`, `video`,
-//! `unwrap`, `wrap`, `migrate`, `repair` and `relay`; and, given out again, the statuses of `text_status`, the text of `plan` of `text_plan`, the
-//! script of `text_script`, the lines of `replay` and `sample` of `text_world`, the stream of `sample` of `stream_sample`,
-//! and the line of a link's port of `outside_routes`.
+//! The texts of the program: the command words that it takes; and, given out again, the lines that the commands print, of
+//! `text_answers`, the statuses of `text_status`, the text of `plan` of `text_plan`, the script of `text_script`, the lines of `replay`
+//! and `sample` of `text_world`, the stream of `sample` of `stream_sample`, and the line of a link's port of `outside_routes`.
 //!
-//! `read_words` reads exactly the words of a form. `least_line` and the other calls for the line of a command, which take no memory,
-//! leave exactly the defined one.
+//! `read_words` reads exactly the words of a form, and `read_keep_words` those of `pet-keep`.
 #![tactic(auto)]
 
 mod end;
 mod form;
 mod keep_words;
-mod lines;
 mod name;
 mod numbers;
 mod session;
@@ -18,14 +15,14 @@ mod words;
 
 pub use end::End;
 pub use keep_words::{KeepWords, read_keep_words};
-pub use lines::{
-    least_line, merged_line, migrated_line, receive_line, relay_line, repaired_line, send_line,
-    unwrapped_line, video_line, wrapped_line,
-};
 pub use name::Name;
 pub use outside_routes::bound_line;
 pub use stream_sample::sample_stream;
 pub use stream_session::GroupMark;
+pub use text_answers::{
+    least_line, merged_line, migrated_line, receive_line, relay_line, repaired_line, send_line,
+    unwrapped_line, video_line, wrapped_line,
+};
 pub use text_plan::{
     PlanFault, Repeat, lengths_line, plan_group_line, plan_layer_line, plan_session_line, read_plan,
 };

@@ -1,7 +1,7 @@
 //! The printed lines. None of these calls takes memory.
 ghost use Rattle.std.specs.Prelude.{◌≡◌, []};
 ghost use Rattle.text_plan.specs.PlanLines.{least_text, send_text};
-ghost use Rattle.pet_text.specs.Lines.{receive_text, merged_text, video_text, unwrapped_text, wrapped_text, migrated_text, repaired_text, relay_text};
+ghost use Rattle.text_answers.specs.Lines.{receive_text, merged_text, video_text, unwrapped_text, wrapped_text, migrated_text, repaired_text, relay_text};
 
 use arrayvec::ArrayVec;
 use text_pieces::{append_count, append_session, append_text, number_line};
