@@ -16,6 +16,8 @@ mod ends_tests;
 #[cfg(test)]
 mod field_tests;
 #[cfg(test)]
+mod keep_tests;
+#[cfg(test)]
 mod packet_tests;
 #[cfg(test)]
 mod plan_tests;
