@@ -9,6 +9,8 @@ mod watch;
 pub use watch::{Watch, Watched};
 
 #[cfg(test)]
+mod cut_tests;
+#[cfg(test)]
 mod every_call_tests;
 #[cfg(test)]
 mod example;
