@@ -1,7 +1,7 @@
 //! The example session as the files that commands read and write. Records, tags and the wrapped stream were made outside.
 use pet_base::{MemoryPlace, NoMemory};
 use std::alloc::{AllocError, Global};
-use test_example::{PLAN, PRIORITIES, SESSION, STREAM, old_store, packets};
+use test_example::{PLAN, PRIORITIES, SESSION, STREAM, byte_packets, old_store, packets};
 
 /// The store of the example session that has no packet.
 pub(crate) const NOTHING: [u8; 32] = [
@@ -43,6 +43,8 @@ pub(crate) enum Text {
     NoPacket,
     /// The entries of all packets.
     Datagrams,
+    /// Those of the byte profile.
+    ByteDatagrams,
     /// The records of all layers.
     Layers,
     /// The store of all packets.
@@ -58,6 +60,7 @@ pub(crate) fn bytes_of(alloc: Global, text: Text) -> Result<Vec<u8>, AllocError>
         Text::Empty => Ok(Vec::new(alloc)),
         Text::NoPacket => Vec::from_slice(alloc, &NOTHING),
         Text::Datagrams => entries(alloc),
+        Text::ByteDatagrams => byte_entries(alloc),
         Text::Layers => Vec::from_slice(alloc, &LAYERS),
         Text::Store => store(alloc),
         Text::Wrapped => Vec::from_slice(alloc, &WRAPPED),
@@ -74,6 +77,15 @@ fn entries(alloc: Global) -> Result<Vec<u8>, AllocError> {
     Ok(bytes)
 }
 
+/// The packets of the byte profile, as a datagram file has them.
+fn byte_entries(alloc: Global) -> Result<Vec<u8>, AllocError> {
+    let mut bytes = Vec::new(alloc);
+    for packet in byte_packets().iter() {
+        bytes.extend_from_slice(packet)?;
+    }
+    Ok(bytes)
+}
+
 /// The store of all packets.
 fn store(alloc: Global) -> Result<Vec<u8>, AllocError> {
     let mut bytes = Vec::from_slice(alloc, b"PTS2")?;
@@ -85,10 +97,10 @@ fn store(alloc: Global) -> Result<Vec<u8>, AllocError> {
 }
 
 /// The names of `files`.
-pub(crate) const NAMES: [&str; 9] = ["s", "f", "p", "a", "b", "m", "q", "e", "w"];
+pub(crate) const NAMES: [&str; 10] = ["s", "f", "p", "a", "b", "m", "q", "y", "e", "w"];
 
-/// The files of the example: stream, priorities, plan, a store of no packet, one of all, one of the first version of all, datagrams, a
-/// script, and the stream wrapped. The calls of these numbers fail.
+/// The files of the example: stream, priorities, plan, a store of no packet, one of all, one of the first version of all, datagrams,
+/// those of the byte profile, a script, and the stream wrapped. The calls of these numbers fail.
 pub(crate) fn files(alloc: Global, failing: Vec<u64>) -> Result<MemoryPlace, NoMemory> {
     let mut place = MemoryPlace::new(alloc, failing);
     place.add("s", &STREAM)?;
@@ -98,6 +110,7 @@ pub(crate) fn files(alloc: Global, failing: Vec<u64>) -> Result<MemoryPlace, NoM
     place.add("b", &store(alloc)?)?;
     place.add("m", &old_store())?;
     place.add("q", &entries(alloc)?)?;
+    place.add("y", &byte_entries(alloc)?)?;
     place.add("e", b"give A 0 0\n")?;
     place.add("w", &WRAPPED)?;
     Ok(place)
