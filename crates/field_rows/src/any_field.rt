@@ -79,6 +79,35 @@ pub(crate) fn multiply_each<F: Field, L: Ledger>(
     }
 }
 
+/// Adds to row j of `rows` the multiple of `row` by element j of `by`, product by product; later rows stay. It counts one step
+/// for each.
+pub fn add_each<F: Field, L: Ledger>(
+    f: &F,
+    by: &[F::Elem],
+    row: &[F::Elem],
+    rows: &mut [F::Elem],
+    steps: &mut Steps<L>,
+)
+    requires room { length by.now * length row.now ≤ length rows.old }
+    requires factors { All F.is_element by.now }
+    requires row { All F.is_element row.now }
+    requires elements { All F.is_element rows.old }
+    ensures sums { (j c : ℕ) → j < length by.now → c < length row.now →
+        slice_index_or rows.new (j * length row.now + c) F.coding.ops.nought
+        ≡ F.coding.ops.plus (slice_index_or rows.old (j * length row.now + c) F.coding.ops.nought)
+        (F.coding.ops.times (slice_index_or by.now j F.coding.ops.nought) (slice_index_or row.now c F.coding.ops.nought)) }
+    ensures others { (i : ℕ) → length by.now * length row.now ≤ i
+        → slice_index_or rows.new i F.coding.ops.nought ≡ slice_index_or rows.old i F.coding.ops.nought }
+    ensures elements { All F.is_element rows.new }
+    ensures cost { steps.new ≡ steps.old + length by.now * length row.now }
+{
+    let mut at = 0;
+    for j in 0..by.len() {
+        add_scaled_at(f, by[j], row, rows, at, steps);
+        at += row.len();
+    }
+}
+
 /// Adds `by` times `row` to the elements of `rows` from `at` on; the others stay. It counts one step
 /// for each element of `row`.
 pub(crate) fn add_scaled_at<F: Field, L: Ledger>(

@@ -27,6 +27,12 @@ pub trait Rows: Field {
     fn element(&self, factor: &Self::Factor) -> Self::Elem
         ensures { result ≡ element_of factor.now };
 
+    /// Whether rows of so many columns are better taken product by product, so that no factor is prepared for them. It is asked
+    /// for speed alone: whatever it answers, the sums are the same.
+    fn is_narrow(&self, _width: usize) -> bool {
+        false
+    }
+
     /// The value at the factor of each column of `count` rows, each as long as `into`. It counts one step for
     /// each element of the rows.
     fn values<L: Ledger>(

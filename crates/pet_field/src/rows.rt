@@ -7,7 +7,6 @@ use crate::tables::Gf16Tables;
 use field_rows::{Rows, each_column};
 use field_vectors::{Products, add_multiples, column_values, count_steps, scale_row};
 use pet_base::Steps;
-use pet_poly::add_scaled;
 use std::sync::ledger::Ledger;
 
 /// Below so many columns the products one by one are faster than a row of vectors, of which most would be empty.
@@ -26,6 +25,10 @@ impl Rows for Gf16Tables {
         factor.factor
     }
 
+    fn is_narrow(&self, width: usize) -> bool {
+        width < NARROW
+    }
+
     fn values<L: Ledger>(
         &self,
         rows: &[u16],
@@ -34,7 +37,7 @@ impl Rows for Gf16Tables {
         into: &mut [u16],
         steps: &mut Steps<L>,
     ) {
-        if into.len() < NARROW {
+        if self.is_narrow(into.len()) {
             each_column(self, rows, count, x.factor, into, steps);
         } else {
             count_steps(steps, rows.len());
@@ -54,37 +57,7 @@ impl Rows for Gf16Tables {
         rows: &mut [u16],
         steps: &mut Steps<L>,
     ) {
-        if row.len() < NARROW {
-            add_each(self, factors, row, rows, steps);
-        } else {
-            count_steps(steps, factors.len() * row.len());
-            add_multiples(factors, row, rows);
-        }
-    }
-}
-
-/// Adds to row j of a block the multiple of `row` by the factor of `factors[j]`, product by product. It counts one step for
-/// each.
-fn add_each<L: Ledger>(
-    f: &Gf16Tables,
-    factors: &[Products],
-    row: &[u16],
-    rows: &mut [u16],
-    steps: &mut Steps<L>,
-)
-    requires room { length factors.now * length row.now ≤ length rows.old }
-    ensures sums { (j c : ℕ) → j < length factors.now → c < length row.now →
-        slice_index rows.new (j * length row.now + c)
-        ≡ bit_xor (slice_index rows.old (j * length row.now + c))
-        (gf16.times (slice_index (factors_of factors.now) j) (slice_index row.now c)) }
-    ensures others { (i : ℕ) → length factors.now * length row.now ≤ i
-        → slice_index rows.new i ≡ slice_index rows.old i }
-    ensures cost { steps.new ≡ steps.old + length factors.now * length row.now }
-{
-    let mut at = 0;
-    for j in 0..factors.len() {
-        let end = at + row.len();
-        add_scaled(f, &mut rows[at..end], row, factors[j].factor, steps);
-        at = end;
+        count_steps(steps, factors.len() * row.len());
+        add_multiples(factors, row, rows);
     }
 }

@@ -175,12 +175,11 @@ grown_more o met from first part (s ∷ ss) e l =
     ap₂ ◌∷◌ (grown_twice o met from first part s e l) (grown_more o met from first part ss e l)
 
 -- the multiples by the factors of one part more
-pub grown_part : {E F : Type 0} (o : Operations E) (met from n : ℕ) (element : F → E) (product : List E)
-    (given : List F) (ss now new : List (List E))
-    → map element given ≡ take n (drop from product) → from ≤ length product → from ≤ met
-    → new ≡ map (grown o met from (map element given)) now → now ≡ map (grown_to o met (take from product)) ss
+pub grown_part : {E : Type 0} (o : Operations E) (met from n : ℕ) (product by : List E) (ss now new : List (List E))
+    → by ≡ take n (drop from product) → from ≤ length product → from ≤ met
+    → new ≡ map (grown o met from by) now → now ≡ map (grown_to o met (take from product)) ss
     → new ≡ map (grown_to o met (take (from + n) product)) ss
-grown_part o met from n element product given ss now new part l m made done =
+grown_part o met from n product by ss now new part l m made done =
     made ∙ ap (λ p. map (grown o met from p) now) part ∙ ap (map (grown o met from (take n (drop from product)))) done
     ∙ grown_more o met from (take from product) (take n (drop from product)) ss (length-take-le from product l) m
     ∙ ap (λ t. map (grown_to o met t) ss) (sym (take-add from n product))

@@ -1,5 +1,5 @@
 //! A block of a progressive state: adjacent stripes of one length.
-ghost use Rattle.std.specs.Prelude.{◌≡◌, ◌≢◌, ℕ, ◌+◌, ◌*◌, ◌-◌, ◌<◌, ◌≤◌, ◌&&◌, ◌==◌, List, [], false, length, map, All, IfOk, slice_index_or, nat_lt};
+ghost use Rattle.std.specs.Prelude.{◌≡◌, ◌≢◌, ℕ, ◌+◌, ◌*◌, ◌-◌, ◌<◌, ◌≤◌, ◌&&◌, ◌==◌, List, [], false, length, map, All, IfOk, IfSome, slice_index_or, nat_lt};
 ghost use Rattle.field_rows.specs.declared.blocks.TheConstants.{MAX_WIDTH};
 ghost use Rattle.pet_poly.specs.Rows.{words};
 ghost use Rattle.pet_interp.specs.Progressive.{longer_than};
@@ -113,23 +113,30 @@ impl<F: Rows> StripeBlock<F> {
         }
     }
 
-    /// Adds to the places from `from` on the multiples of these factors, if the stripes are longer than `met`.
+    /// Whether its rows go by prepared factors.
+    pub(crate) fn is_wide(&self, f: &F) -> bool {
+        !f.is_narrow(self.width)
+    }
+
+    /// Adds to the places from `from` on the multiples by these elements, if the stripes are longer than `met`.
     pub(crate) fn add_multiples<L: Ledger>(
         &mut self,
         f: &F,
         met: usize,
         from: usize,
-        factors: &[F::Factor],
+        by: &[F::Elem],
+        factors: Option<&[F::Factor]>,
         steps: &mut Steps<L>,
     )
         requires waits { self.old.waits ≡ nat_lt met self.old.size }
-        requires room { from + length factors.now ≤ met }
-        requires factors { All F.is_element (map F.element_of factors.now) }
+        requires room { from + length by.now ≤ met }
+        requires by { All F.is_element by.now }
+        requires factors { IfSome factors (λ them. map F.element_of them.now ≡ by.now) }
         ensures size { self.new.size ≡ self.old.size }
         ensures waits { self.new.waits ≡ self.old.waits }
         ensures each { All (λ s. (length s ≡ self.new.size) × All F.is_element s) self.new.stripes }
-        ensures stripes { self.new.stripes ≡ map (grown F.coding.ops met from (map F.element_of factors.now)) self.old.stripes }
-        ensures cost { steps.new ≡ steps.old + longer_than met (map length self.old.stripes) * length factors.now }
+        ensures stripes { self.new.stripes ≡ map (grown F.coding.ops met from by.now) self.old.stripes }
+        ensures cost { steps.new ≡ steps.old + longer_than met (map length self.old.stripes) * length by.now }
     {
         if met < self.size {
             add_rows(
@@ -139,6 +146,7 @@ impl<F: Rows> StripeBlock<F> {
                 self.width,
                 met,
                 from,
+                by,
                 factors,
                 steps,
             );

@@ -1,5 +1,5 @@
 //! One more point for all the stripes of a progressive state.
-ghost use Rattle.std.specs.Prelude.{◌≡◌, ◌≢◌, ℕ, ◌+◌, ◌*◌, ◌-◌, ◌<◌, ◌≤◌, ◌++◌, length, take, drop, All, map};
+ghost use Rattle.std.specs.Prelude.{◌≡◌, ◌≢◌, ℕ, ◌+◌, ◌*◌, ◌-◌, ◌<◌, ◌≤◌, ◌++◌, length, take, drop, All, IfSome, IsTrue, map};
 ghost use Rattle.pet_poly.specs.Value.{value_monic};
 ghost use Rattle.pet_poly.specs.InPlace.{linear_product};
 ghost use Rattle.pet_poly.specs.Rows.{words};
@@ -87,7 +87,8 @@ fn begin<F: Rows, L: Ledger>(
     }
 }
 
-/// Adds the multiples of the product, by as many of its coefficients at once as there are factors.
+/// Adds the multiples of the product, by as many of its coefficients at once as there are factors. These are prepared where a block
+/// is wide.
 fn add_product<F: Rows, L: Ledger>(
     f: &F,
     blocks: &mut [StripeBlock<F>],
@@ -104,45 +105,53 @@ fn add_product<F: Rows, L: Ledger>(
     ensures cost { steps.new ≡ steps.old + longer_than (length product.now) (map length (stripes_in blocks.old)) * length product.now }
 {
     let met = product.len();
+    let is_wide = blocks.iter().any(|block| block.is_wide(f));
     let mut from = 0;
     while from < met {
         let count = (met - from).min(factors.len());
-        prepare(f, &product[from..from + count], &mut factors[..count]);
-        add_part(f, blocks, met, from, &factors[..count], steps);
+        let by = &product[from..from + count];
+        prepare(f, is_wide, by, &mut factors[..count]);
+        let prepared = is_wide.then_some(&factors[..count]);
+        add_part(f, blocks, met, from, by, prepared, steps);
         from += count;
     }
 }
 
-/// Prepares a factor for each element.
-fn prepare<F: Rows>(f: &F, elements: &[F::Elem], factors: &mut [F::Factor])
+/// Prepares a factor for each element, where a block is wide.
+fn prepare<F: Rows>(f: &F, is_wide: bool, elements: &[F::Elem], factors: &mut [F::Factor])
     requires long { length elements.now ≡ length factors.old }
     requires elements { All F.is_element elements.now }
-    ensures { map F.element_of factors.new ≡ elements.now }
+    ensures { IsTrue is_wide → map F.element_of factors.new ≡ elements.now }
 {
+    if !is_wide {
+        return;
+    }
     for i in 0..elements.len() {
         factors[i] = f.prepare(elements[i]);
     }
 }
 
-/// Adds to the places from `from` on the multiples of these factors.
+/// Adds to the places from `from` on the multiples by these elements.
 fn add_part<F: Rows, L: Ledger>(
     f: &F,
     blocks: &mut [StripeBlock<F>],
     met: usize,
     from: usize,
-    factors: &[F::Factor],
+    by: &[F::Elem],
+    factors: Option<&[F::Factor]>,
     steps: &mut Steps<L>,
 )
     requires blocks { (room : ℕ) × All (IsBlock F.is_element met room) blocks.old }
-    requires room { from + length factors.now ≤ met }
-    requires factors { All F.is_element (map F.element_of factors.now) }
+    requires room { from + length by.now ≤ met }
+    requires by { All F.is_element by.now }
+    requires factors { IfSome factors (λ them. map F.element_of them.now ≡ by.now) }
     ensures blocks { (room : ℕ) → All (IsBlock F.is_element met room) blocks.old
         → All (IsBlock F.is_element met room) blocks.new }
-    ensures stripes { stripes_in blocks.new ≡ map (grown F.coding.ops met from (map F.element_of factors.now)) (stripes_in blocks.old) }
-    ensures cost { steps.new ≡ steps.old + longer_than met (map length (stripes_in blocks.old)) * length factors.now }
+    ensures stripes { stripes_in blocks.new ≡ map (grown F.coding.ops met from by.now) (stripes_in blocks.old) }
+    ensures cost { steps.new ≡ steps.old + longer_than met (map length (stripes_in blocks.old)) * length by.now }
 {
     for i in 0..blocks.len() {
-        blocks[i].add_multiples(f, met, from, factors, steps);
+        blocks[i].add_multiples(f, met, from, by, factors, steps);
     }
 }
 

@@ -1,12 +1,12 @@
 //! One more point for the rows of a block.
-ghost use Rattle.std.specs.Prelude.{◌≡◌, ℕ, ◌+◌, ◌*◌, ◌<◌, ◌≤◌, length, map, All, slice_index_or};
+ghost use Rattle.std.specs.Prelude.{◌≡◌, ℕ, ◌+◌, ◌*◌, ◌<◌, ◌≤◌, length, map, All, IfSome, slice_index_or};
 ghost use Rattle.field_rows.specs.declared.blocks.TheConstants.{MAX_WIDTH};
 ghost use Rattle.pet_poly.specs.Rows.{words};
 ghost use Rattle.field_rows.specs.Columns.{column};
 ghost use Rattle.pet_interp.specs.inside.Lifted.{begun, grown};
 
 use field_elements::Field;
-use field_rows::Rows;
+use field_rows::{Rows, add_each};
 use pet_base::Steps;
 use std::sync::ledger::Ledger;
 
@@ -71,22 +71,62 @@ pub(crate) fn add_rows<F: Rows, L: Ledger>(
     width: usize,
     met: usize,
     from: usize,
-    factors: &[F::Factor],
+    by: &[F::Elem],
+    factors: Option<&[F::Factor]>,
     steps: &mut Steps<L>,
 )
     requires narrow { width ≤ MAX_WIDTH }
     requires whole { length rows.old ≡ count * width }
     requires longer { met < count }
-    requires room { from + length factors.now ≤ met }
+    requires room { from + length by.now ≤ met }
     requires elements { All F.is_element rows.old }
-    requires factors { All F.is_element (map F.element_of factors.now) }
+    requires by { All F.is_element by.now }
+    requires factors { IfSome factors (λ them. map F.element_of them.now ≡ by.now) }
     ensures columns { (c : ℕ) → c < width →
         column F.coding.ops.nought width count c rows.new
-        ≡ grown F.coding.ops met from (map F.element_of factors.now)
+        ≡ grown F.coding.ops met from by.now
         (column F.coding.ops.nought width count c rows.old) }
     ensures elements { All F.is_element rows.new }
-    ensures cost { steps.new ≡ steps.old + width * length factors.now }
+    ensures cost { steps.new ≡ steps.old + width * length by.now }
 {
     let (low, rest) = rows.split_at_mut(met * width);
-    f.add_products(factors, &rest[..width], &mut low[from * width..], steps);
+    add_products(
+        f,
+        by,
+        factors,
+        &rest[..width],
+        &mut low[from * width..],
+        steps,
+    );
+}
+
+/// Adds to row j of `rows` the multiple of `row` by element j of `by`; later rows stay. A row that is not narrow goes by factors,
+/// where these are prepared.
+fn add_products<F: Rows, L: Ledger>(
+    f: &F,
+    by: &[F::Elem],
+    factors: Option<&[F::Factor]>,
+    row: &[F::Elem],
+    rows: &mut [F::Elem],
+    steps: &mut Steps<L>,
+)
+    requires narrow { length row.now ≤ MAX_WIDTH }
+    requires room { length by.now * length row.now ≤ length rows.old }
+    requires by { All F.is_element by.now }
+    requires factors { IfSome factors (λ them. map F.element_of them.now ≡ by.now) }
+    requires row { All F.is_element row.now }
+    requires elements { All F.is_element rows.old }
+    ensures sums { (j c : ℕ) → j < length by.now → c < length row.now →
+        slice_index_or rows.new (j * length row.now + c) F.coding.ops.nought
+        ≡ F.coding.ops.plus (slice_index_or rows.old (j * length row.now + c) F.coding.ops.nought)
+        (F.coding.ops.times (slice_index_or by.now j F.coding.ops.nought) (slice_index_or row.now c F.coding.ops.nought)) }
+    ensures others { (i : ℕ) → length by.now * length row.now ≤ i
+        → slice_index_or rows.new i F.coding.ops.nought ≡ slice_index_or rows.old i F.coding.ops.nought }
+    ensures elements { All F.is_element rows.new }
+    ensures cost { steps.new ≡ steps.old + length by.now * length row.now }
+{
+    match factors {
+        Some(factors) if !f.is_narrow(row.len()) => f.add_products(factors, row, rows, steps),
+        _ => add_each(f, by, row, rows, steps),
+    }
 }

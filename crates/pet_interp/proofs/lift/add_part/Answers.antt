@@ -22,7 +22,7 @@ loop-i-preserved g c =
     let new = c.add_multiples.new.self in
     let inv = c.loop-i.invariant in
     let did = c.add_multiples.ensures in
-    let G = grown g.F.Field.coding.ops met c.args.from (map g.F.Rows.element_of c.args.factors.now) in
+    let G = grown g.F.Field.coding.ops met c.args.from c.args.by.now in
     let few0 : i < length old = c.loop-i-test.true in
     let few : i < length now = omega (arith, inv.long) in
     let same = block_ahead now old i b no_block few inv.rest in
@@ -38,7 +38,7 @@ loop-i-preserved g c =
           ∙ ap (map G) (sym (stripes_more old i few0));
       rest = rest_more now old i new inv.rest;
       cost =
-          cost_block met (length c.args.factors.now) now old i b c.args.steps.now c.loop-i.steps
+          cost_block met (length c.args.by.now) now old i b c.args.steps.now c.loop-i.steps
           c.add_multiples.new.steps few0 same inv.cost did.cost;
     }
 
@@ -50,11 +50,11 @@ returns-clause-blocks g c = c.loop-i.invariant.blocks
 
 pub returns-clause-stripes : goal.returns-clause-stripes
 returns-clause-stripes g c =
-    all_stripes (map (grown g.F.Field.coding.ops c.args.met c.args.from (map g.F.Rows.element_of c.args.factors.now)))
+    all_stripes (map (grown g.F.Field.coding.ops c.args.met c.args.from c.args.by.now))
     c.loop-i.blocks c.args.blocks.now c.loop-i.i c.loop-i.invariant.long
     c.loop-i-test.false c.loop-i.invariant.done
 
 pub returns-clause-cost : goal.returns-clause-cost
 returns-clause-cost g c =
-    all_cost c.args.met (length c.args.factors.now) c.args.steps.now c.loop-i.steps c.args.blocks.now c.loop-i.i
+    all_cost c.args.met (length c.args.by.now) c.args.steps.now c.loop-i.steps c.args.blocks.now c.loop-i.i
     c.loop-i-test.false c.loop-i.invariant.cost

@@ -10,9 +10,9 @@ invariant-loop-i g l = record {
   blocks : (room : ℕ) → All (IsBlock g.F.Field.is_element l.met room) l.initial.blocks
       → All (IsBlock g.F.Field.is_element l.met room) l.blocks;
   done : stripes_in (take l.i l.blocks)
-      ≡ map (grown g.F.Field.coding.ops l.met l.from (map g.F.Rows.element_of l.factors))
+      ≡ map (grown g.F.Field.coding.ops l.met l.from l.by)
       (stripes_in (take l.i l.initial.blocks));
   rest : drop l.i l.blocks ≡ drop l.i l.initial.blocks;
   cost : l.steps
-      ≡ l.initial.steps + longer_than l.met (map length (stripes_in (take l.i l.initial.blocks))) * length l.factors;
+      ≡ l.initial.steps + longer_than l.met (map length (stripes_in (take l.i l.initial.blocks))) * length l.by;
 }

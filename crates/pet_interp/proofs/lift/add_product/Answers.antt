@@ -1,6 +1,6 @@
 use Rattle.std.proofs.Common.{◌≡◌, ◌∙◌, ℕ, ◌+◌, ◌-◌, ◌≤◌, List, ◌++◌, length, map, take, drop, ap, sym, arith, refl}
 use Rattle.std.proofs.lemmas.List.{length-append, length-drop, length-take-le, take_all, take_at}
-use Rattle.std.proofs.lemmas.List.Elements.{All-take, All-drop, All-same}
+use Rattle.std.proofs.lemmas.List.Elements.{All-take, All-drop}
 use Rattle.pet_interp.specs.Progressive.{longer_than}
 use Rattle.pet_interp.specs.Blocks.{stripes_in}
 use Rattle.pet_interp.specs.inside.Lifted.{grown_to}
@@ -30,7 +30,6 @@ add_part-requires-clause-blocks g c =
 pub loop-from-preserved : goal.loop-from-preserved
 loop-from-preserved g c =
     let o = g.F.Field.coding.ops in
-    let element = g.F.Rows.element_of in
     let product = c.args.product.now in
     let met = length product in
     let from = c.loop-from.from in
@@ -38,30 +37,30 @@ loop-from-preserved g c =
     let factors = c.loop-from.factors in
     let inv = c.loop-from.invariant in
     let prepared = c.prepare.new.factors in
-    let given = take n (prepared ++ drop n factors) in
     let now = stripes_in c.loop-from.blocks in
     let ss = stripes_in c.args.blocks.now in
     let fits : n ≤ length factors = omega arith in
-    let used : given ≡ prepared = part_taken n prepared factors c.prepare.auto.factors fits in
     let long : length prepared ≡ n = c.prepare.auto.factors ∙ length-take-le n factors fits in
     let size : from + n - from ≡ n = omega arith in
-    let part : map element given ≡ take n (drop from product) =
-    ap (map element) used ∙ c.prepare.ensures ∙ ap (λ k. take k (drop from product)) size in
+    let by = take (from + n - from) (drop from product) in
+    let part : by ≡ take n (drop from product) = ap (λ k. take k (drop from product)) size in
+    let counted : length by ≡ n = length-take-le (from + n - from) (drop from product)
+    (omega (arith, length-drop from product)) ∙ size in
     record {
       within = omega arith;
       met = refl;
       some = length-append prepared (drop n factors) ∙ omega (arith, long, length-drop n factors, inv.some, fits);
       blocks = λ room h. c.add_part.ensures.blocks room (inv.blocks room h);
       done =
-          grown_part o met from n element product given ss now
+          grown_part o met from n product by ss now
           (stripes_in c.add_part.new.blocks) part inv.within inv.within c.add_part.ensures.stripes inv.done;
       lengths =
-          ap (map length) c.add_part.ensures.stripes ∙ lengths_grown o met from (map element given) now inv.within
+          ap (map length) c.add_part.ensures.stripes ∙ lengths_grown o met from by now inv.within
           ∙ inv.lengths;
       cost =
           cost_part c.args.steps.now c.loop-from.steps c.add_part.new.steps (longer_than met (map length ss))
-          (longer_than met (map length now)) from n (length given) inv.cost
-          c.add_part.ensures.cost (ap (longer_than met) inv.lengths) (ap length used ∙ long);
+          (longer_than met (map length now)) from n (length by) inv.cost
+          c.add_part.ensures.cost (ap (longer_than met) inv.lengths) counted;
     }
 
 pub returns-clause-blocks : goal.returns-clause-blocks
@@ -89,72 +88,6 @@ overflow_sub-met g c = c.loop-from.invariant.within
 
 pub overflow_add-from : goal.overflow_add-from
 overflow_add-from g c = omega arith
-
-pub overflow_add-from-in-loop-from : goal.overflow_add-from-in-loop-from
-overflow_add-from-in-loop-from g c = omega arith
-
-pub offset_bounds-product-from : goal.offset_bounds-product-from
-offset_bounds-product-from g c = c.loop-from.invariant.within
-
-pub slice_bounds-prepare-count : goal.slice_bounds-prepare-count
-slice_bounds-prepare-count g c = omega arith
-
-pub slice_bounds-prepare-end-in-loop-from : goal.slice_bounds-prepare-end-in-loop-from
-slice_bounds-prepare-end-in-loop-from g c = omega arith
-
-pub slice_bounds-prepare-end-in-loop-from-2 : goal.slice_bounds-prepare-end-in-loop-from-2
-slice_bounds-prepare-end-in-loop-from-2 g c = sym (length-take-le c.min-count.result c.loop-from.factors (omega arith))
-
-pub prepare-requires-clause-long : goal.prepare-requires-clause-long
-prepare-requires-clause-long g c =
-    let from = c.loop-from.from in
-    let n = c.min-count.result in
-    let rest = drop from c.args.product.now in
-    length-take-le (from + n - from) rest (omega (arith, length-drop from c.args.product.now))
-    ∙ omega (arith, length-take-le n c.loop-from.factors (omega arith))
-
-pub slice_bounds-add_part-end : goal.slice_bounds-add_part-end
-slice_bounds-add_part-end g c =
-    let n = c.min-count.result in
-    let factors = c.loop-from.factors in
-    omega (
-      arith,
-      length-append c.prepare.new.factors (drop n factors),
-      c.prepare.auto.factors,
-      length-take-le n factors (omega arith),
-    )
-
-pub slice_bounds-add_part-end-in-loop-from : goal.slice_bounds-add_part-end-in-loop-from
-slice_bounds-add_part-end-in-loop-from g c =
-    let n = c.min-count.result in
-    let factors = c.loop-from.factors in
-    sym (ap length (part_taken n c.prepare.new.factors factors c.prepare.auto.factors (omega arith))
-    ∙ c.prepare.auto.factors ∙ length-take-le n factors (omega arith))
-
-pub add_part-requires-clause-room : goal.add_part-requires-clause-room
-add_part-requires-clause-room g c =
-    let n = c.min-count.result in
-    let factors = c.loop-from.factors in
-    omega (
-      arith,
-      ap length (part_taken n c.prepare.new.factors factors c.prepare.auto.factors (omega arith)),
-      c.prepare.auto.factors,
-      length-take-le n factors (omega arith),
-    )
-
-pub add_part-requires-clause-factors : goal.add_part-requires-clause-factors
-add_part-requires-clause-factors g c =
-    let P = g.F.Field.is_element in
-    let from = c.loop-from.from in
-    let n = c.min-count.result in
-    let factors = c.loop-from.factors in
-    let prepared = c.prepare.new.factors in
-    let part = take (from + n - from) (drop from c.args.product.now) in
-    All-same P (map g.F.Rows.element_of (take n (prepared ++ drop n factors))) part
-    (ap (map g.F.Rows.element_of) (part_taken n prepared factors c.prepare.auto.factors (omega arith))
-    ∙ c.prepare.ensures)
-    (All-take P (from + n - from) (drop from c.args.product.now)
-    (All-drop P from c.args.product.now c.requires.products))
 
 pub loop-from-smaller : goal.loop-from-smaller
 loop-from-smaller g c = omega (arith, c.requires.some (omega arith))

@@ -39,6 +39,7 @@ loop-i-preserved g c =
 
 pub returns : goal.returns
 returns g c =
+    λ wide.
     let elements = c.args.elements.now in
     let factors = c.loop-i.factors in
     let i = c.loop-i.i in

@@ -1,6 +1,6 @@
-use Rattle.std.proofs.Common.{◌≡◌, ◌+◌, ◌-◌, ◌*◌, ◌<◌, ◌≤◌, ◌++◌, length, map, All, get_or, take, drop, ap, ap₂, sym}
+use Rattle.std.proofs.Common.{◌≡◌, ◌+◌, ◌-◌, ◌*◌, ◌≤◌, ◌++◌, length, All, get_or, take, drop, ap, ap₂, sym}
 use Rattle.std.proofs.Common.{◌∙◌, arith}
-use Rattle.std.proofs.lemmas.List.{length-map, length-take-le, length-drop, get_or-take, take_all}
+use Rattle.std.proofs.lemmas.List.{length-take-le, length-drop, get_or-take, take_all}
 use Rattle.std.proofs.lemmas.List.Elements.{All-append, All-take, All-drop, All-same}
 use Rattle.field_rows.specs.Columns.{column}
 use Rattle.field_rows.specs.laws.PlaceLaws.{rows_le}
@@ -64,7 +64,7 @@ add_products-requires-clause-narrow g c =
 pub add_products-requires-clause-room : goal.add_products-requires-clause-room
 add_products-requires-clause-room g c =
     let w = c.args.width in
-    let n = length c.args.factors.now in
+    let n = length c.args.by.now in
     let low = c.split_at_mut-low.result.0.now in
     let rest = c.split_at_mut-low.result.1.now in
     let split = c.split_at_mut-low.ensures in
@@ -100,7 +100,6 @@ pub returns-clause-columns : goal.returns-clause-columns
 returns-clause-columns g c =
     λ i l.
     let F = g.F.Field in
-    let R = g.F.Rows in
     let o = F.coding.ops in
     let z = o.nought in
     let P = F.is_element in
@@ -109,12 +108,11 @@ returns-clause-columns g c =
     let met = c.args.met in
     let from = c.args.from in
     let rows = c.args.rows.now in
-    let factors = map R.element_of c.args.factors.now in
+    let by = c.args.by.now in
     let low = c.split_at_mut-low.result.0.now in
     let rest = c.split_at_mut-low.result.1.now in
     let split = c.split_at_mut-low.ensures in
     let new = c.add_products.new.rows in
-    let long_factors : length factors ≡ length c.args.factors.now = length-map c.args.factors.now R.element_of in
     let row = row_long w k met rows rest split.back c.requires.whole c.requires.longer in
     let below : from * w ≤ met * w = rows_le from met w (omega arith) in
     let whole : take (length low - from * w) (drop (from * w) low) ≡ drop (from * w) low =
@@ -127,20 +125,15 @@ returns-clause-columns g c =
     rw (sym here) (All-take P w rest (All-same P rest (drop (met * w) rows) split.back
     (All-drop P (met * w) rows c.requires.elements)) i z (rw row l)) in
     ap (λ t. column z w k i (t ++ rest)) (put_end (from * w) (length low - from * w) low new (omega arith))
-    ∙ grown_column P o g.met.F.Field.lawful.field w k met from i rows low rest new factors split.front split.back
+    ∙ grown_column P o g.met.F.Field.lawful.field w k met from i rows low rest new by split.front split.back
     c.requires.whole c.requires.longer l
-    (omega (arith, long_factors, c.requires.room)) long_part c.requires.factors hr
+    c.requires.room long_part c.requires.by hr
     (λ j m.
-    let m' : j < length c.args.factors.now = omega (arith, long_factors) in
-    ap (λ n. get_or new (j * n + i) z) (sym row) ∙ c.add_products.ensures.sums j i m' (rw row l)
-    ∙ ap₂ (λ a b. o.plus a (o.times (get_or factors j z) b)) (ap₂ (λ t n. get_or t (j * n + i) z) whole row) here)
+    ap (λ n. get_or new (j * n + i) z) (sym row) ∙ c.add_products.ensures.sums j i m (rw row l)
+    ∙ ap₂ (λ a b. o.plus a (o.times (get_or by j z) b)) (ap₂ (λ t n. get_or t (j * n + i) z) whole row) here)
     (λ j m n.
-    let past : length c.args.factors.now * length (take w rest) ≤ j * w + i =
-    omega (
-      arith,
-      ap (λ t. length c.args.factors.now * t) row,
-      rows_le (length c.args.factors.now) j w (omega (arith, long_factors)),
-    ) in
+    let past : length by * length (take w rest) ≤ j * w + i =
+    omega (arith, ap (λ t. length by * t) row, rows_le (length by) j w m) in
     c.add_products.ensures.others (j * w + i) past ∙ ap (λ t. get_or t (j * w + i) z) whole)
 
 pub returns-clause-elements : goal.returns-clause-elements
@@ -164,12 +157,15 @@ returns-clause-elements g c =
 pub returns-clause-cost : goal.returns-clause-cost
 returns-clause-cost g c =
     let w = c.args.width in
-    let n = length c.args.factors.now in
+    let n = length c.args.by.now in
     let rest = c.split_at_mut-low.result.1.now in
     let row = row_long w c.args.count c.args.met c.args.rows.now rest c.split_at_mut-low.ensures.back c.requires.whole
     c.requires.longer in
     let whole_size : n * length (take w rest) ≡ w * n = ap (λ t. n * t) row ∙ mul_comm n w in
     omega (arith, whole_size, c.add_products.ensures.cost)
+
+pub add_products-requires-clause-by : goal.add_products-requires-clause-by
+add_products-requires-clause-by g c = c.requires.by
 
 pub add_products-requires-clause-factors : goal.add_products-requires-clause-factors
 add_products-requires-clause-factors g c = c.requires.factors

@@ -44,7 +44,7 @@ returns-then-met-self-clause-stripes g c =
     let b = c.self.inside in
     let new = c.add_rows.new.rows in
     let kept = with_items_is b.places new (c.add_rows.auto.rows ∙ c.deref_mut.ensures.len) in
-    let G = grown F.coding.ops c.args.met c.args.from (map g.F.Rows.element_of c.args.factors.now) in
+    let G = grown F.coding.ops c.args.met c.args.from c.args.by.now in
     let waits : b.waits ≡ true = waits_here c.args.met _ _ c.self.view_is c.requires.waits c.if-met-self.true in
     ap (stripes_of z b.waits b.width b.size) kept ∙ stripes_waiting z b.waits b.width b.size new waits
     ∙ columns_grown G z b.width b.size c.deref_mut.result.now new c.add_rows.ensures.columns
@@ -58,7 +58,7 @@ returns-then-met-self-clause-cost g c =
     let b = c.self.inside in
     let count = longer_seen F.is_element F.coding.ops.nought b.waits b.width b.size b.places.items _ c.self.view_is
     c.self.invariant.whole c.self.invariant.elements c.args.met c.if-met-self.true in
-    omega (arith, ap (λ n. n * length c.args.factors.now) count, c.add_rows.ensures.cost)
+    omega (arith, ap (λ n. n * length c.args.by.now) count, c.add_rows.ensures.cost)
 
 pub returns-else-met-self-clause-each : goal.returns-else-met-self-clause-each
 returns-else-met-self-clause-each g c =
@@ -73,7 +73,7 @@ returns-else-met-self-clause-stripes g c =
     let b = c.self.inside in
     let each = stripes_each F.is_element F.coding.ops.nought b.waits b.width b.size b.places.items
     c.self.invariant.whole c.self.invariant.elements in
-    let factors = map g.F.Rows.element_of c.args.factors.now in
+    let factors = c.args.by.now in
     subst (λ (v : HeldBlock g.row.F-Elem.Denot). v.stripes
     ≡ map (grown F.coding.ops c.args.met c.args.from factors) v.stripes) c.self.view_is
     (sym (grown_none F.coding.ops c.args.met c.args.from factors _ (All F.is_element) b.size c.if-met-self.false each))
@@ -86,6 +86,9 @@ add_rows-requires-clause-longer g c = c.if-met-self.true
 
 pub add_rows-requires-clause-room : goal.add_rows-requires-clause-room
 add_rows-requires-clause-room g c = c.requires.room
+
+pub add_rows-requires-clause-by : goal.add_rows-requires-clause-by
+add_rows-requires-clause-by g c = c.requires.by
 
 pub add_rows-requires-clause-factors : goal.add_rows-requires-clause-factors
 add_rows-requires-clause-factors g c = c.requires.factors
@@ -108,4 +111,4 @@ returns-else-met-self-clause-cost g c =
     let b = c.self.inside in
     let none = none_longer F.is_element F.coding.ops.nought b.waits b.width b.size b.places.items _ c.self.view_is
     c.self.invariant.whole c.self.invariant.elements c.args.met (omega arith) in
-    omega (arith, ap (λ n. n * (length c.args.factors.now)) none)
+    omega (arith, ap (λ n. n * (length c.args.by.now)) none)
