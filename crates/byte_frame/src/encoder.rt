@@ -1,8 +1,8 @@
 //! The encoder of one group of the byte profile.
-ghost use Rattle.std.specs.Prelude.{◌≡◌, ◌+◌, ◌*◌, ◌<◌, ◌≤◌, ◌++◌, length, map, IfOk, OnOk, OnErr};
+ghost use Rattle.std.specs.Prelude.{◌≡◌, ℕ, ◌+◌, ◌*◌, ◌<◌, ◌≤◌, ◌++◌, length, map, IfOk, OnOk, OnErr};
 ghost use Rattle.packet_frame.specs.declared.format.TheConstants.{BYTE_FORMAT};
 ghost use Rattle.packet_frame.specs.Planned.{planned_text, IsPlannedFrame, IsPlanTableIn};
-ghost use Rattle.packet_session.specs.Encoding.{IsGroupOf, frame_of};
+ghost use Rattle.packet_session.specs.Encoding.{IsGroupOf, frame_of, frames_text_in};
 ghost use Rattle.packet_session.specs.Session.{Session, IsPacketOf};
 ghost use Rattle.stripe_plan.specs.Layers.{needs_of};
 ghost use Rattle.stripe_plan.specs.Sizes.{twofold};
@@ -10,6 +10,7 @@ ghost use Rattle.stripe_plan.specs.declared.bounds.TheConstants.{BYTE_BOUNDS};
 
 use field_elements::Field;
 use field_rows::Rows;
+use field_values::AllValues;
 use packet_encoder::PacketEncoder;
 use packet_frame::{BYTE_FORMAT, Header};
 use pet_base::{MAX_GROUPS, NoMemory, Steps};
@@ -88,6 +89,53 @@ impl<'f, F: Rows> ByteEncoder<'f, F> {
             → IsPacketOf F.coding s (frame_of F.coding self.now number) }
     {
         self.core.packet(number, into, steps)
+    }
+}
+
+impl<'f, F: AllValues> ByteEncoder<'f, F> {
+    /// Appends the frames of all packets of the group, by number. It counts at most one step for each packet and byte of the
+    /// layers. Where it finds no memory, `into` is as before.
+    pub fn all<L: Ledger>(&self, into: &mut Vec<u8>, steps: &mut Steps<L>) -> Result<(), NoMemory>
+        ensures ok { OnOk result (into.new.items ≡ into.old.items
+            ++ frames_text_in BYTE_FORMAT F.coding self.now 0 self.now.header.table.packets) }
+        ensures err { OnErr result (into.new.items ≡ into.old.items) }
+        ensures cost { steps.new ≤ steps.old + self.now.header.table.packets
+            * length (needs_of self.now.header.table.layers) }
+
+        // Each frame is in its ranges, and is a packet of each session that has this group.
+        ensures ranges { OnOk result ((number : ℕ) → number < self.now.header.table.packets
+            → IsPlannedFrame BYTE_FORMAT (frame_of F.coding self.now number)) }
+        ensures session { (s : Session) (number : ℕ) → IsGroupOf s self.now
+            → number < self.now.header.table.packets
+            → IsPacketOf F.coding s (frame_of F.coding self.now number) }
+    {
+        self.core.all(into, steps)
+    }
+
+    /// Appends the frames of the packets `first` to `first + count - 1`, which are packets of the group. It counts at most
+    /// one step for each of them and byte of the layers. Where it finds no memory, `into` is as before.
+    pub fn range<L: Ledger>(
+        &self,
+        first: u16,
+        count: u16,
+        into: &mut Vec<u8>,
+        steps: &mut Steps<L>,
+    ) -> Result<(), NoMemory>
+        requires { first + count ≤ self.now.header.table.packets }
+        ensures ok { OnOk result (into.new.items ≡ into.old.items
+            ++ frames_text_in BYTE_FORMAT F.coding self.now first count) }
+        ensures err { OnErr result (into.new.items ≡ into.old.items) }
+        ensures cost { steps.new ≤ steps.old
+            + count * length (needs_of self.now.header.table.layers) }
+
+        // Each frame is in its ranges, and is a packet of each session that has this group.
+        ensures ranges { OnOk result ((number : ℕ) → first ≤ number → number < first + count
+            → IsPlannedFrame BYTE_FORMAT (frame_of F.coding self.now number)) }
+        ensures session { (s : Session) (number : ℕ) → IsGroupOf s self.now
+            → number < self.now.header.table.packets
+            → IsPacketOf F.coding s (frame_of F.coding self.now number) }
+    {
+        self.core.range(first, count, into, steps)
     }
 }
 
