@@ -17,4 +17,6 @@ mod example;
 #[cfg(test)]
 mod first_failure_tests;
 #[cfg(test)]
+mod quiet_tests;
+#[cfg(test)]
 mod untold_tests;

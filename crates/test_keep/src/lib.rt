@@ -19,6 +19,8 @@ mod object_tests;
 #[cfg(test)]
 mod order_tests;
 #[cfg(test)]
+mod quiet_tests;
+#[cfg(test)]
 mod refusal_tests;
 #[cfg(test)]
 mod row_tests;

@@ -5,8 +5,10 @@
 #![tactic(auto)]
 
 mod head;
+mod quiet_link;
 
 pub use head::{STORE_HEAD, store_head};
+pub use quiet_link::QuietLink;
 
 #[cfg(test)]
 mod cases;

@@ -2,11 +2,12 @@
 use crate::cases::{ALL_GO, Case, Run, first_wrong, runs};
 use crate::files::{File, OTHER_SESSION, WHOLE};
 use crate::links::feed_of;
+use crate::quiet_link::QuietLink;
 use crate::receive_fixtures::{
     ALL, ALL_RECORDS, ALL_TOTALS, EMPTY, FIRST, FIRST_STORE, RECORD_HEAD, SHORT_TOTALS,
     WHOLE_RECORD,
 };
-use crate::untold::{UntoldLink, UntoldPlace};
+use crate::untold::UntoldPlace;
 use command_receive::ReceiveEnd;
 use pet_base::MemorySink;
 use std::cell::Cell;
@@ -116,12 +117,7 @@ fn puts_each_layer_before_the_next_datagram(rt: HostRuntime) -> Result<(), Fail>
     let alloc = rt.alloc();
     let feed = feed_of(alloc, ALL)?;
     let asked = Cell::new(0);
-    let mut link = UntoldLink {
-        feed: &feed,
-        later: &[],
-        asked: &asked,
-        port: 0,
-    };
+    let mut link = QuietLink::new(&feed, &[], &asked);
     let mut place = UntoldPlace::new(alloc, &asked);
     let mut out = MemorySink::new(alloc, Vec::new(alloc));
     let done = Run::Hear(SESSION, ReceiveEnd::Done(ALL_TOTALS));
@@ -139,12 +135,7 @@ fn asks_a_link_for_nothing_once_it_was_quiet(rt: HostRuntime) -> Result<(), Fail
     let feed = feed_of(alloc, FIRST)?;
     let later = feed_of(alloc, ALL)?;
     let asked = Cell::new(0);
-    let mut link = UntoldLink {
-        feed: &feed,
-        later: &later,
-        asked: &asked,
-        port: 0,
-    };
+    let mut link = QuietLink::new(&feed, &later, &asked);
     let mut place = UntoldPlace::new(alloc, &asked);
     let mut out = MemorySink::new(alloc, Vec::new(alloc));
     let ended = runs::<Brand>(alloc, DONE, &mut place, &mut link, &mut out, Blank::new(1));

@@ -1,53 +1,9 @@
-//! A link and a place of the tests that tell nothing: what is put to LAYERS is noted by the calls that the link had had.
-ghost use Rattle.std.specs.Prelude.{◌≡◌, ◌≤◌};
+//! A place of the tests that tells nothing: what is put to LAYERS is noted by the calls that the link had had.
+ghost use Rattle.std.specs.Prelude.{◌≡◌};
 
-use pet_base::{Failed, Got, Link, Place};
+use pet_base::{Failed, Place};
 use std::alloc::Global;
 use std::cell::Cell;
-
-/// A link that receives these datagrams, is quiet once, and then receives the later ones. It counts on a shared counter how often
-/// it is asked for one.
-#[derive(Drop)]
-pub(crate) struct UntoldLink<'a> {
-    pub(crate) feed: &'a [Vec<u8>],
-    pub(crate) later: &'a [Vec<u8>],
-    pub(crate) asked: &'a Cell<u32>,
-    pub(crate) port: u16,
-}
-
-impl Link for UntoldLink<'_> {
-    ghost use Rattle.std.specs.Prelude.{None, false};
-
-    ghost seen = { λ l. record { feed = None; sent = None; port = l.port; bound = None; aimed = None; blamed = None; faults = 0; failing = false } };
-
-    ghost small = { λ _. tt };
-
-    fn bind(&mut self, _address: &str) -> Result<u16, Failed> {
-        self.port = 7;
-        Ok(7)
-    }
-
-    fn aim(&mut self, _address: &str) -> Result<(), Failed> {
-        Ok(())
-    }
-
-    fn send(&mut self, _datagram: &[u8]) -> Result<(), Failed> {
-        Ok(())
-    }
-
-    fn next(&mut self, into: &mut [u8]) -> Result<Got, Failed> {
-        self.asked.set(self.asked.get().wrapping_add(1));
-        let [datagram, feed @ ..] = self.feed else {
-            self.feed = self.later;
-            self.later = &[];
-            return Ok(Got::Quiet);
-        };
-        self.feed = feed;
-        let len = datagram.len().min(65_535);
-        into[..len].copy_from_slice(&datagram[..len]);
-        Ok(Got::Datagram(len))
-    }
-}
 
 /// A place whose files are empty, and whose output is the file of layers `c` or another. It notes the counter at each put to `c`.
 #[derive(Drop)]
