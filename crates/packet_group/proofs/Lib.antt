@@ -4,3 +4,4 @@ pub mod Known
 pub mod Holding
 pub mod LayerBytes
 pub mod Agreement
+pub mod Tagging

@@ -1,3 +1,4 @@
 pub mod OpenGroup
 pub mod ShownBytes
+pub mod Tags
 pub mod laws

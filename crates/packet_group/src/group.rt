@@ -7,7 +7,9 @@ ghost use Rattle.packet_set.specs.Packets.{slot_at, with_packet, payload_length,
 ghost use Rattle.pet_interp.specs.Progressive.{step_bound};
 ghost use Rattle.packet_group.specs.OpenGroup.{count_in, HoldsAfter, layers_of, stripe_lengths};
 ghost use Rattle.packet_group.specs.ShownBytes.{IsShownIn, IsShownBytes, Agrees};
+ghost use Rattle.packet_group.specs.Tags.{IsTagOf, AreTagsOf};
 
+use crate::tags::{no_tags, tag_in};
 use crate::write::write_known;
 use field_rows::Rows;
 use packet_frame::Header;
@@ -31,14 +33,19 @@ pub struct OpenGroup<'f, F: Rows> {
     progress: Progress<'f, F>,
     /// The field's width in bytes a word. A stripe's words stand here from the packet on that makes them known.
     message: Vec<u8>,
+    /// For each number the tag of the kept packet's frame, where it was told.
+    tags: Vec<Option<[u8; 16]>>,
 }
 
 impl<'f, F: Rows> Model for OpenGroup<'f, F> {
     ghost use Rattle.packet_group.specs.OpenGroup.{GroupState};
+    ghost use Rattle.packet_group.specs.Tags.{AreTagsOf};
 
     ghost Value = { GroupState F.Elem };
 
     ghost view = { λ g. record { packets = g.packets; message = g.message.items; held = g.progress } };
+
+    ghost invariant = { λ g. AreTagsOf g.packets g.tags.items };
 }
 
 impl<'f, F: Rows> OpenGroup<'f, F> {
@@ -53,11 +60,13 @@ impl<'f, F: Rows> OpenGroup<'f, F> {
         let progress = Progress::new(alloc, field, &lengths)?;
         let packets = PacketSet::new(alloc, header, F::WIDTH)?;
         let message = empty_message(alloc, &header.table, F::WIDTH)?;
+        let tags = no_tags(alloc, header.table.packets())?;
         Ok(OpenGroup {
             field,
             packets,
             progress,
             message,
+            tags,
         })
     }
 
@@ -89,6 +98,32 @@ impl<'f, F: Rows> OpenGroup<'f, F> {
             &self.progress,
             &mut self.message,
         );
+    }
+
+    /// Keeps the tag of a kept packet's frame beside the packet. Of what is held of the group it changes nothing. It takes no
+    /// memory.
+    pub fn keep_tag(&mut self, number: u16, tag: [u8; 16])
+        requires { IsTagOf self.old.packets number tag }
+        ensures { self.new ≡ self.old }
+    {
+        let at = usize::from(number);
+        if at < self.tags.len() {
+            self.tags[at] = Some(tag);
+        }
+    }
+
+    /// The tag of a packet's frame, where it is kept.
+    pub fn tag(&self, number: u16) -> Option<[u8; 16]>
+        ensures { IfSome result (IsTagOf self.now.packets number) }
+    {
+        tag_in(&self.tags, number)
+    }
+
+    /// The tags that are kept, by number.
+    pub fn tags(&self) -> &[Option<[u8; 16]>]
+        ensures { AreTagsOf self.now.packets result.now }
+    {
+        &self.tags
     }
 
     /// The packets that are kept.

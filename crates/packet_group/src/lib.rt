@@ -10,6 +10,8 @@
 #![tactic(auto)]
 
 mod group;
+mod tags;
 mod write;
 
 pub use group::OpenGroup;
+pub use tags::tag_in;

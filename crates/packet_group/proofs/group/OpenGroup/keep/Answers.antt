@@ -14,6 +14,8 @@ use Rattle.packet_session.specs.Payload.{stripes_in}
 use Rattle.packet_group.specs.OpenGroup.{count_in, GroupState, HoldsAfter, points_of, layers_of, stripe_lengths}
 use Rattle.packet_group.proofs.Cuts.{sizes_are}
 use Rattle.packet_group.proofs.Holding.{IsKeeping, apart, met_is, holds_more, puts_new}
+use Rattle.packet_group.proofs.Tagging.{tags_stay}
+use Rattle.packet_group.specs.Tags.{AreTagsOf}
 use Rattle.packet_group.proofs.group.OpenGroup.keep.Given.{Over}
 use Rattle.packet_group.proofs.group.OpenGroup.keep.Goals as goal
 use Rattle.packet_group.proofs.group.OpenGroup.keep.Goals.{After-point-x}
@@ -113,6 +115,17 @@ write_known-requires-clause-bytes g c =
     let message : c.self.inside.message.items ≡ c.args.self.now.message =
     ap (λ (v : GroupState g.row.F-Elem.Denot). v.message) c.self.view_is in
     subst (λ m. All (λ b. b < 256) m) (sym (c.deref_mut.ensures.value ∙ message)) c.requires.held.1.message.bytes
+
+pub invariant_of-self : goal.invariant_of-self
+invariant_of-self g c =
+    let old = c.self.inside.packets in
+    let absent : slot_at old c.args.number ≡ None =
+    ap (λ (v : GroupState g.row.F-Elem.Denot). slot_at v.packets c.args.number) c.self.view_is ∙ c.requires.absent in
+    let put : c.put.new.self ≡ with_packet old c.args.number c.args.payload.now =
+    puts_new old c.args.number c.args.payload.now c.put.result c.put.new.self absent c.put.ensures.told
+    c.put.ensures.put in
+    subst (λ p. AreTagsOf p c.self.inside.tags.items) (sym put)
+    (tags_stay old c.args.number c.args.payload.now c.self.inside.tags.items absent c.self.invariant)
 
 pub returns-clause-held : goal.returns-clause-held
 returns-clause-held g c numbers h =
