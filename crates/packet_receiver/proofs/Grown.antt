@@ -70,7 +70,7 @@ module _ {E : Type 0} (P : E → Type 0) (c : Coding E) (es : List (ℕ × Group
       let same : (t : GroupState E) → lookup (is_at (nat_cmp f.group)) from ≡ Some t
       → g ≡ t = λ t is. same_Some g t (sym found ∙ is) in
       record {
-        table = λ t is. ap (λ (p : Packets). p.header.table)
+        header = λ t is. ap (λ (p : Packets). p.header)
             (ap (λ (s : GroupState E). s.packets) (sym (same t is)) ∙ empty);
         word = λ t is. ap (λ (p : Packets). p.word) (ap (λ (s : GroupState E). s.packets) (sym (same t is)) ∙ empty);
         absent = λ t is. ap (λ (p : Packets). slot_at p f.number)

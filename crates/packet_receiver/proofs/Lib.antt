@@ -8,3 +8,4 @@ pub mod Joined
 pub mod Clashes
 pub mod Absorbed
 pub mod Fitting
+pub mod Tagged

@@ -35,7 +35,7 @@ use Rattle.packet_receiver.specs.inside.Receiving.{IsReadyFor, HasGrown, verdict
 use Rattle.packet_verdicts.specs.laws.EntryLaws.{lookup_here, lookup_other, lookup_values, insert_values, all_found}
 use Rattle.packet_verdicts.specs.laws.ToldLaws.{open_tells}
 use Rattle.packet_verdicts.specs.laws.KeptSetLaws.{IsKeepableBy, keepable, keep_sound, open_here_by, header_with}
-use Rattle.packet_verdicts.specs.laws.KeptSetLaws.{cost_opened, cost_same}
+use Rattle.packet_verdicts.specs.laws.KeptSetLaws.{cost_opened, cost_same, same_header}
 
 any_by : {A : Type 0} (test : A → Bool) (x : A) (xs : List A) (b : Bool) → All (λ t. test t ≡ b) (x ∷ xs)
     → list_any test (x ∷ xs) ≡ b
@@ -214,7 +214,7 @@ module _ {E : Type 0} (P : E → Type 0) (count : ℕ) (c : Coding E) (r : Recei
 
   pub is_ready : IsReadyFor P c r.groups f
   is_ready = record {
-    table = λ g is. k.table g.packets (opened_is g is);
+    header = λ g is. same_header (kept_set r) h.set f frame k g.packets (opened_is g is);
     word = λ g is. (h.set.groups f.group g.packets (opened_is g is)).word_is;
     absent = λ g is. subst (λ t. option_and_then (λ (q : Packets). slot_at q f.number) t ≡ None)
         (opened_is g is) k.absent;

@@ -1,16 +1,18 @@
 //! Room for the groups that another receiver has kept, and their packets.
 ghost use Rattle.std.specs.Prelude.{◌≡◌, ℕ, ◌+◌, ◌<◌, ◌≤◌, cond, true, nat_lt, filter, All, List, [], ◌∷◌, ◌++◌, Some, IfOk, OnOk, OnErr};
 ghost use Rattle.packet_set.specs.Packets.{count_in};
+ghost use Rattle.packet_group.specs.Tags.{AreTagsOf};
 ghost use Rattle.pet_interp.specs.Progressive.{step_bound};
 ghost use Rattle.packet_receiver.specs.Arrivals.{GroupState, HoldsAfter, layers_of, stripe_lengths};
 ghost use Rattle.packet_verdicts.specs.Union.{is_new};
 ghost use Rattle.packet_receiver.specs.inside.Joining.{OpensAll, IsReadyAt, IsFillable, HasFilled, CanJoin, JoinsOne, JoinsAll, with_theirs, packets_of, shown_by};
 
 use crate::has_packets::HasPackets;
+use crate::keeping::tag_open;
 use crate::opening::open_missing;
 use crate::shown::newly_shown;
 use field_rows::Rows;
-use packet_group::OpenGroup;
+use packet_group::{OpenGroup, tag_in};
 use packet_set::PacketSet;
 use pet_base::{NoMemory, Steps};
 use std::alloc::Global;
@@ -102,24 +104,26 @@ fn join_all<'f, F: Rows, L: Ledger>(
         others.now.entries groups.new.entries steps.new }
 {
     for (group, other) in others.iter() {
-        join_at(groups, *group, other.packets(), steps);
+        join_at(groups, *group, other.packets(), other.tags(), steps);
     }
 }
 
-/// Takes in the packets of one group, which is open.
+/// Takes in the packets of one group, which is open, with their frames' tags, where these are told.
 fn join_at<'f, F: Rows, L: Ledger>(
     groups: &mut BTreeMap<u32, OpenGroup<'f, F>>,
     group: u32,
     theirs: &PacketSet,
+    tags: &[Option<[u8; 16]>],
     steps: &mut Steps<L>,
 )
     requires points { theirs.now.header.table.packets ≤ F.COUNT }
+    requires tags { AreTagsOf theirs.now tags.now }
     requires ready { IsReadyAt F.is_element F.coding groups.old.entries group theirs.now }
     ensures joined { JoinsOne F.is_element F.coding groups.old.entries group theirs.now
         steps.old groups.new.entries steps.new }
 {
     if let Some(open) = groups.get_mut(&group) {
-        join_open(open, theirs, steps);
+        join_open(open, theirs, tags, steps);
     }
 }
 
@@ -127,14 +131,16 @@ fn join_at<'f, F: Rows, L: Ledger>(
 fn join_open<'f, F: Rows, L: Ledger>(
     mine: &mut OpenGroup<'f, F>,
     theirs: &PacketSet,
+    tags: &[Option<[u8; 16]>],
     steps: &mut Steps<L>,
 )
     requires points { theirs.now.header.table.packets ≤ F.COUNT }
+    requires tags { AreTagsOf theirs.now tags.now }
     requires ready { IsFillable F.is_element F.coding mine.old theirs.now }
     ensures { HasFilled F.is_element F.coding mine.old theirs.now steps.old mine.new steps.new }
 {
     for number in 0..theirs.header().table.packets() {
-        join_number(mine, theirs, number, steps);
+        join_number(mine, theirs, tags, number, steps);
     }
 }
 
@@ -142,10 +148,12 @@ fn join_open<'f, F: Rows, L: Ledger>(
 fn join_number<'f, F: Rows, L: Ledger>(
     mine: &mut OpenGroup<'f, F>,
     theirs: &PacketSet,
+    tags: &[Option<[u8; 16]>],
     number: u16,
     steps: &mut Steps<L>,
 )
     requires points { theirs.now.header.table.packets ≤ F.COUNT }
+    requires tags { AreTagsOf theirs.now tags.now }
     requires ready { IsFillable F.is_element F.coding mine.old theirs.now }
     requires number { number < mine.old.packets.header.table.packets }
     ensures packets { mine.new.packets ≡ with_theirs mine.old.packets theirs.now number }
@@ -160,5 +168,6 @@ fn join_number<'f, F: Rows, L: Ledger>(
     }
     if let Some(payload) = theirs.payload(number) {
         mine.keep(number, payload, steps);
+        tag_open(mine, number, tag_in(tags, number));
     }
 }

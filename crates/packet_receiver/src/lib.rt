@@ -18,6 +18,7 @@ mod keeping;
 mod opening;
 mod receiver;
 mod shown;
+mod tag;
 mod totals;
 
 pub use receiver::PacketReceiver;

@@ -1,5 +1,5 @@
 //! The receiver of one session, of any format.
-ghost use Rattle.std.specs.Prelude.{◌≡◌, ◌≢◌, None, IfErr, map, ◌↔◌, ℕ, ◌+◌, ◌≤◌, false, true, List, [], ◌∷◌, ◌++◌, Some, IsSome, IsTrue, IfOk, IfSome, OnOk, OnErr, option_copied, option_map};
+ghost use Rattle.std.specs.Prelude.{◌≡◌, ◌≢◌, None, IfErr, map, ◌↔◌, ℕ, ◌+◌, ◌≤◌, false, true, List, [], ◌∷◌, ◌++◌, Some, IsSome, IsTrue, IfOk, IfSome, MatchOption, OnOk, OnErr, option_copied, option_map};
 ghost use Rattle.std.specs.Option.{option_or};
 ghost use Rattle.stripe_plan.specs.Sizes.{ArePlanBounds};
 ghost use Rattle.packet_frame.specs.Format.{IsFormat};
@@ -7,6 +7,7 @@ ghost use Rattle.packet_frame.specs.Frame.{IsFrameBy};
 ghost use Rattle.packet_frame.specs.Planned.{planned_fields};
 ghost use Rattle.packet_frame.specs.View.{view};
 ghost use Rattle.packet_set.specs.Packets.{Packets};
+ghost use Rattle.packet_group.specs.Tags.{frame_tag, IsTagOf};
 ghost use Rattle.pet_interp.specs.Progressive.{step_bound};
 ghost use Rattle.packet_session.specs.Session.{IsMessage, bytes_of_layer};
 ghost use Rattle.packet_verdicts.specs.KeptSet.{IsKeptSetBy, empty_set, open_group, payload_of, Keeps, count_kept, kept_in_all, keep_by, told_by, cost_kept};
@@ -20,6 +21,7 @@ use crate::checks::{cost_with, find_clash, packets_in};
 use crate::joining::take_in;
 use crate::judge::judge_group;
 use crate::keeping::keep_frame;
+use crate::tag::read_tag;
 use crate::totals::{Count, total};
 use field_rows::Rows;
 use packet_frame::{Format, Frame, Header, read_planned};
@@ -123,7 +125,10 @@ impl<'f, F: Rows> PacketReceiver<'f, F> {
     {
         let format = &self.format;
         match read_planned(format, datagram) {
-            Ok(frame) => self.take(&frame, steps),
+            Ok(frame) => {
+                let tag = read_tag(format, datagram);
+                self.take(&frame, tag, steps)
+            }
             Err(_) => Ok(Verdict::Damaged),
         }
     }
@@ -218,6 +223,17 @@ impl<'f, F: Rows> PacketReceiver<'f, F> {
         }
     }
 
+    /// The tag of a packet's frame as frames are written today, where it is kept beside the packet. It takes no memory.
+    pub fn tag(&self, group: u32, number: u16) -> Option<[u8; 16]>
+        ensures { IfSome result (λ tag. MatchOption (open_group (kept_set self.now) group) ⊥
+            (λ p. IsTagOf p number tag)) }
+    {
+        match self.groups.get(&group) {
+            Some(open) => open.tag(number),
+            None => None,
+        }
+    }
+
     /// What the packets of a group share, where one is kept. It takes no memory.
     pub fn header(&self, group: u32) -> Option<&Header>
         ensures { option_copied result ≡ option_map (λ p. p.header) (open_group (kept_set self.now) group) }
@@ -287,13 +303,15 @@ impl<'f, F: Rows> PacketReceiver<'f, F> {
         }
     }
 
-    /// Judges a frame, and keeps it where the verdict is `Kept`.
+    /// Judges a frame, and keeps it where the verdict is `Kept`, with its tag, where that is told.
     fn take<L: Ledger>(
         &mut self,
         frame: &Frame<'_>,
+        tag: Option<[u8; 16]>,
         steps: &mut Steps<L>,
     ) -> Result<Verdict, NoMemory>
         requires frame { IsFrameBy F.coding.width (view frame.now) }
+        requires tag { IfSome tag (λ bytes. bytes ≡ frame_tag (view frame.now)) }
         requires points { frame.now.header.table.packets ≤ F.COUNT }
         ensures verdict { IfOk result (λ v. v
             ≡ frame_verdict_by F.coding.width (kept_set self.old) (view frame.now)) }
@@ -315,7 +333,7 @@ impl<'f, F: Rows> PacketReceiver<'f, F> {
     {
         match self.judge(frame) {
             Verdict::Kept(shown) => {
-                self.keep(frame, steps)?;
+                self.keep(frame, tag, steps)?;
                 Ok(Verdict::Kept(shown))
             }
             refused => Ok(refused),
@@ -342,9 +360,15 @@ impl<'f, F: Rows> PacketReceiver<'f, F> {
         )
     }
 
-    /// Keeps a frame whose verdict is `Kept`.
-    fn keep<L: Ledger>(&mut self, frame: &Frame<'_>, steps: &mut Steps<L>) -> Result<(), NoMemory>
+    /// Keeps a frame whose verdict is `Kept`, and its tag, where that is told.
+    fn keep<L: Ledger>(
+        &mut self,
+        frame: &Frame<'_>,
+        tag: Option<[u8; 16]>,
+        steps: &mut Steps<L>,
+    ) -> Result<(), NoMemory>
         requires frame { IsFrameBy F.coding.width (view frame.now) }
+        requires tag { IfSome tag (λ bytes. bytes ≡ frame_tag (view frame.now)) }
         requires points { frame.now.header.table.packets ≤ F.COUNT }
         requires kept { is_kept (frame_verdict_by F.coding.width (kept_set self.old) (view frame.now)) ≡ true }
         ensures kept { OnOk result (kept_set self.new ≡ keep_by F.coding.width (kept_set self.old) (view frame.now)) }
@@ -358,7 +382,7 @@ impl<'f, F: Rows> PacketReceiver<'f, F> {
         ensures sound { IsKeptSetBy F.coding.width (kept_set self.new) }
         ensures format { self.new.format ≡ self.old.format }
     {
-        let more = keep_frame(self.alloc, self.field, &mut self.groups, frame, steps)?;
+        let more = keep_frame(self.alloc, self.field, &mut self.groups, frame, tag, steps)?;
         self.cost += more;
         self.told = Some(frame.header.groups);
         Ok(())

@@ -24,10 +24,9 @@ verdict_by word f None limit cost = verdict_new word f limit cost
 verdict_by word f (Some p) limit cost = verdict_in f p
 
 module _ {E : Type 0} (is_element : E → Type 0) (c : Coding E) where
-  -- a frame can be kept next: where its group is open, it has the group's table and its number is not kept
+  -- a frame can be kept next: where its group is open, it has the group's header and its number is not kept
   pub record IsReadyFor (groups : List (ℕ × GroupState E)) (f : Fields) : Type 0 where
-    pub table : (g : GroupState E) → lookup (is_at (nat_cmp f.group)) groups ≡ Some g
-        → g.packets.header.table ≡ (header_of f).table
+    pub header : (g : GroupState E) → lookup (is_at (nat_cmp f.group)) groups ≡ Some g → g.packets.header ≡ header_of f
     pub word : (g : GroupState E) → lookup (is_at (nat_cmp f.group)) groups ≡ Some g → g.packets.word ≡ c.width
     pub absent : (g : GroupState E) → lookup (is_at (nat_cmp f.group)) groups ≡ Some g
         → slot_at g.packets f.number ≡ None

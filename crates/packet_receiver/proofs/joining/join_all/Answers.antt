@@ -1,6 +1,7 @@
 use Rattle.std.proofs.Common.{ℕ, ◌≤◌, All, sym, subst}
 use Rattle.std.proofs.lemmas.List.Elements.{All-head, All-tail}
 use Rattle.packet_set.specs.Packets.{Packets}
+use Rattle.packet_group.specs.Tags.{AreTagsOf}
 use Rattle.packet_receiver.specs.Arrivals.{GroupState}
 use Rattle.packet_receiver.specs.inside.Joining.{CanJoin, JoinsOne, JoinsAll, IsReadyAt}
 use Rattle.packet_receiver.proofs.Filling.{can_first, can_after, joins_next, joins_end}
@@ -38,6 +39,10 @@ join_at-requires-clause-points g c =
     let all = subst (All few) c.in-Some.ensures.steps c.loop-group.invariant.points in
     subst (λ (p : Packets). p.header.table.packets ≤ g.F.Field.COUNT) (sym c.packets.ensures)
     (All-head few (c.in-Some.group.now, c.in-Some.other.now) c.next.new.self all)
+
+pub join_at-requires-clause-tags : goal.join_at-requires-clause-tags
+join_at-requires-clause-tags g c =
+    subst (λ (p : Packets). AreTagsOf p c.tags.result.now) (sym c.packets.ensures) c.tags.ensures
 
 pub join_at-requires-clause-ready : goal.join_at-requires-clause-ready
 join_at-requires-clause-ready g c =

@@ -1,10 +1,11 @@
-use Rattle.std.specs.Prelude.{IfOk, OnErr}
+use Rattle.std.specs.Prelude.{IfOk, IfSome, OnErr}
 use Rattle.packet_frame.specs.declared.format.Format.{Format}
 use Rattle.packet_frame.specs.Refusals.{first_fault_in}
 use Rattle.std.proofs.Common.{None, ◌∙◌, ◌≡◌, ℕ, ◌+◌, ◌≤◌, [], ◌∷◌, ◌++◌, Result, Ok, Err, true, false, sym, ap, subst}
 use Rattle.packet_frame.specs.Frame.{Fields}
 use Rattle.packet_frame.specs.Planned.{planned_fields}
 use Rattle.packet_frame.specs.View.{view}
+use Rattle.packet_group.specs.Tags.{frame_tag}
 use Rattle.pet_interp.specs.Progressive.{step_bound}
 use Rattle.packet_verdicts.specs.declared.verdict.Verdict.{Verdict}
 use Rattle.packet_verdicts.specs.KeptSet.{IsKeptSetBy, count_kept}
@@ -45,6 +46,11 @@ fields_are g c = c.in-Ok.ensures.fields ∙ ap (λ (t : Format). planned_fields 
 
 is_read : (g : Over) (c : After-take g) → first_fault_in c.args.self.now.format c.args.datagram.now ≡ None
 is_read g c = ap (λ (t : Format). first_fault_in t c.args.datagram.now) (sym (format_is g c)) ∙ c.in-Ok.ensures.refused
+
+pub take-requires-clause-tag : goal.take-requires-clause-tag
+take-requires-clause-tag g c =
+    subst (λ (f : Fields). IfSome c.read_tag-tag.result (λ bytes. bytes ≡ frame_tag f))
+    (sym c.in-Ok.ensures.fields) c.read_tag-tag.ensures
 
 pub returns-in-Ok-clause-verdict : goal.returns-in-Ok-clause-verdict
 returns-in-Ok-clause-verdict g c =
