@@ -1,9 +1,10 @@
 //! The receiver of one session.
-ghost use Rattle.std.specs.Prelude.{◌≡◌, ◌≢◌, None, IfErr, map, ◌↔◌, ℕ, ◌+◌, ◌≤◌, false, true, List, [], ◌∷◌, ◌++◌, Some, IsSome, IsTrue, IfOk, IfSome, OnOk, OnErr, option_copied, option_map};
+ghost use Rattle.std.specs.Prelude.{◌≡◌, ◌≢◌, None, IfErr, map, ◌↔◌, ℕ, ◌+◌, ◌≤◌, false, true, List, [], ◌∷◌, ◌++◌, Some, IsSome, IsTrue, IfOk, IfSome, MatchOption, OnOk, OnErr, option_copied, option_map};
 ghost use Rattle.pet_base.specs.declared.limits.TheConstants.{MAX_PACKETS};
 ghost use Rattle.packet_frame.specs.declared.format.TheConstants.{FORMAT};
 ghost use Rattle.packet_frame.specs.Refusals.{fields_of};
 ghost use Rattle.packet_set.specs.Packets.{Packets};
+ghost use Rattle.packet_group.specs.Tags.{IsTagOf};
 ghost use Rattle.pet_interp.specs.Progressive.{step_bound};
 ghost use Rattle.packet_session.specs.Session.{IsMessage, bytes_of_layer};
 ghost use Rattle.packet_verdicts.specs.KeptSet.{IsKeptSet, empty_set, open_group, payload_of, Keeps, count_kept, kept_in_all, told_by};
@@ -154,6 +155,14 @@ impl<'f, F: Rows> Receiver<'f, F> {
         ensures { option_copied result ≡ payload_of (kept_set self.now) group number }
     {
         self.core.packet(group, number)
+    }
+
+    /// The tag of a packet's frame, where it is kept beside the packet. It takes no memory.
+    pub fn tag(&self, group: u32, number: u16) -> Option<[u8; 16]>
+        ensures { IfSome result (λ tag. MatchOption (open_group (kept_set self.now) group) ⊥
+            (λ p. IsTagOf p number tag)) }
+    {
+        self.core.tag(group, number)
     }
 
     /// What the packets of a group share, where one is kept. It takes no memory.
