@@ -1,5 +1,5 @@
 //! The receiver of one session, of any format.
-ghost use Rattle.std.specs.Prelude.{◌≡◌, ◌≢◌, None, IfErr, map, ◌↔◌, ℕ, ◌+◌, ◌≤◌, false, true, List, [], ◌∷◌, ◌++◌, Some, IsSome, IsTrue, IfOk, IfSome, MatchOption, OnOk, OnErr, option_copied, option_map};
+ghost use Rattle.std.specs.Prelude.{◌≡◌, ◌≢◌, None, IfErr, map, ◌↔◌, ℕ, ◌+◌, ◌≤◌, false, true, List, [], ◌∷◌, ◌++◌, Some, IsSome, IsTrue, IfOk, IfSome, OnOk, OnErr, option_copied, option_map};
 ghost use Rattle.std.specs.Option.{option_or};
 ghost use Rattle.stripe_plan.specs.Sizes.{ArePlanBounds};
 ghost use Rattle.packet_frame.specs.Format.{IsFormat};
@@ -7,12 +7,12 @@ ghost use Rattle.packet_frame.specs.Frame.{IsFrameBy};
 ghost use Rattle.packet_frame.specs.Planned.{planned_fields};
 ghost use Rattle.packet_frame.specs.View.{view};
 ghost use Rattle.packet_set.specs.Packets.{Packets};
-ghost use Rattle.packet_group.specs.Tags.{frame_tag, IsTagOf};
 ghost use Rattle.pet_interp.specs.Progressive.{step_bound};
 ghost use Rattle.packet_session.specs.Session.{IsMessage, bytes_of_layer};
 ghost use Rattle.packet_verdicts.specs.KeptSet.{IsKeptSetBy, empty_set, open_group, payload_of, Keeps, count_kept, kept_in_all, keep_by, told_by, cost_kept};
 ghost use Rattle.packet_verdicts.specs.Verdicts.{verdict_in, frame_verdict_by, is_kept, opens, after_in};
 ghost use Rattle.packet_receiver.specs.Arrivals.{Order, HasKept, kept_set, numbers_of, layers_of, stripe_lengths};
+ghost use Rattle.packet_receiver.specs.Tags.{frame_tag, IsKeptTag};
 ghost use Rattle.packet_receiver.specs.UnionSteps.{union_steps};
 ghost use Rattle.packet_verdicts.specs.Union.{union, absorb_fault, new_pairs, shown_by_union};
 ghost use Rattle.packet_receiver.specs.ShownBytes.{IsShown, IsShownBytes, Agrees, IsComplete, shown_in_all};
@@ -225,8 +225,7 @@ impl<'f, F: Rows> PacketReceiver<'f, F> {
 
     /// The tag of a packet's frame as frames are written today, where it is kept beside the packet. It takes no memory.
     pub fn tag(&self, group: u32, number: u16) -> Option<[u8; 16]>
-        ensures { IfSome result (λ tag. MatchOption (open_group (kept_set self.now) group) ⊥
-            (λ p. IsTagOf p number tag)) }
+        ensures { IfSome result (IsKeptTag (kept_set self.now) group number) }
     {
         match self.groups.get(&group) {
             Some(open) => open.tag(number),

@@ -1,4 +1,5 @@
 pub mod Arrivals
 pub mod ShownBytes
 pub mod UnionSteps
+pub mod Tags
 pub mod laws

@@ -1,15 +1,15 @@
 //! The receiver of one session.
-ghost use Rattle.std.specs.Prelude.{◌≡◌, ◌≢◌, None, IfErr, map, ◌↔◌, ℕ, ◌+◌, ◌≤◌, false, true, List, [], ◌∷◌, ◌++◌, Some, IsSome, IsTrue, IfOk, IfSome, MatchOption, OnOk, OnErr, option_copied, option_map};
+ghost use Rattle.std.specs.Prelude.{◌≡◌, ◌≢◌, None, IfErr, map, ◌↔◌, ℕ, ◌+◌, ◌≤◌, false, true, List, [], ◌∷◌, ◌++◌, Some, IsSome, IsTrue, IfOk, IfSome, OnOk, OnErr, option_copied, option_map};
 ghost use Rattle.pet_base.specs.declared.limits.TheConstants.{MAX_PACKETS};
 ghost use Rattle.packet_frame.specs.declared.format.TheConstants.{FORMAT};
 ghost use Rattle.packet_frame.specs.Refusals.{fields_of};
 ghost use Rattle.packet_set.specs.Packets.{Packets};
-ghost use Rattle.packet_group.specs.Tags.{IsTagOf};
 ghost use Rattle.pet_interp.specs.Progressive.{step_bound};
 ghost use Rattle.packet_session.specs.Session.{IsMessage, bytes_of_layer};
 ghost use Rattle.packet_verdicts.specs.KeptSet.{IsKeptSet, empty_set, open_group, payload_of, Keeps, count_kept, kept_in_all, told_by};
 ghost use Rattle.packet_verdicts.specs.Verdicts.{verdict_of, is_kept, opens, after};
 ghost use Rattle.pet_receive.specs.Arrivals.{Order, HasKept, kept_set, numbers_of, layers_of, stripe_lengths};
+ghost use Rattle.pet_receive.specs.Tags.{IsKeptTag};
 ghost use Rattle.pet_receive.specs.UnionSteps.{union_steps};
 ghost use Rattle.packet_verdicts.specs.Union.{union, absorb_fault, new_pairs, shown_by_union};
 ghost use Rattle.pet_receive.specs.ShownBytes.{IsShown, IsShownBytes, Agrees, IsComplete, shown_in_all};
@@ -159,8 +159,7 @@ impl<'f, F: Rows> Receiver<'f, F> {
 
     /// The tag of a packet's frame, where it is kept beside the packet. It takes no memory.
     pub fn tag(&self, group: u32, number: u16) -> Option<[u8; 16]>
-        ensures { IfSome result (λ tag. MatchOption (open_group (kept_set self.now) group) ⊥
-            (λ p. IsTagOf p number tag)) }
+        ensures { IfSome result (IsKeptTag (kept_set self.now) group number) }
     {
         self.core.tag(group, number)
     }

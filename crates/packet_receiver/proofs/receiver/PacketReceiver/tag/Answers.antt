@@ -1,9 +1,9 @@
 use Rattle.std.specs.Prelude.{IfSome, MatchOption, option_map}
 use Rattle.std.proofs.Common.{◌≡◌, ℕ, List, Some, sym, ap, ◌∙◌, subst}
 use Rattle.packet_set.specs.Packets.{Packets}
-use Rattle.packet_group.specs.Tags.{IsTagOf}
 use Rattle.packet_verdicts.specs.KeptSet.{open_group}
 use Rattle.packet_receiver.specs.Arrivals.{GroupState, ReceiverState, kept_set, state_of}
+use Rattle.packet_receiver.specs.Tags.{IsTagOf, IsKeptTag}
 use Rattle.packet_receiver.proofs.Received.{found_in}
 use Rattle.packet_receiver.proofs.receiver.PacketReceiver.tag.Goals as goal
 
@@ -20,7 +20,6 @@ returns-in-Some g c =
     let opened : open_group (kept_set r) c.args.group ≡ Some c.in-Some.open.now.packets =
     found_in r c.args.group ∙ ap (option_map (λ (s : GroupState g.row.F-Elem.Denot). s.packets)) (sym found) in
     subst (λ (v : ReceiverState g.row.F-Elem.Denot). IfSome c.tag.result
-    (λ (tag : List ℕ). MatchOption (open_group (kept_set v) c.args.group) ⊥
-    (λ (p : Packets). IsTagOf p c.args.number tag))) c.self.view_is
+    (IsKeptTag (kept_set v) c.args.group c.args.number)) c.self.view_is
     (subst (λ o. IfSome c.tag.result (λ (tag : List ℕ). MatchOption o ⊥ (λ (p : Packets). IsTagOf p c.args.number tag)))
     (sym opened) c.tag.ensures)
