@@ -4,3 +4,4 @@ pub mod Walk
 pub mod Text
 pub mod StoreFiles
 pub mod Joining
+pub mod Tagged

@@ -1,5 +1,5 @@
 //! Writing a store.
-ghost use Rattle.std.specs.Prelude.{◌≡◌, ◌≤◌, ℕ, Ok, ◌++◌, [], length, take, drop, option_map, OnOk, OnErr, Some};
+ghost use Rattle.std.specs.Prelude.{◌≡◌, ◌≤◌, ◌+◌, ℕ, Ok, ◌++◌, [], length, take, drop, option_map, IfSome, OnOk, OnErr, Some, vec_len, vec_capacity};
 ghost use Rattle.std.specs.List.{cons_option};
 ghost use Rattle.std.specs.Int.{w32, to_be_bytes};
 ghost use Rattle.packet_frame.specs.Frame.{IsFrame, tag_of, text};
@@ -9,13 +9,14 @@ ghost use Rattle.packet_session.specs.Datagrams.{entries_text};
 ghost use Rattle.pet_base.specs.Entries.{entry_text};
 ghost use Rattle.packet_verdicts.specs.KeptSet.{IsKeptSet, cost_kept, open_group};
 ghost use Rattle.pet_receive.specs.Arrivals.{kept_set};
+ghost use Rattle.pet_receive.specs.Tags.{frame_tag};
 ghost use Rattle.packet_verdicts.specs.Union.{frames_in, frames_in_group};
 ghost use Rattle.packet_verdicts.specs.laws.FramesLaws.{frames_of, frame_at};
 ghost use Rattle.store_text.specs.Store.{store_text};
 ghost use Rattle.store_text.specs.Refusals.{read_text};
 
 use field_rows::Rows;
-use packet_frame::{FORMAT, Header, frame_length, write_frame};
+use packet_frame::{FORMAT, Header, begin_frame, frame_length, write_frame};
 use pet_base::NoMemory;
 use pet_receive::Receiver;
 use sha2::{Digest, Sha256};
@@ -177,26 +178,84 @@ fn append_if_kept<F: Rows>(
     ensures front { take (length into.old.items) into.new.items ≡ into.old.items }
 {
     match receiver.packet(group, number) {
-        Some(payload) => append_entry(header, number, payload, into),
+        Some(payload) => {
+            let tag = receiver.tag(group, number);
+            append_entry(header, number, payload, tag, into)
+        }
         None => Ok(()),
     }
 }
 
-/// Appends the entry of a packet.
+/// Appends the entry of a packet, whose tag may be told.
 fn append_entry(
     header: &Header,
     number: u16,
     payload: &[u8],
+    tag: Option<[u8; 16]>,
     into: &mut Vec<u8>,
 ) -> Result<(), NoMemory>
     requires frame { IsFrame (fields_with header.now number payload.now) }
+    requires tag { IfSome tag (λ bytes. bytes ≡ frame_tag (fields_with header.now number payload.now)) }
     ensures text { OnOk result (into.new.items
         ≡ into.old.items ++ entry_text (text (fields_with header.now number payload.now))) }
     ensures front { take (length into.old.items) into.new.items ≡ into.old.items }
 {
     let length = frame_length(header, payload) as u16;
     into.extend_from_slice(&length.to_be_bytes())?;
-    write_frame(header, number, payload, into)
+    append_frame(header, number, payload, tag, into)
+}
+
+/// Appends the frame of a packet. Where its tag is told, nothing is hashed.
+fn append_frame(
+    header: &Header,
+    number: u16,
+    payload: &[u8],
+    tag: Option<[u8; 16]>,
+    into: &mut Vec<u8>,
+) -> Result<(), NoMemory>
+    requires frame { IsFrame (fields_with header.now number payload.now) }
+    requires tag { IfSome tag (λ bytes. bytes ≡ frame_tag (fields_with header.now number payload.now)) }
+    ensures ok { OnOk result (into.new.items
+        ≡ into.old.items ++ text (fields_with header.now number payload.now)) }
+    ensures err { OnErr result (into.new.items ≡ into.old.items) }
+{
+    match tag {
+        Some(bytes) => append_tagged(header, number, payload, &bytes, into),
+        None => write_frame(header, number, payload, into),
+    }
+}
+
+/// Appends the frame of a packet, whose tag this is. The room is taken before the first byte.
+fn append_tagged(
+    header: &Header,
+    number: u16,
+    payload: &[u8],
+    tag: &[u8; 16],
+    into: &mut Vec<u8>,
+) -> Result<(), NoMemory>
+    requires frame { IsFrame (fields_with header.now number payload.now) }
+    requires tag { tag.now ≡ frame_tag (fields_with header.now number payload.now) }
+    ensures ok { OnOk result (into.new.items
+        ≡ into.old.items ++ text (fields_with header.now number payload.now)) }
+    ensures err { OnErr result (into.new.items ≡ into.old.items) }
+{
+    begin_frame(header, number, into)?;
+    append(payload, into);
+    append(tag, into);
+    Ok(())
+}
+
+/// Appends bytes for which there is room.
+fn append(bytes: &[u8], into: &mut Vec<u8>)
+    requires room { vec_len into.old + length bytes.now ≤ vec_capacity into.old }
+    ensures items { into.new.items ≡ into.old.items ++ bytes.now }
+    ensures len { vec_len into.new ≡ vec_len into.old + length bytes.now }
+    ensures room { vec_capacity into.old ≤ vec_capacity into.new }
+{
+    match into.extend_from_slice(bytes) {
+        Ok(()) => {}
+        Err(_) => unreachable!(),
+    }
 }
 
 /// Appends the tag of the bytes from `start` on.
