@@ -1,5 +1,6 @@
 mod Columns
 mod Made
 mod Message
+mod Payloads
 pub mod Ranges
 mod Walk

@@ -1,12 +1,13 @@
 //! The encoder of one group.
-ghost use Rattle.std.specs.Prelude.{◌≡◌, ℕ, ◌+◌, ◌*◌, ◌<◌, ◌≤◌, ◌++◌, length, IfOk, OnOk, OnErr};
+ghost use Rattle.std.specs.Prelude.{◌≡◌, ℕ, ◌+◌, ◌*◌, ◌<◌, ◌≤◌, ◌++◌, length, IfOk, OnOk, OnErr, vec_len, vec_capacity};
 ghost use Rattle.packet_session.specs.Encoding.{frames_text_in};
 ghost use Rattle.packet_frame.specs.Format.{IsFormat};
 ghost use Rattle.packet_frame.specs.Planned.{planned_text, IsPlannedFrame, IsPlanTableIn};
 ghost use Rattle.packet_session.specs.Encoding.{IsGroupOf, frame_of, values_at};
 ghost use Rattle.packet_session.specs.Session.{Session, IsMessage, IsPacketOf};
 ghost use Rattle.field_values.specs.Matrix.{HasRows};
-ghost use Rattle.stripe_plan.specs.Layers.{needs_of, plan_stripes};
+ghost use Rattle.packet_encoder.specs.Payloads.{HasPayloads};
+ghost use Rattle.stripe_plan.specs.Layers.{needs_of, plan_ends, plan_stripes};
 ghost use Rattle.stripe_plan.specs.Sizes.{IsTable, length_by};
 ghost use Rattle.stripe_plan.specs.declared.bounds.TheConstants.{BOUNDS};
 
@@ -106,6 +107,50 @@ impl<'f, F: Field> PacketEncoder<'f, F> {
         append_elements(self.field, values, into);
         end_planned(&self.format, start, into);
         Ok(())
+    }
+
+    /// Appends the frame of the packet `number`, of which this is the payload. Where it finds no memory, `into` is as before.
+    pub fn frame_with(
+        &self,
+        number: u16,
+        payload: &[u8],
+        into: &mut Vec<u8>,
+    ) -> Result<(), NoMemory>
+        requires number { number < self.now.encoding.header.table.packets }
+        requires payload { payload.now ≡ (frame_of F.coding self.now.encoding number).payload }
+        ensures ok { OnOk result (into.new.items ≡ into.old.items
+            ++ planned_text self.now.format (frame_of F.coding self.now.encoding number)) }
+        ensures err { OnErr result (into.new.items ≡ into.old.items) }
+        ensures ranges { OnOk result (IsPlannedFrame self.now.format
+            (frame_of F.coding self.now.encoding number)) }
+    {
+        let start = into.len();
+        begin_planned(&self.format, &self.header, number, into)?;
+        append_payload(payload, into);
+        end_planned(&self.format, start, into);
+        Ok(())
+    }
+
+    /// Appends the payload of the packet `number`, of which these are the values.
+    fn payload(&self, number: u16, values: &[F::Elem], into: &mut Vec<u8>) -> Result<(), NoMemory>
+        requires number { number < self.now.encoding.header.table.packets }
+        requires values { values.now ≡ values_at F.coding self.now.encoding number }
+        ensures payload { OnOk result (into.new.items ≡ into.old.items
+            ++ (frame_of F.coding self.now.encoding number).payload) }
+        ensures long { OnOk result (length (frame_of F.coding self.now.encoding number).payload
+            ≡ F.coding.width * length (plan_ends self.now.encoding.header.table.layers)) }
+    {
+        into.reserve(self.payload_length())?;
+        append_elements(self.field, values, into);
+        Ok(())
+    }
+
+    /// The length of a payload of the group.
+    pub fn payload_length(&self) -> usize
+        ensures value { result ≡ F.coding.width * length (plan_ends self.now.encoding.header.table.layers) }
+        ensures narrow { result ≤ MAX_DATAGRAM }
+    {
+        self.format.word * stripes(&self.header.table) as usize
     }
 
     /// The length of a frame of the group, by its plan's table.
@@ -212,6 +257,51 @@ impl<'f, F: AllValues> PacketEncoder<'f, F> {
         self.frames(first, count, &values, into)
     }
 
+    /// Makes `into` the payloads of the packets `first` to `first + count - 1`, on end. It counts at most one step for each of
+    /// them and word of the table.
+    pub fn payloads<L: Ledger>(
+        &self,
+        first: u16,
+        count: u16,
+        into: &mut Vec<u8>,
+        steps: &mut Steps<L>,
+    ) -> Result<(), NoMemory>
+        requires { first + count ≤ self.now.encoding.header.table.packets }
+        ensures payloads { OnOk result (HasPayloads F.coding self.now.encoding first count
+            into.new.items) }
+        ensures cost { steps.new ≤ steps.old
+            + count * length (needs_of self.now.encoding.header.table.layers) }
+    {
+        let rows = self.rows(first, count, steps)?;
+        self.spell(first, count, &rows, into)
+    }
+
+    /// Makes `into` the payloads of the packets `first` to `first + count - 1`, whose values are these rows.
+    fn spell(
+        &self,
+        first: u16,
+        count: u16,
+        values: &[F::Elem],
+        into: &mut Vec<u8>,
+    ) -> Result<(), NoMemory>
+        requires within { first + count ≤ self.now.encoding.header.table.packets }
+        requires rows { HasRows (length (plan_stripes self.now.encoding.header.table.layers)) count
+            (λ p. values_at F.coding self.now.encoding (first + p)) values.now }
+        ensures payloads { OnOk result (HasPayloads F.coding self.now.encoding first count
+            into.new.items) }
+    {
+        let wide = stripes(&self.header().table) as usize;
+        into.clear();
+        into.reserve(usize::from(count) * self.payload_length())?;
+        let mut at = 0;
+        for p in 0..count {
+            let end = at + wide;
+            self.payload(first + p, &values[at..end], into)?;
+            at = end;
+        }
+        Ok(())
+    }
+
     /// The values that the packets `first` to `first + count - 1` carry: a row for each.
     fn rows<L: Ledger>(
         &self,
@@ -269,5 +359,18 @@ impl<'f, F: AllValues> PacketEncoder<'f, F> {
             at = end;
         }
         Ok(())
+    }
+}
+
+/// Appends the bytes of a payload, for which there is room.
+fn append_payload(payload: &[u8], into: &mut Vec<u8>)
+    requires room { vec_len into.old + length payload.now ≤ vec_capacity into.old }
+    ensures items { into.new.items ≡ into.old.items ++ payload.now }
+    ensures len { vec_len into.new ≡ vec_len into.old + length payload.now }
+    ensures room { vec_capacity into.old ≤ vec_capacity into.new }
+{
+    match into.extend_from_slice(payload) {
+        Ok(()) => {}
+        Err(_) => unreachable!(),
     }
 }

@@ -1,10 +1,10 @@
 -- What the rebuilding of a range of a group's packets hands out and keeps. This project's own.
-use Rattle.std.specs.Prelude.{◌≡◌, ℕ, List, length, map, Some, option_map}
+use Rattle.std.specs.Prelude.{◌≡◌, ℕ, List, map, Some, option_map}
 use Rattle.field_elements.specs.Field.{Coding}
 use Rattle.packet_frame.specs.Frame.{text}
 use Rattle.packet_session.specs.Encoding.{Encoding}
 use Rattle.packet_verdicts.specs.KeptSet.{KeptSet, IsKeptSet, open_group}
-use Rattle.packet_rebuild.specs.Repairs.{not_kept, made_again, keep_all}
+use Rattle.packet_rebuild.specs.Repairs.{made_again, keep_all}
 
 -- the packets of these numbers that are not kept were handed out, by number, and kept
 pub record HasRebuilt {E : Type 0} (c : Coding E) (set : KeptSet) (e : Encoding) (first count : ℕ)

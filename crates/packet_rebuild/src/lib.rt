@@ -16,5 +16,5 @@ mod unlike;
 
 pub use encoder::encoder_of;
 pub use fault::RepairFault;
-pub use ranges::{at_once, make_range};
-pub use unlike::first_unlike;
+pub use ranges::{MadeRange, at_once, make_frame, make_range};
+pub use unlike::{find_unlike, first_unlike};

@@ -3,7 +3,8 @@ ghost use Rattle.std.specs.Prelude.{◌≡◌, ℕ, ◌+◌, ◌*◌, ◌<◌, �
 ghost use Rattle.packet_frame.specs.Frame.{IsFrame, text};
 ghost use Rattle.packet_session.specs.Encoding.{IsGroupOf, frame_of, frames_text};
 ghost use Rattle.packet_session.specs.Session.{Session, IsMessage, IsPacketOf};
-ghost use Rattle.stripe_plan.specs.Layers.{needs_of};
+ghost use Rattle.packet_encoder.specs.Payloads.{HasPayloads};
+ghost use Rattle.stripe_plan.specs.Layers.{needs_of, plan_ends};
 ghost use Rattle.stripe_plan.specs.Sizes.{IsTable};
 
 use field_elements::Field;
@@ -11,7 +12,7 @@ use field_rows::Rows;
 use field_values::AllValues;
 use packet_encoder::PacketEncoder;
 use packet_frame::{FORMAT, Header};
-use pet_base::{MAX_GROUPS, MAX_PACKETS, NoMemory, Steps};
+use pet_base::{MAX_DATAGRAM, MAX_GROUPS, MAX_PACKETS, NoMemory, Steps};
 use std::alloc::Global;
 use std::marker::Model;
 use std::sync::ledger::Ledger;
@@ -66,6 +67,31 @@ impl<'f, F: Field> Encoder<'f, F> {
         ensures message { IsMessage F.coding.width self.now.header.table.layers self.now.message }
     {
         self.core.header()
+    }
+
+    /// The length of a payload of the group.
+    pub fn payload_length(&self) -> usize
+        ensures value { result ≡ F.coding.width * length (plan_ends self.now.header.table.layers) }
+        ensures narrow { result ≤ MAX_DATAGRAM }
+    {
+        self.core.payload_length()
+    }
+
+    /// Appends the frame of the packet `number`, of which this is the payload. Where it finds no memory, `into` is as before.
+    pub fn frame_with(
+        &self,
+        number: u16,
+        payload: &[u8],
+        into: &mut Vec<u8>,
+    ) -> Result<(), NoMemory>
+        requires number { number < self.now.header.table.packets }
+        requires payload { payload.now ≡ (frame_of F.coding self.now number).payload }
+        ensures ok { OnOk result (into.new.items
+            ≡ into.old.items ++ text (frame_of F.coding self.now number)) }
+        ensures err { OnErr result (into.new.items ≡ into.old.items) }
+        ensures ranges { OnOk result (IsFrame (frame_of F.coding self.now number)) }
+    {
+        self.core.frame_with(number, payload, into)
     }
 }
 
@@ -139,5 +165,22 @@ impl<'f, F: AllValues> Encoder<'f, F> {
             → IsPacketOf F.coding s (frame_of F.coding self.now number) }
     {
         self.core.range(first, count, into, steps)
+    }
+
+    /// Makes `into` the payloads of the packets `first` to `first + count - 1`, on end. It counts at most one step for each of
+    /// them and word of the table.
+    pub fn payloads<L: Ledger>(
+        &self,
+        first: u16,
+        count: u16,
+        into: &mut Vec<u8>,
+        steps: &mut Steps<L>,
+    ) -> Result<(), NoMemory>
+        requires { first + count ≤ self.now.header.table.packets }
+        ensures payloads { OnOk result (HasPayloads F.coding self.now first count into.new.items) }
+        ensures cost { steps.new ≤ steps.old
+            + count * length (needs_of self.now.header.table.layers) }
+    {
+        self.core.payloads(first, count, into, steps)
     }
 }

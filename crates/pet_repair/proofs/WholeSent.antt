@@ -8,7 +8,7 @@ use Rattle.packet_frame.specs.Frame.{text}
 use Rattle.packet_session.specs.Encoding.{Encoding, frame_of}
 use Rattle.outside_routes.specs.Way.{Way}
 use Rattle.outside_routes.specs.Sending.{Routes, AreFirstDatagrams, Sends, SendsPart}
-use Rattle.outside_routes.specs.laws.SendingLaws.{sends_then, part_after, part_within}
+use Rattle.outside_routes.specs.laws.SendingLaws.{sends_then, part_after, part_whole, part_within}
 use Rattle.pet_repair.specs.inside.Groups.{range_datagrams}
 
 -- the datagram of one packet more
@@ -46,6 +46,12 @@ part_packet way e from n m d first before after is lt same p part =
     (subst (λ (t : List (List ℕ)). SendsPart way t first after)
     (ap (λ (x : List ℕ). range_datagrams e from n ++ (x ∷ [])) is ∙ sym (datagrams_more e from n))
     (part_after way (range_datagrams e from n) (d ∷ []) first before after same p part))
+
+pub part_so_far : (way : Way) (e : Encoding) (from n m : ℕ) (first after : Routes) → n ≤ m
+    → Sends way (range_datagrams e from n) first after → SendsPart way (range_datagrams e from m) first after
+part_so_far way e from n m first after le sends =
+    part_within way (range_datagrams e from n) (range_datagrams e from m) first after (datagrams_first e from n m le)
+    (part_whole way (range_datagrams e from n) first after sends)
 
 -- the datagrams of a range stand behind those of the packets before it
 pub range_behind : (e : Encoding) (n m : ℕ) → range_datagrams e 0 (n + m) ≡ range_datagrams e 0 n ++ range_datagrams e n m

@@ -1,44 +1,44 @@
 //! The packets of a group that are not kept, made again, sent and kept.
-ghost use Rattle.std.specs.Prelude.{◌≡◌, ◌+◌, ◌<◌, ◌≤◌, ℕ, map, length, OnOk, OnErr, IfErr};
+ghost use Rattle.std.specs.Prelude.{◌+◌, ◌<◌, ◌≤◌, map, OnOk, OnErr, IfErr};
 ghost use Rattle.pet_base.specs.Causes.{stops};
 ghost use Rattle.pet_base.specs.LinkSeen.{LinkStops};
 ghost use Rattle.pet_base.specs.Seen.{PlaceStops};
-ghost use Rattle.pet_base.specs.declared.limits.TheConstants.{MAX_ENTRY};
 ghost use Rattle.outside_routes.specs.RouteFaults.{IsStop, stop_of_a_place, stop_of_a_link};
 ghost use Rattle.outside_routes.specs.Sending.{routes, SendsPart, IsOpen, OnlyGrows, OutputFailed, SendingFailed};
 ghost use Rattle.outside_routes.specs.Way.{way_of};
 ghost use Rattle.field_elements.specs.Gf16.{gf16_coding};
-ghost use Rattle.packet_frame.specs.Frame.{IsFrame, text};
-ghost use Rattle.packet_session.specs.Encoding.{frame_of, frames_text};
+ghost use Rattle.packet_frame.specs.Frame.{text};
 ghost use Rattle.pet_receive.specs.Arrivals.{kept_set};
+ghost use Rattle.packet_rebuild.specs.MadeRange.{IsMadeRange};
 ghost use Rattle.packet_rebuild.specs.Rebuilding.{IsOpenFor};
 ghost use Rattle.packet_rebuild.specs.Repairs.{made_again};
 ghost use Rattle.pet_repair.specs.inside.Arrivals.{SendsAgain, StandsIn};
 
 use crate::sending::put_datagram;
 use outside_routes::{Route, RouteStop};
-use packet_rebuild::{at_once, make_range};
+use packet_rebuild::{MadeRange, at_once, make_frame, make_range};
 use pet_base::{Link, Place, Steps};
 use pet_encode::Encoder;
 use pet_field::Gf16Tables;
 use pet_receive::Receiver;
 use std::alloc::Global;
 use std::sync::ledger::Ledger;
-use stripe_plan::datagram_length;
 
-/// Sends the packets of the encoder's group that are not kept, by number, and keeps them. They are made a range at once, and each
-/// range is sent before the next is made.
+/// Sends the packets of the encoder's group that are not kept, by number, and keeps them. The payloads are made a range at once,
+/// unless they are at hand, and each range is sent before the next is made.
 pub(crate) fn put_others<P: Place, K: Link, L: Ledger>(
     alloc: Global,
     to: Route<'_>,
     receiver: &mut Receiver<'_, Gf16Tables>,
     encoder: &Encoder<'_, Gf16Tables>,
+    made: &mut MadeRange,
     entry: &mut Vec<u8>,
     place: &mut P,
     link: &mut K,
     steps: &mut Steps<L>,
 ) -> Result<(), RouteStop>
     requires open { IsOpen (way_of to) (routes P.Place K.Link place.old link.old) }
+    requires made { IsMadeRange gf16_coding encoder.now made.old }
     requires opened { IsOpenFor (kept_set receiver.old) encoder.now }
     requires stands { StandsIn receiver.old }
     ensures again { OnOk result (SendsAgain (way_of to.entry) (kept_set receiver.old) encoder.now 0
@@ -59,46 +59,42 @@ pub(crate) fn put_others<P: Place, K: Link, L: Ledger>(
     let table = &encoder.header().table;
     let packets = table.packets();
     let most = at_once(table);
-    let mut frames = Vec::new(alloc);
+    let mut frame = Vec::new(alloc);
     let mut first = 0;
     while first < packets {
         let count = most.min(u32::from(packets - first)) as u16;
-        make_range(encoder, first, count, &mut frames, steps)?;
+        make_range(encoder, first, count, made, steps)?;
         put_others_of(
-            to, receiver, encoder, first, count, &frames, entry, place, link, steps,
+            to, receiver, encoder, made, &mut frame, entry, place, link, steps,
         )?;
         first += count;
     }
     Ok(())
 }
 
-/// The same of a range, whose frames these are.
+/// The same of a range that is made.
 fn put_others_of<P: Place, K: Link, L: Ledger>(
     to: Route<'_>,
     receiver: &mut Receiver<'_, Gf16Tables>,
     encoder: &Encoder<'_, Gf16Tables>,
-    first: u16,
-    count: u16,
-    frames: &[u8],
+    made: &MadeRange,
+    frame: &mut Vec<u8>,
     entry: &mut Vec<u8>,
     place: &mut P,
     link: &mut K,
     steps: &mut Steps<L>,
 ) -> Result<(), RouteStop>
     requires open { IsOpen (way_of to) (routes P.Place K.Link place.old link.old) }
-    requires within { first + count ≤ encoder.now.header.table.packets }
-    requires frames { frames.now ≡ frames_text gf16_coding encoder.now first count }
-    requires ranges { (number : ℕ) → first ≤ number → number < first + count
-        → IsFrame (frame_of gf16_coding encoder.now number) }
+    requires made { IsMadeRange gf16_coding encoder.now made.now }
     requires opened { IsOpenFor (kept_set receiver.old) encoder.now }
     requires stands { StandsIn receiver.old }
-    ensures again { OnOk result (SendsAgain (way_of to.entry) (kept_set receiver.old) encoder.now first count
-        (kept_set receiver.new)
+    ensures again { OnOk result (SendsAgain (way_of to.entry) (kept_set receiver.old) encoder.now
+        made.now.first made.now.count (kept_set receiver.new)
         (routes P.Place K.Link place.old link.old) (routes P.Place K.Link place.new link.new)) }
     ensures opened { OnOk result (IsOpenFor (kept_set receiver.new) encoder.now) }
     ensures stands { OnOk result (StandsIn receiver.new) }
     ensures part { OnErr result (SendsPart (way_of to.entry)
-        (map text (made_again gf16_coding (kept_set receiver.old) encoder.now first count))
+        (map text (made_again gf16_coding (kept_set receiver.old) encoder.now made.now.first made.now.count))
         (routes P.Place K.Link place.old link.old) (routes P.Place K.Link place.new link.new)) }
     ensures others { OnlyGrows (routes P.Place K.Link place.old link.old)
         (routes P.Place K.Link place.new link.new) }
@@ -108,43 +104,32 @@ fn put_others_of<P: Place, K: Link, L: Ledger>(
     ensures once_place { PlaceStops (stops stop_of_a_place result) (P.seen place.old) (P.seen place.new) }
     ensures once_link { LinkStops (stops stop_of_a_link result) (K.seen link.old) (K.seen link.new) }
 {
-    let length = datagram_length(&encoder.header().table) as usize;
-    let mut at = 0;
-    for p in 0..count {
-        let end = at + length;
-        let frame = &frames[at..end];
+    for p in 0..made.count {
+        let number = made.first + p;
         put_other(
-            to,
-            receiver,
-            encoder,
-            first + p,
-            frame,
-            entry,
-            place,
-            link,
-            steps,
+            to, receiver, encoder, made, number, frame, entry, place, link, steps,
         )?;
-        at = end;
     }
     Ok(())
 }
 
-/// The same of one packet, whose frame this is.
+/// The same of one packet of it.
 fn put_other<P: Place, K: Link, L: Ledger>(
     to: Route<'_>,
     receiver: &mut Receiver<'_, Gf16Tables>,
     encoder: &Encoder<'_, Gf16Tables>,
+    made: &MadeRange,
     number: u16,
-    frame: &[u8],
+    frame: &mut Vec<u8>,
     entry: &mut Vec<u8>,
     place: &mut P,
     link: &mut K,
     steps: &mut Steps<L>,
 ) -> Result<(), RouteStop>
     requires open { IsOpen (way_of to) (routes P.Place K.Link place.old link.old) }
-    requires frame { frame.now ≡ text (frame_of gf16_coding encoder.now number) }
-    requires short { length frame.now ≤ MAX_ENTRY }
-    requires ranges { IsFrame (frame_of gf16_coding encoder.now number) }
+    requires made { IsMadeRange gf16_coding encoder.now made.now }
+    requires from { made.now.first ≤ number }
+    requires before { number < made.now.first + made.now.count }
     requires opened { IsOpenFor (kept_set receiver.old) encoder.now }
     requires stands { StandsIn receiver.old }
     ensures again { OnOk result (SendsAgain (way_of to.entry) (kept_set receiver.old) encoder.now number 1
@@ -166,7 +151,9 @@ fn put_other<P: Place, K: Link, L: Ledger>(
     if receiver.has(encoder.header().group, number) {
         return Ok(());
     }
-    put_datagram(to, frame, entry, place, link)?;
-    receiver.accept(frame, steps)?;
+    make_frame(encoder, made, number, frame)?;
+    let datagram = frame.as_slice();
+    put_datagram(to, datagram, entry, place, link)?;
+    receiver.accept(datagram, steps)?;
     Ok(())
 }

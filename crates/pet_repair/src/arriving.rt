@@ -13,7 +13,7 @@ ghost use Rattle.pet_repair.specs.inside.Arrivals.{StandsIn, SendsLike, StopsLik
 use crate::again::put_others;
 use crate::sending::put_datagram;
 use outside_routes::{Route, RouteFailed, RouteStop};
-use packet_rebuild::{RepairFault, encoder_of, first_unlike};
+use packet_rebuild::{MadeRange, RepairFault, encoder_of, find_unlike};
 use packet_verdicts::{Verdict, group_of};
 use pet_base::{Link, NoMemory, Place, Steps};
 use pet_encode::Encoder;
@@ -182,8 +182,11 @@ fn make_whole<P: Place, K: Link, L: Ledger>(
     ensures once_place { PlaceStops (stops relay_of_place result) (P.seen place.old) (P.seen place.new) }
     ensures once_link { LinkStops (stops relay_of_link result) (K.seen link.old) (K.seen link.new) }
 {
-    match first_unlike(alloc, receiver, encoder, steps)? {
+    let mut made = MadeRange::new(alloc);
+    match find_unlike(receiver, encoder, &mut made, steps)? {
         Some(number) => Err(RelayStop::Unlike(group, number)),
-        None => Ok(put_others(alloc, to, receiver, encoder, entry, place, link, steps)?),
+        None => Ok(put_others(
+            alloc, to, receiver, encoder, &mut made, entry, place, link, steps,
+        )?),
     }
 }

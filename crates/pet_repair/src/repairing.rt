@@ -17,7 +17,7 @@ ghost use Rattle.pet_repair.specs.inside.Groups.{SendsEncoded, SendsGroup, Sends
 use crate::repair::RepairEnd;
 use crate::whole::put_whole;
 use outside_routes::{Route, RouteFailed, RouteStop, open_route};
-use packet_rebuild::{RepairFault, encoder_of, first_unlike};
+use packet_rebuild::{MadeRange, RepairFault, encoder_of, find_unlike};
 use pet_base::{Link, MAX_PACKETS, NoMemory, Place, Steps};
 use pet_encode::Encoder;
 use pet_field::Gf16Tables;
@@ -211,10 +211,11 @@ fn send_whole<P: Place, K: Link, L: Ledger>(
     ensures once_place { PlaceStops (stops repair_of_place result) (P.seen place.old) (P.seen place.new) }
     ensures once_link { LinkStops (stops repair_of_link result) (K.seen link.old) (K.seen link.new) }
 {
-    match first_unlike(alloc, receiver, encoder, steps)? {
+    let mut made = MadeRange::new(alloc);
+    match find_unlike(receiver, encoder, &mut made, steps)? {
         Some(number) => Err(RepairEnd::Unlike(group, number)),
         None => {
-            put_whole(alloc, to, encoder, place, link, steps)?;
+            put_whole(alloc, to, encoder, &mut made, place, link, steps)?;
             Ok(Repaired {
                 groups: 1,
                 datagrams: u32::from(encoder.header().table.packets()),

@@ -1,5 +1,5 @@
 //! All packets of a group, sent on a route.
-ghost use Rattle.std.specs.Prelude.{◌≡◌, ◌+◌, ◌<◌, ◌≤◌, ℕ, OnOk, OnErr, IfErr};
+ghost use Rattle.std.specs.Prelude.{OnOk, OnErr, IfErr};
 ghost use Rattle.pet_base.specs.Causes.{stops};
 ghost use Rattle.pet_base.specs.LinkSeen.{LinkStops};
 ghost use Rattle.pet_base.specs.Seen.{PlaceStops};
@@ -7,32 +7,32 @@ ghost use Rattle.outside_routes.specs.RouteFaults.{IsStop, stop_of_a_place, stop
 ghost use Rattle.outside_routes.specs.Sending.{routes, Sends, SendsPart, IsOpen, OnlyGrows, OutputFailed, SendingFailed};
 ghost use Rattle.outside_routes.specs.Way.{way_of};
 ghost use Rattle.field_elements.specs.Gf16.{gf16_coding};
-ghost use Rattle.packet_frame.specs.Frame.{IsFrame};
-ghost use Rattle.packet_session.specs.Encoding.{frame_of, frames_text};
+ghost use Rattle.packet_rebuild.specs.MadeRange.{IsMadeRange};
 ghost use Rattle.pet_repair.specs.Repaired.{all_datagrams};
 ghost use Rattle.pet_repair.specs.inside.Groups.{range_datagrams};
 
 use crate::sending::put_datagram;
 use outside_routes::{Route, RouteStop};
-use packet_rebuild::{at_once, make_range};
+use packet_rebuild::{MadeRange, at_once, make_frame, make_range};
 use pet_base::{Link, Place, Steps};
 use pet_encode::Encoder;
 use pet_field::Gf16Tables;
 use std::alloc::Global;
 use std::sync::ledger::Ledger;
-use stripe_plan::datagram_length;
 
-/// Sends all packets of the encoder's group, by number. They are made a range at once, and each range is sent before the next is
-/// made.
+/// Sends all packets of the encoder's group, by number. Their payloads are made a range at once, unless they are at hand, and each
+/// range is sent before the next is made.
 pub(crate) fn put_whole<P: Place, K: Link, L: Ledger>(
     alloc: Global,
     to: Route<'_>,
     encoder: &Encoder<'_, Gf16Tables>,
+    made: &mut MadeRange,
     place: &mut P,
     link: &mut K,
     steps: &mut Steps<L>,
 ) -> Result<(), RouteStop>
     requires open { IsOpen (way_of to) (routes P.Place K.Link place.old link.old) }
+    requires made { IsMadeRange gf16_coding encoder.now made.old }
     ensures sends { OnOk result (Sends (way_of to.entry) (all_datagrams gf16_coding encoder.now)
         (routes P.Place K.Link place.old link.old) (routes P.Place K.Link place.new link.new)) }
     ensures part { OnErr result (SendsPart (way_of to.entry) (all_datagrams gf16_coding encoder.now)
@@ -48,37 +48,35 @@ pub(crate) fn put_whole<P: Place, K: Link, L: Ledger>(
     let table = &encoder.header().table;
     let packets = table.packets();
     let most = at_once(table);
-    let mut frames = Vec::new(alloc);
+    let mut frame = Vec::new(alloc);
     let mut entry = Vec::new(alloc);
     let mut first = 0;
     while first < packets {
         let count = most.min(u32::from(packets - first)) as u16;
-        make_range(encoder, first, count, &mut frames, steps)?;
-        put_range(to, encoder, first, count, &frames, &mut entry, place, link)?;
+        make_range(encoder, first, count, made, steps)?;
+        put_range(to, encoder, made, &mut frame, &mut entry, place, link)?;
         first += count;
     }
     Ok(())
 }
 
-/// Sends the packets of a range, whose frames these are.
+/// Sends the packets of a range that is made.
 fn put_range<P: Place, K: Link>(
     to: Route<'_>,
     encoder: &Encoder<'_, Gf16Tables>,
-    first: u16,
-    count: u16,
-    frames: &[u8],
+    made: &MadeRange,
+    frame: &mut Vec<u8>,
     entry: &mut Vec<u8>,
     place: &mut P,
     link: &mut K,
 ) -> Result<(), RouteStop>
     requires open { IsOpen (way_of to) (routes P.Place K.Link place.old link.old) }
-    requires within { first + count ≤ encoder.now.header.table.packets }
-    requires frames { frames.now ≡ frames_text gf16_coding encoder.now first count }
-    requires ranges { (number : ℕ) → first ≤ number → number < first + count
-        → IsFrame (frame_of gf16_coding encoder.now number) }
-    ensures sends { OnOk result (Sends (way_of to.entry) (range_datagrams encoder.now first count)
+    requires made { IsMadeRange gf16_coding encoder.now made.now }
+    ensures sends { OnOk result (Sends (way_of to.entry)
+        (range_datagrams encoder.now made.now.first made.now.count)
         (routes P.Place K.Link place.old link.old) (routes P.Place K.Link place.new link.new)) }
-    ensures part { OnErr result (SendsPart (way_of to.entry) (range_datagrams encoder.now first count)
+    ensures part { OnErr result (SendsPart (way_of to.entry)
+        (range_datagrams encoder.now made.now.first made.now.count)
         (routes P.Place K.Link place.old link.old) (routes P.Place K.Link place.new link.new)) }
     ensures others { OnlyGrows (routes P.Place K.Link place.old link.old)
         (routes P.Place K.Link place.new link.new) }
@@ -88,12 +86,9 @@ fn put_range<P: Place, K: Link>(
     ensures once_place { PlaceStops (stops stop_of_a_place result) (P.seen place.old) (P.seen place.new) }
     ensures once_link { LinkStops (stops stop_of_a_link result) (K.seen link.old) (K.seen link.new) }
 {
-    let length = datagram_length(&encoder.header().table) as usize;
-    let mut at = 0;
-    for _ in 0..count {
-        let end = at + length;
-        put_datagram(to, &frames[at..end], entry, place, link)?;
-        at = end;
+    for p in 0..made.count {
+        make_frame(encoder, made, made.first + p, frame)?;
+        put_datagram(to, frame, entry, place, link)?;
     }
     Ok(())
 }

@@ -1,39 +1,15 @@
 -- The least packet that is kept with another payload, range by range, and one packet.
-use Rattle.std.proofs.Common.{◌≡◌, ℕ, ◌+◌, ◌<◌, ◌≤◌, ◌-◌, true, false, List, Option, None, Some, refl, sym, ap, ◌∙◌}
+use Rattle.std.proofs.Common.{◌≡◌, ℕ, ◌+◌, ◌<◌, ◌≤◌, ◌-◌, true, false, Option, None, Some, refl, sym, ap, ◌∙◌}
 use Rattle.std.proofs.Common.{arith}
-use Rattle.std.specs.Prelude.{not, is_some}
+use Rattle.std.specs.Prelude.{is_some}
 use Rattle.std.specs.List.{find, range_with_len}
-use Rattle.std.specs.Option.{option_map_or}
-use Rattle.std.specs.Str.{bytes_eq}
 use Rattle.field_elements.specs.Field.{Coding}
-use Rattle.packet_frame.specs.Frame.{Fields, IsFrame, text}
-use Rattle.packet_frame.specs.Refusals.{fields_of, first_fault}
-use Rattle.packet_frame.specs.declared.frame.Header.{Header}
-use Rattle.packet_frame.specs.laws.Laws.{texts_are_read}
-use Rattle.packet_session.specs.Encoding.{Encoding, frame_of}
-use Rattle.packet_verdicts.specs.KeptSet.{KeptSet, payload_of}
+use Rattle.packet_session.specs.Encoding.{Encoding}
+use Rattle.packet_verdicts.specs.KeptSet.{KeptSet}
 use Rattle.packet_rebuild.specs.Repairs.{is_unlike, unlike_in, first_unlike_of}
 use Rattle.packet_rebuild.specs.laws.RangeLaws.{range_append, find_append, find_found, find_more, find_here}
 
 module _ {E : Type 0} (c : Coding E) (set : KeptSet) (e : Encoding) where
-  -- a text that is a frame of the group
-  pub read_at : (bytes : List ℕ) (n : ℕ) → bytes ≡ text (frame_of c e n) → IsFrame (frame_of c e n)
-      → first_fault bytes ≡ None
-  read_at bytes n same is = ap first_fault same ∙ (texts_are_read (frame_of c e n) is).accepted
-
-  -- what is told of its payload
-  pub other_is : (bytes : List ℕ) (h : Header) (n : ℕ) → bytes ≡ text (frame_of c e n) → IsFrame (frame_of c e n)
-      → h ≡ e.header
-      → option_map_or (λ payload. not (bytes_eq payload (fields_of bytes).payload))
-      (payload_of set h.group n) false ≡ is_unlike c set e n
-  other_is bytes h n same is header =
-      ap (λ (d : List ℕ). option_map_or (λ payload. not (bytes_eq payload (fields_of d).payload))
-      (payload_of set h.group n) false) same
-      ∙ ap (λ (x : Fields). option_map_or (λ payload. not (bytes_eq payload x.payload))
-      (payload_of set h.group n) false) (texts_are_read (frame_of c e n) is).fields
-      ∙ ap (λ (x : Header). option_map_or (λ payload. not (bytes_eq payload (frame_of c e n).payload))
-      (payload_of set x.group n) false) header
-
   -- none below a number, and none at it
   pub unlike_more : (first n : ℕ) → unlike_in c set e first n ≡ None → is_unlike c set e (first + n) ≡ false
       → unlike_in c set e first (n + 1) ≡ None

@@ -1,13 +1,14 @@
-use Rattle.std.proofs.Common.{◌≡◌, ◌+◌, ◌≤◌, map, refl, ap, arith, ◌∙◌}
+use Rattle.std.proofs.Common.{◌≡◌, ◌+◌, ◌≤◌, map, refl, ap, subst, arith, ◌∙◌}
 use Rattle.pet_base.specs.laws.Through.{on_any_err}
 use Rattle.field_elements.specs.Gf16.{gf16_coding}
 use Rattle.packet_frame.specs.Frame.{text}
 use Rattle.packet_frame.specs.declared.frame.Header.{Header}
-use Rattle.outside_routes.specs.Sending.{routes}
+use Rattle.outside_routes.specs.Sending.{routes, SendsPart}
 use Rattle.outside_routes.specs.Way.{way_of}
 use Rattle.outside_routes.specs.laws.SendingLaws.{part_nothing, grows_same, grows_then, grows_open}
 use Rattle.packet_rebuild.specs.Repairs.{made_again}
 use Rattle.pet_receive.specs.Arrivals.{kept_set}
+use Rattle.pet_repair.specs.inside.Arrivals.{SendsAgain}
 use Rattle.pet_repair.proofs.AgainSent.{again_none, again_then, again_part}
 use Rattle.pet_repair.proofs.again.put_others.Goals as goal
 
@@ -16,6 +17,7 @@ loop-first-init g c =
     let r = routes g.P.Place g.K.Link c.args.place.now c.args.link.now in
     record {
       within = omega arith;
+      made = c.requires.made;
       again = again_none (way_of c.args.to) c.args.encoder.now (kept_set c.args.receiver.now) 0 r;
       opened = c.requires.opened;
       stands = c.requires.stands;
@@ -51,6 +53,8 @@ returns-in_err-put_others_of-clause-part g c =
     c.packets-packets.ensures.value ∙ ap (λ (h : Header). h.table.packets) c.header.ensures.value in
     let within : c.loop-first.first + c.min-count.result ≤ e.header.table.packets =
     omega (arith, c.min-count.ensures, c.from.ensures, c.loop-first.invariant.within, packets) in
+    let before = routes g.P.Place g.K.Link c.loop-first.place c.loop-first.link in
+    let after = routes g.P.Place g.K.Link c.put_others_of.new.place c.put_others_of.new.link in
     on_any_err c.from_residual-in_err-put_others_of.result
     (again_part (way_of c.args.to) e (kept_set c.args.receiver.now) (kept_set c.loop-first.receiver) 0
     c.loop-first.first c.loop-first.first c.min-count.result e.header.table.packets
@@ -58,7 +62,12 @@ returns-in_err-put_others_of-clause-part g c =
     (routes g.P.Place g.K.Link c.loop-first.place c.loop-first.link)
     (routes g.P.Place g.K.Link c.put_others_of.new.place c.put_others_of.new.link)
     c.loop-first.invariant.others.place.target c.loop-first.invariant.again (omega arith) within
-    c.in_err-put_others_of.ensures.part)
+    (subst (λ n. SendsPart (way_of c.args.to)
+    (map text (made_again gf16_coding (kept_set c.loop-first.receiver) e n c.min-count.result)) before after)
+    c.in_ok-make_range.ensures.first
+    (subst (λ n. SendsPart (way_of c.args.to)
+    (map text (made_again gf16_coding (kept_set c.loop-first.receiver) e c.make_range.new.made.first n)) before after)
+    c.in_ok-make_range.ensures.count c.in_err-put_others_of.ensures.part)))
 
 pub loop-first-preserved : goal.loop-first-preserved
 loop-first-preserved g c =
@@ -68,11 +77,17 @@ loop-first-preserved g c =
     let after = routes g.P.Place g.K.Link c.put_others_of.new.place c.put_others_of.new.link in
     record {
       within = omega (arith, c.min-count.ensures, c.from.ensures, c.loop-first.invariant.within);
+      made = c.in_ok-make_range.ensures.made;
       again =
           again_then (way_of c.args.to) e (kept_set c.args.receiver.now) (kept_set c.loop-first.receiver)
           (kept_set c.put_others_of.new.receiver) 0 c.loop-first.first c.loop-first.first c.min-count.result
           (c.loop-first.first + c.min-count.result) first before after c.loop-first.invariant.others.place.target
-          c.loop-first.invariant.again (omega arith) c.in_ok-put_others_of.ensures.again refl;
+          c.loop-first.invariant.again (omega arith)
+          (subst (λ n. SendsAgain (way_of c.args.to) (kept_set c.loop-first.receiver) e n c.min-count.result
+          (kept_set c.put_others_of.new.receiver) before after) c.in_ok-make_range.ensures.first
+          (subst (λ n. SendsAgain (way_of c.args.to) (kept_set c.loop-first.receiver) e c.make_range.new.made.first n
+          (kept_set c.put_others_of.new.receiver) before after) c.in_ok-make_range.ensures.count
+          c.in_ok-put_others_of.ensures.again)) refl;
       opened = c.in_ok-put_others_of.ensures.opened;
       stands = c.in_ok-put_others_of.ensures.stands;
       others = grows_then first before after c.loop-first.invariant.others c.put_others_of.ensures.others;

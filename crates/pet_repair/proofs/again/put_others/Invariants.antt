@@ -1,4 +1,6 @@
 use Rattle.std.proofs.Common.{◌≡◌, ◌≤◌, ◌-◌}
+use Rattle.field_elements.specs.Gf16.{gf16_coding}
+use Rattle.packet_rebuild.specs.MadeRange.{IsMadeRange}
 use Rattle.outside_routes.specs.Sending.{routes, OnlyGrows}
 use Rattle.outside_routes.specs.Way.{way_of}
 use Rattle.pet_receive.specs.Arrivals.{kept_set}
@@ -9,6 +11,7 @@ use Rattle.pet_repair.proofs.again.put_others.Given as goal
 abbrev pub invariant-loop-first : goal.invariant-loop-first
 invariant-loop-first g l = record {
   within : l.first ≤ l.packets;
+  made : IsMadeRange gf16_coding l.encoder l.made;
   again : SendsAgain (way_of l.to) (kept_set l.initial.receiver) l.encoder 0 l.first (kept_set l.receiver)
       (routes g.P.Place g.K.Link l.initial.place l.initial.link) (routes g.P.Place g.K.Link l.place l.link);
   opened : IsOpenFor (kept_set l.receiver) l.encoder;

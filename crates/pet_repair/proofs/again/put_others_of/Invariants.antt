@@ -1,4 +1,4 @@
-use Rattle.std.proofs.Common.{◌≡◌, ◌*◌}
+use Rattle.std.proofs.Common.{◌≡◌}
 use Rattle.outside_routes.specs.Sending.{routes, OnlyGrows}
 use Rattle.outside_routes.specs.Way.{way_of}
 use Rattle.pet_receive.specs.Arrivals.{kept_set}
@@ -8,8 +8,7 @@ use Rattle.pet_repair.proofs.again.put_others_of.Given as goal
 
 abbrev pub invariant-loop-p : goal.invariant-loop-p
 invariant-loop-p g l = record {
-  spot : l.at ≡ l.p * l.length;
-  again : SendsAgain (way_of l.to) (kept_set l.initial.receiver) l.encoder l.first l.p (kept_set l.receiver)
+  again : SendsAgain (way_of l.to) (kept_set l.initial.receiver) l.encoder l.made.first l.p (kept_set l.receiver)
       (routes g.P.Place g.K.Link l.initial.place l.initial.link) (routes g.P.Place g.K.Link l.place l.link);
   opened : IsOpenFor (kept_set l.receiver) l.encoder;
   stands : StandsIn l.receiver;

@@ -1,13 +1,12 @@
-use Rattle.std.proofs.Common.{◌≡◌, ◌*◌}
+use Rattle.std.proofs.Common.{◌≡◌}
 use Rattle.outside_routes.specs.Sending.{routes, Sends, OnlyGrows}
 use Rattle.outside_routes.specs.Way.{way_of}
 use Rattle.pet_repair.specs.inside.Groups.{range_datagrams}
 use Rattle.pet_repair.proofs.whole.put_range.Given as goal
 
-abbrev pub invariant-loop : goal.invariant-loop
-invariant-loop g l = record {
-  place : l.at ≡ l.counter * l.length;
-  sends : Sends (way_of l.to) (range_datagrams l.encoder l.first l.counter)
+abbrev pub invariant-loop-p : goal.invariant-loop-p
+invariant-loop-p g l = record {
+  sends : Sends (way_of l.to) (range_datagrams l.encoder l.made.first l.p)
       (routes g.P.Place g.K.Link l.initial.place l.initial.link) (routes g.P.Place g.K.Link l.place l.link);
   others : OnlyGrows (routes g.P.Place g.K.Link l.initial.place l.initial.link)
       (routes g.P.Place g.K.Link l.place l.link);

@@ -1,7 +1,7 @@
-use Rattle.std.proofs.Common.{◌≡◌, ◌+◌, ◌≤◌, refl, ap, arith, ◌∙◌}
+use Rattle.std.proofs.Common.{◌≡◌, ◌+◌, ◌≤◌, refl, ap, subst, arith, ◌∙◌}
 use Rattle.pet_base.specs.laws.Through.{on_any_err}
 use Rattle.packet_frame.specs.declared.frame.Header.{Header}
-use Rattle.outside_routes.specs.Sending.{routes}
+use Rattle.outside_routes.specs.Sending.{routes, Sends, SendsPart}
 use Rattle.outside_routes.specs.Way.{way_of}
 use Rattle.outside_routes.specs.laws.SendingLaws.{sends_nothing, part_nothing, grows_same, grows_then, grows_open}
 use Rattle.pet_repair.specs.inside.Groups.{range_datagrams}
@@ -13,6 +13,7 @@ loop-first-init g c =
     let r = routes g.P.Place g.K.Link c.args.place.now c.args.link.now in
     record {
       within = omega arith;
+      made = c.requires.made;
       sends = sends_nothing (way_of c.args.to) r r refl refl;
       others = grows_same r;
       calm_place = refl;
@@ -44,12 +45,16 @@ returns-in_err-put_range-clause-part g c =
     c.packets-packets.ensures.value ∙ ap (λ (h : Header). h.table.packets) c.header.ensures.value in
     let within : c.loop-first.first + c.min-count.result ≤ e.header.table.packets =
     omega (arith, c.min-count.ensures, c.from.ensures, c.loop-first.invariant.within, packets) in
+    let before = routes g.P.Place g.K.Link c.loop-first.place c.loop-first.link in
+    let after = routes g.P.Place g.K.Link c.put_range.new.place c.put_range.new.link in
     on_any_err c.from_residual-in_err-put_range.result
     (part_range (way_of c.args.to) e c.loop-first.first c.min-count.result e.header.table.packets
-    (routes g.P.Place g.K.Link c.args.place.now c.args.link.now)
-    (routes g.P.Place g.K.Link c.loop-first.place c.loop-first.link)
-    (routes g.P.Place g.K.Link c.put_range.new.place c.put_range.new.link)
-    within c.loop-first.invariant.others.place.target c.loop-first.invariant.sends c.in_err-put_range.ensures.part)
+    (routes g.P.Place g.K.Link c.args.place.now c.args.link.now) before after
+    within c.loop-first.invariant.others.place.target c.loop-first.invariant.sends
+    (subst (λ n. SendsPart (way_of c.args.to) (range_datagrams e n c.min-count.result) before after)
+    c.in_ok-make_range.ensures.first
+    (subst (λ n. SendsPart (way_of c.args.to) (range_datagrams e c.make_range.new.made.first n) before after)
+    c.in_ok-make_range.ensures.count c.in_err-put_range.ensures.part)))
 
 pub loop-first-preserved : goal.loop-first-preserved
 loop-first-preserved g c =
@@ -59,9 +64,14 @@ loop-first-preserved g c =
     let after = routes g.P.Place g.K.Link c.put_range.new.place c.put_range.new.link in
     record {
       within = omega (arith, c.min-count.ensures, c.from.ensures, c.loop-first.invariant.within);
+      made = c.in_ok-make_range.ensures.made;
       sends =
           sends_range (way_of c.args.to) e c.loop-first.first c.min-count.result first before after
-          c.loop-first.invariant.others.place.target c.loop-first.invariant.sends c.in_ok-put_range.ensures.sends;
+          c.loop-first.invariant.others.place.target c.loop-first.invariant.sends
+          (subst (λ n. Sends (way_of c.args.to) (range_datagrams e n c.min-count.result) before after)
+          c.in_ok-make_range.ensures.first
+          (subst (λ n. Sends (way_of c.args.to) (range_datagrams e c.make_range.new.made.first n) before after)
+          c.in_ok-make_range.ensures.count c.in_ok-put_range.ensures.sends));
       others = grows_then first before after c.loop-first.invariant.others c.put_range.ensures.others;
       calm_place = c.in_ok-put_range.ensures.once_place ∙ c.loop-first.invariant.calm_place;
       calm_link = c.in_ok-put_range.ensures.once_link ∙ c.loop-first.invariant.calm_link;

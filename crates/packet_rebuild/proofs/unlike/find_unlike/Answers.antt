@@ -4,7 +4,19 @@ use Rattle.stripe_plan.specs.Layers.{needs_of}
 use Rattle.packet_frame.specs.declared.frame.Header.{Header}
 use Rattle.pet_receive.specs.Arrivals.{kept_set}
 use Rattle.packet_rebuild.specs.laws.UnlikeLaws.{unlike_then, unlike_found, none_unlike, not_some}
-use Rattle.packet_rebuild.proofs.unlike.first_unlike.Goals as goal
+use Rattle.packet_rebuild.proofs.Pieces.{made_none}
+use Rattle.packet_rebuild.proofs.unlike.find_unlike.Goals as goal
+
+pub loop-first-init : goal.loop-first-init
+loop-first-init g c = record {
+  within = omega arith;
+  none = refl;
+  made =
+      made_none g.F.Field.coding c.args.encoder.now c.clear.new.self
+      (omega (arith, c.header.ensures.table.few_packets)) c.clear.ensures.first c.clear.ensures.count
+      c.clear.ensures.payloads;
+  cost = omega arith;
+}
 
 pub returns-in_err-found-clause-cost : goal.returns-in_err-found-clause-cost
 returns-in_err-found-clause-cost g c =
@@ -76,6 +88,7 @@ loop-first-preserved g c =
           c.min-count.result _ c.loop-first.invariant.none refl
           (sym c.in_ok-found.ensures.least ∙ not_some c.in_ok-found.found (sym c.is_some.ensures
           ∙ c.if-is_some.false)) refl;
+      made = c.in_ok-found.ensures.made;
       cost = omega (arith, c.loop-first.invariant.cost, c.unlike_among.ensures.cost);
     }
 
