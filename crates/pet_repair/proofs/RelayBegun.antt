@@ -1,5 +1,5 @@
 -- What was relayed since FROM was begun and TO made ready, seen from before the command began.
-use Rattle.std.proofs.Common.{◌≡◌, ◌⊎◌, ◌↔◌, ℕ, ◌≤◌, List, [], ◌∷◌, ◌++◌, Option, Bool, true, false, Ok, Err}
+use Rattle.std.proofs.Common.{◌≡◌, ◌↔◌, ℕ, ◌≤◌, List, [], ◌∷◌, ◌++◌, Option, Bool, true, false, Ok, Err}
 use Rattle.std.proofs.Common.{refl, sym, ap, subst, ◌∙◌, arith, inl, inr}
 use Rattle.std.specs.Prelude.{IsTrue, IfSome, IsErrAnd, Result, option_map}
 use Rattle.pet_base.specs.Causes.{stops}
@@ -8,15 +8,15 @@ use Rattle.pet_base.specs.declared.place.Side.TheVariants.{Read, Written}
 use Rattle.pet_base.specs.Entries.{datagrams}
 use Rattle.pet_base.specs.LinkSeen.{LinkSeen}
 use Rattle.pet_base.specs.OutsideSeen.{OutsideSeen}
-use Rattle.pet_base.specs.Seen.{Seen, Blame, Names}
+use Rattle.pet_base.specs.Seen.{Seen, Names}
 use Rattle.pet_base.specs.laws.SeenLaws.{Blames-named, HadFault-since}
-use Rattle.outside_files.specs.Uses.{Failed, IsOneOf}
+use Rattle.outside_files.specs.Uses.{Failed}
 use Rattle.outside_files.specs.laws.PrintedLaws.{Rose-since}
 use Rattle.outside_routes.specs.Bound.{bound_text}
 use Rattle.outside_routes.specs.Coming.{coming, HasInput, HaveCome, KeepsFeed}
-use Rattle.outside_routes.specs.RouteFaults.{AimedFailed, BoundFailed, IsFailure, ReceivingFailed, stop_of_route}
+use Rattle.outside_routes.specs.RouteFaults.{AimedFailed, InputFailed, IsFailure, stop_of_route}
 use Rattle.outside_routes.specs.Sending.{Routes, AreFirstDatagrams, IsOpened, IsUnopened, OnlyOpens, CreatingFailed}
-use Rattle.outside_routes.specs.Sending.{IsOpen, SendingFailed}
+use Rattle.outside_routes.specs.Sending.{IsOpen, OutputFailed}
 use Rattle.outside_routes.specs.Way.{Way, OnFile, OnLink}
 use Rattle.outside_routes.specs.declared.fault.RouteFailed.{RouteFailed}
 use Rattle.outside_routes.specs.declared.fault.RouteFailed.TheVariants as failed
@@ -24,14 +24,14 @@ use Rattle.outside_routes.specs.declared.fault.RouteStop.{RouteStop}
 use Rattle.outside_routes.specs.declared.fault.RouteStop.TheVariants as stop
 use Rattle.packet_reading.specs.Begun.{Begun, Begins, EnteringFailed, IsBoundWhereStopped, OutStops, StopsBeginning}
 use Rattle.packet_reading.specs.Opened.{IsBoundTo, KeepsLink, PrintedPort}
-use Rattle.packet_reading.specs.Layers.{HaveLeft, IsReadFirst}
+use Rattle.packet_reading.specs.Layers.{HaveComeFirst, HaveLeft, IsReadFirst}
 use Rattle.packet_reading.specs.laws.BegunLaws.{is_read, link_failed, there}
 use Rattle.pet_receive.specs.Arrivals.{ReceiverState, kept_set}
 use Rattle.pet_receive.specs.ShownBytes.{IsComplete}
 use Rattle.packet_met.specs.Kept.{nothing_of}
 use Rattle.packet_verdicts.specs.KeptSet.{kept_in_all}
 use Rattle.pet_repair.specs.Repaired.{on_end}
-use Rattle.pet_repair.specs.Relays.{Relays, RelaysFront, RelaysToUnlike, IsReadTo, HasNotBegun}
+use Rattle.pet_repair.specs.Relays.{Relays, RelaysFront, RelaysToUnlike, RelaysUntilFault, HasNotBegun, WritingFailed}
 use Rattle.pet_repair.specs.Relays.{relay_uses, routes_of, EndsRelay, IsBoundAtRelayEnd, DoesRelay}
 use Rattle.pet_repair.specs.SentTo.{SentTo, SentFront}
 use Rattle.pet_repair.specs.declared.arriving.RelayStop.{RelayStop}
@@ -43,8 +43,9 @@ use Rattle.pet_repair.specs.Failures.{relay_end_of_place, relay_end_of_link, rel
 use Rattle.pet_repair.specs.inside.Arrivals.{StandsIn, relay_of_place, relay_of_link, relay_of_output}
 use Rattle.pet_repair.specs.inside.Handed.{Handed, HandedPart}
 use Rattle.pet_repair.specs.inside.RelayEnds.{OnlyBegins, IsRelayingOf, IsEndOf, end_of_relay}
-use Rattle.pet_repair.specs.inside.RelaySoFar.{RelayedAll, CameFirst, CameTo, RelayedPart, RelayedTo, IsRelayUse}
+use Rattle.pet_repair.specs.inside.RelaySoFar.{RelayedAll, CameFirst, CameTo, RelayedPart, RelayedTo, RelayedUntil}
 use Rattle.pet_repair.specs.inside.RelaySoFar.{KeepsAddresses, StopsRelaying}
+use Rattle.pet_repair.specs.laws.RelayUses.{entering_used}
 use Rattle.pet_repair.proofs.HandedOn.{sent_to, sent_front, sent_since, front_since, aimed_failed}
 use Rattle.pet_repair.proofs.RelayedMore.{receiving_since}
 
@@ -79,22 +80,6 @@ aimed_before (OnFile name) before mid new later failed = failed
 aimed_before (OnLink address) before mid new later failed =
     record { rose = Rose-since before.faults mid.faults new.faults later failed.rose; blame = failed.blame }
 
--- which file is blamed
-used : (from to : Way) (before mid : OutsideSeen) (opened : Routes) → Begun from before mid
-    → mid.place.files ≡ before.place.files → OnlyOpens (routes_of mid) opened → IsOpened to (routes_of mid) opened
-    → (b : Blame) → IsRelayUse from to opened.place b → IsOneOf (relay_uses from to) b
-used (OnFile name) (OnFile other) before mid opened begun files opens is b (inl read) =
-    inl (Blames-named before.place.files opened.place.source name Read b
-    (subst (λ (o : Option (List ℕ)). Names before.place.files o name) (sym opens.input.source) begun.source) read)
-used (OnFile name) (OnFile other) before mid opened begun files opens is b (inr written) =
-    inr (Blames-named mid.place.files opened.place.target other Written b is.target written)
-used (OnFile name) (OnLink address) before mid opened begun files opens is b read =
-    Blames-named before.place.files opened.place.source name Read b
-    (subst (λ (o : Option (List ℕ)). Names before.place.files o name) (sym opens.input.source) begun.source) read
-used (OnLink address) (OnFile other) before mid opened begun files opens is b written =
-    Blames-named mid.place.files opened.place.target other Written b is.target written
-used (OnLink address) (OnLink other) before mid opened begun files opens is b none = absurd none
-
 -- TO could not be made ready
 creating_used : (from to : Way) (before old new : Seen) → before.faults ≤ old.faults → CreatingFailed to old new
     → Failed (relay_uses from to) before new
@@ -103,12 +88,6 @@ creating_used (OnFile name) (OnFile other) before old new later failed =
 creating_used (OnLink address) (OnFile other) before old new later failed =
     HadFault-since before old new _ _ later (λ b is. is) failed
 creating_used from (OnLink address) before old new later failed = absurd failed
-
--- FROM could not be begun
-entering_used : (from to : Way) (old new : Seen) → EnteringFailed from old new → Failed (relay_uses from to) old new
-entering_used (OnFile name) (OnFile other) old new failed = HadFault-since old old new _ _ (omega arith) (λ b is. inl is) failed
-entering_used (OnFile name) (OnLink address) old new failed = failed
-entering_used (OnLink address) to old new failed = absurd failed
 
 module _ (from : Way) (session : List ℕ) (to : Way) (before mid : OutsideSeen) (only : OnlyBegins from before mid) where
   -- nothing has begun
@@ -119,8 +98,7 @@ module _ (from : Way) (session : List ℕ) (to : Way) (before mid : OutsideSeen)
       → EndsRelay from session to before mid (end_of_relay (Route s))
   stops_beginning stop.NoMemory stops = inl (not_begun, stops.1)
   stops_beginning stop.Place stops = (
-    entering_used from to before.place mid.place stops.2,
-    inl not_begun,
+    inl (entering_used from to before.place mid.place stops.2, not_begun),
     printed_none from stops.1 stops.2,
   )
     where
@@ -128,7 +106,7 @@ module _ (from : Way) (session : List ℕ) (to : Way) (before mid : OutsideSeen)
           → PrintedPort w before mid
       printed_none (OnFile name) written failed = written
       printed_none (OnLink address) written failed = absurd failed
-  stops_beginning stop.Link stops = (inl stops.2, inl (not_begun, inl stops.1))
+  stops_beginning stop.Link stops = inl (inl stops.2, not_begun, inl stops.1)
   stops_beginning stop.Out stops = (not_begun, stops.1)
 
   module _ (begins : Begins from before mid) (opened : Routes) (new : OutsideSeen)
@@ -165,16 +143,20 @@ module _ (from : Way) (session : List ℕ) (to : Way) (before mid : OutsideSeen)
           → IsFailure (CreatingFailed to mid.place opened.place) (AimedFailed to mid.link opened.link) f
           → EndsRelay from session to before new (end_of_relay (Route (stop_of_route f)))
       stops_opening failed.Place cause = (
-        creating_used from to before.place mid.place new.place only.others.place_later
-            (subst (λ (p : Seen). CreatingFailed to mid.place p) (sym place) cause),
-        inl unbegun,
+        inl (
+          creating_used from to before.place mid.place new.place only.others.place_later
+              (subst (λ (p : Seen). CreatingFailed to mid.place p) (sym place) cause),
+          unbegun,
+        ),
         still_printed,
       )
-      stops_opening failed.Link cause = (
-        inr (aimed_before to before.link mid.link new.link only.others.link_later
-            (subst (λ (l : LinkSeen). AimedFailed to mid.link l) (sym link) cause)),
-        inl (unbegun, inr still_printed),
-      )
+      stops_opening failed.Link cause =
+          inl (
+            inr (aimed_before to before.link mid.link new.link only.others.link_later
+                (subst (λ (l : LinkSeen). AimedFailed to mid.link l) (sym link) cause)),
+            unbegun,
+            inr still_printed,
+          )
 
     module _ (is_opened : IsOpened to (routes_of mid) opened) (keeps : KeepsAddresses opened.link new.link)
         (start : ReceiverState ℕ) (empty : kept_set start ≡ nothing_of session) (stands : StandsIn start) where
@@ -245,7 +227,7 @@ module _ (from : Way) (session : List ℕ) (to : Way) (before mid : OutsideSeen)
           subst (λ (o : Option (List (List ℕ))). HaveLeft read o new.link.feed) (opens.link.feed ∙ feed) came
 
       input_to : (w : Way) (read : List (List ℕ)) → Begun w before mid → KeepsFeed w before.link mid.link
-          → CameTo w read opened (routes_of new) → IsReadTo w read before new
+          → CameTo w read opened (routes_of new) → HaveComeFirst w read before new
       input_to (OnFile name) read begun feed came =
           there before.place.files name (λ bytes. AreFirstDatagrams read (datagrams bytes)) begun.found
           (subst (λ (o : Option (List ℕ)). IfSome o (λ bytes. AreFirstDatagrams read (datagrams bytes)))
@@ -292,27 +274,64 @@ module _ (from : Way) (session : List ℕ) (to : Way) (before mid : OutsideSeen)
         sent = sent_all (on_end is.sent ++ is.last ∷ []) is.handed;
       }
 
+      until : RelayedUntil from to start opened (routes_of new) → RelaysUntilFault from session to before new
+      until is = record {
+        read = is.read;
+        few = is.few;
+        come = input_to from is.read begins.begun only.untouched.feed is.came;
+        relayed = record {
+          start = start;
+          stands = stands;
+          empty = empty;
+          sent = is.sent;
+          now = is.state;
+          arrived = is.arrived;
+        };
+        sent = sent_all (on_end is.sent) is.handed;
+      }
+
+      -- which file is blamed
+      later : before.place.faults ≤ opened.place.faults
+      later = omega (arith, only.others.place_later, opens.place_later)
+
+      reading_failed : (w : Way) → Begun w before mid → InputFailed w opened.place new.place
+          → EnteringFailed w before.place new.place
+      reading_failed (OnFile name) begun failed =
+          HadFault-since before.place opened.place new.place _ _ later
+          (λ b read. Blames-named before.place.files opened.place.source name Read b
+          (subst (λ (o : Option (List ℕ)). Names before.place.files o name) (sym opens.input.source) begun.source) read)
+          failed
+      reading_failed (OnLink address) begun failed = absurd failed
+
+      writing_failed : (w : Way) → IsOpened w (routes_of mid) opened → OutputFailed w opened.place new.place
+          → WritingFailed w before.place new.place
+      writing_failed (OnFile other) is failed =
+          HadFault-since before.place opened.place new.place _ _ later
+          (λ b written. Blames-named mid.place.files opened.place.target other Written b is.target written) failed
+      writing_failed (OnLink address) is failed = absurd failed
+
       pub stops_relaying : (s : RelayStop) → StopsRelaying from to start opened (routes_of new) s
           → EndsRelay from session to before new (end_of_relay s)
       stops_relaying (Unlike group number) is = (to_unlike group number is, printed)
-      stops_relaying (Route stop.NoMemory) is = inr (front is.1, printed)
-      stops_relaying (Route stop.Place) is = (
-        HadFault-since before.place opened.place new.place _ _ (omega (arith, only.others.place_later, opens.place_later))
-            (used from to before mid opened begins.begun only.untouched.files opens is_opened) is.0,
-        inr (front is.1),
-        printed,
-      )
-      stops_relaying (Route stop.Link) is = (why is.0, inr (front is.1, printed))
-        where
-          why : ReceivingFailed from opened.link new.link ⊎ SendingFailed to opened.link new.link
-              → BoundFailed from before.link new.link ⊎ AimedFailed to before.link new.link
-          why (inl failed) =
-              inl (link_failed from before mid new begins.begun only.others.link_later
-              (receiving_since from mid.link opened.link new.link opens.link.bound opens.link_later failed))
-          why (inr failed) =
-              inr (aimed_before to before.link mid.link new.link only.others.link_later
-              (aimed_failed to (routes_of mid) opened (routes_of new) is_opened opens.link_later failed))
-      stops_relaying (Route stop.Out) is = absurd is.0
+      stops_relaying (Route stop.NoMemory) is = inr (front is, printed)
+      stops_relaying (Route stop.Place) (inl is) =
+          (inr (inl (reading_failed from begins.begun is.0, until is.1)), printed)
+      stops_relaying (Route stop.Place) (inr is) = (inr (inr (writing_failed to is_opened is.0, front is.1)), printed)
+      stops_relaying (Route stop.Link) (inl is) =
+          inr (inl (
+            link_failed from before mid new begins.begun only.others.link_later
+                (receiving_since from mid.link opened.link new.link opens.link.bound opens.link_later is.0),
+            until is.1,
+            printed,
+          ))
+      stops_relaying (Route stop.Link) (inr is) =
+          inr (inr (
+            aimed_before to before.link mid.link new.link only.others.link_later
+                (aimed_failed to (routes_of mid) opened (routes_of new) is_opened opens.link_later is.0),
+            front is.1,
+            printed,
+          ))
+      stops_relaying (Route stop.Out) is = absurd is
 
 -- the end by the numbers
 pub ends_relay : (from : Way) (session : List ℕ) (to : Way) (before after : OutsideSeen) (x : Relaying) (e : RelayEnd)
@@ -449,7 +468,7 @@ pub relaying_output : (from to : Way) (start : ReceiverState ℕ) (first now : R
 relaying_output from to start first now (Route stop.NoMemory) stops = refl
 relaying_output from to start first now (Route stop.Place) stops = refl
 relaying_output from to start first now (Route stop.Link) stops = refl
-relaying_output from to start first now (Route stop.Out) stops = absurd stops.0
+relaying_output from to start first now (Route stop.Out) stops = absurd stops
 relaying_output from to start first now (Unlike group number) stops = refl
 
 -- the output failed in this call exactly where the answer tells so

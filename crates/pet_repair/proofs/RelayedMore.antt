@@ -1,5 +1,5 @@
 -- One datagram more is relayed, and what stands after a failure.
-use Rattle.std.proofs.Common.{◌≡◌, ◌⊎◌, ℕ, ◌+◌, ◌<◌, ◌≤◌, take, List, [], ◌∷◌, ◌++◌, length, length-append, Option, Some, None}
+use Rattle.std.proofs.Common.{◌≡◌, ℕ, ◌+◌, ◌<◌, ◌≤◌, take, List, [], ◌∷◌, ◌++◌, length, length-append, Option, Some, None}
 use Rattle.std.proofs.Common.{refl, sym, ap, subst, ◌∙◌, arith, inl, inr}
 use Rattle.std.specs.Prelude.{option_map, IfSome}
 use Rattle.std.proofs.lemmas.List.{length_push, append-nil}
@@ -10,7 +10,7 @@ use Rattle.pet_base.specs.LinkSeen.{LinkSeen}
 use Rattle.pet_base.specs.Causes.{Blames}
 use Rattle.pet_base.specs.declared.link.LinkSide.TheVariants.{Aimed, Bound}
 use Rattle.pet_base.specs.declared.place.Side.TheVariants.{Read, Written}
-use Rattle.pet_base.specs.Seen.{Seen, Files, HadFault, KeepsNames}
+use Rattle.pet_base.specs.Seen.{Seen, Files, KeepsNames}
 use Rattle.pet_base.specs.laws.SeenLaws.{HadFault-since, KeepsNames-same, KeepsNames-then, OnlyReads-KeepsNames}
 use Rattle.pet_base.specs.laws.SeenLaws.{OnlyWrites-KeepsNames}
 use Rattle.outside_files.specs.laws.PrintedLaws.{Rose-since}
@@ -25,7 +25,7 @@ use Rattle.outside_routes.specs.declared.fault.RouteStop.TheVariants as stop
 use Rattle.outside_routes.specs.Sending.{Routes, AreFirstDatagrams, Sends, SendsPart, OnlyGrows, OutputFailed}
 use Rattle.outside_routes.specs.Sending.{IsOpen, SendingFailed}
 use Rattle.outside_routes.specs.laws.ComingLaws.{come_nothing, come_more, come_front}
-use Rattle.outside_routes.specs.laws.SendingLaws.{sends_nothing, sends_then, part_after, part_nothing}
+use Rattle.outside_routes.specs.laws.SendingLaws.{sends_nothing, sends_then, part_after}
 use Rattle.pet_receive.specs.Arrivals.{ReceiverState}
 use Rattle.pet_repair.specs.Repaired.{on_end}
 use Rattle.pet_repair.specs.declared.arriving.RelayStop.{RelayStop}
@@ -34,7 +34,7 @@ use Rattle.pet_repair.specs.inside.Arrivals.{IsArrivalIn, HaveArrivedIn, IsStopp
 use Rattle.pet_repair.specs.inside.Arrivals.{StopsArrival}
 use Rattle.pet_repair.specs.inside.Handed.{Handed, HandedPart}
 use Rattle.pet_repair.specs.inside.RelaySoFar.{RelayedSoFar, RelayedAll, CameFirst, CameTo, RelayedPart, RelayedTo}
-use Rattle.pet_repair.specs.inside.RelaySoFar.{IsRelayUse, IsLater}
+use Rattle.pet_repair.specs.inside.RelaySoFar.{RelayedUntil, IsLater}
 use Rattle.pet_repair.specs.inside.RelaySoFar.{StopsRelaying}
 use Rattle.pet_repair.specs.laws.RepairLaws.{on_end_push}
 
@@ -237,24 +237,18 @@ module _ (from to : Way) (start : ReceiverState ℕ) (n : ℕ) (first before bet
     }
 
 -- what a later call may blame, seen from the first
-input_used : (from to : Way) (first before now : Seen) → before.source ≡ first.source → first.faults ≤ before.faults
-    → InputFailed from before now → HadFault first now (IsRelayUse from to first)
-input_used (OnFile name) (OnFile other) first before now same later failed =
-    HadFault-since first before now _ _ later
-    (λ b is. inl (subst (λ (o : Option (List ℕ)). Blames Read o b) same is)) failed
-input_used (OnFile name) (OnLink address) first before now same later failed =
+input_since : (from : Way) (first before now : Seen) → before.source ≡ first.source → first.faults ≤ before.faults
+    → InputFailed from before now → InputFailed from first now
+input_since (OnFile name) first before now same later failed =
     HadFault-since first before now _ _ later (λ b is. subst (λ (o : Option (List ℕ)). Blames Read o b) same is) failed
-input_used (OnLink address) to first before now same later failed = absurd failed
+input_since (OnLink address) first before now same later failed = absurd failed
 
-output_used : (from to : Way) (first before now : Seen) → before.target ≡ first.target → first.faults ≤ before.faults
-    → OutputFailed to before now → HadFault first now (IsRelayUse from to first)
-output_used (OnFile name) (OnFile other) first before now same later failed =
-    HadFault-since first before now _ _ later
-    (λ b is. inr (subst (λ (o : Option (List ℕ)). Blames Written o b) same is)) failed
-output_used (OnLink address) (OnFile other) first before now same later failed =
+output_since : (to : Way) (first before now : Seen) → before.target ≡ first.target → first.faults ≤ before.faults
+    → OutputFailed to before now → OutputFailed to first now
+output_since (OnFile name) first before now same later failed =
     HadFault-since first before now _ _ later
     (λ b is. subst (λ (o : Option (List ℕ)). Blames Written o b) same is) failed
-output_used from (OnLink address) first before now same later failed = absurd failed
+output_since (OnLink address) first before now same later failed = absurd failed
 
 pub receiving_since : (from : Way) (first before now : LinkSeen) → before.bound ≡ first.bound → first.faults ≤ before.faults
     → ReceivingFailed from before now → ReceivingFailed from first now
@@ -312,51 +306,40 @@ open_taken from (OnFile name) before between t is = t.place.has_output ∙ is
 open_taken from (OnLink address) before between t is = tt
 
 no_more : (from : Way) (read : List (List ℕ)) (first before between : Routes) → KeepsFeed from before.link between.link
-    → length read ≤ MAX_DATAGRAMS
     → HaveCome read (coming from first.place first.link) (coming from before.place before.link)
-    → CameFirst from read first between
-no_more (OnFile name) read first before between feed few come =
+    → CameTo from read first between
+no_more (OnFile name) read first before between feed come =
     first_told read first.place.rest
     (come_front read (option_map datagrams first.place.rest) (option_map datagrams before.place.rest) come)
-no_more (OnLink address) read first before between feed few come =
-    came_first (OnLink address) read first between few
-    (subst (λ (o : Option (List (List ℕ))). HaveCome read first.link.feed o) (sym feed) come)
+no_more (OnLink address) read first before between feed come =
+    subst (λ (o : Option (List (List ℕ))). HaveCome read first.link.feed o) (sym feed) come
 
 module _ (from to : Way) (start : ReceiverState ℕ) (n : ℕ) (first before between : Routes) (r : ReceiverState ℕ)
     (s : RelayedSoFar from to start n first before r) (later : IsLater first before)
     (takes : OnlyTakes from before.place before.link between.place between.link) (room : n < MAX_DATAGRAMS) where
   -- nothing could be received
-  part_taken : KeepsFeed from before.link between.link → RelayedPart from to start first between
-  part_taken feed = record {
+  until_taken : KeepsFeed from before.link between.link → RelayedUntil from to start first between
+  until_taken feed = record {
     read = s.read;
     sent = s.sent;
     state = r;
     arrived = s.arrived;
-    next = [];
-    one = omega arith;
     few = omega (arith, s.many, room);
-    came =
-        subst (λ (ds : List (List ℕ)). CameFirst from ds first between) (sym (append-nil s.read))
-        (no_more from s.read first before between feed (omega (arith, s.many, room)) s.rest);
-    more = [];
-    may = refl;
+    came = no_more from s.read first before between feed s.rest;
     handed =
-        handed_front to (on_end s.sent) [] first before between between
+        subst (λ (ds : List (List ℕ)). Handed to ds first between) (append-nil (on_end s.sent))
+        (handed_then to (on_end s.sent) [] first before between between
         (same_target from to start n first before between r s later.names.target takes) takes.place.files
-        takes.link.sent s.handed (part_nothing to [] between between refl refl);
+        takes.link.sent s.handed (sends_nothing to between between refl refl));
   }
 
   pub stops_taking : (failed : RouteFailed) → KeepsFeed from before.link between.link
       → IsFailure (InputFailed from before.place between.place) (ReceivingFailed from before.link between.link) failed
       → StopsRelaying from to start first between (Route (stop_of_route failed))
-  stops_taking failed.Place feed cause = (
-    input_used from to first.place before.place between.place later.names.source later.place cause,
-    part_taken feed,
-  )
-  stops_taking failed.Link feed cause = (
-    inl (receiving_since from first.link before.link between.link later.keeps.bound later.link cause),
-    part_taken feed,
-  )
+  stops_taking failed.Place feed cause =
+      inl (input_since from first.place before.place between.place later.names.source later.place cause, until_taken feed)
+  stops_taking failed.Link feed cause =
+      inl (receiving_since from first.link before.link between.link later.keeps.bound later.link cause, until_taken feed)
 
   -- or not all be sent of what the datagram gives
   pub stops_at_one : (len : ℕ) (into : List ℕ)
@@ -367,23 +350,22 @@ module _ (from to : Way) (start : ReceiverState ℕ) (n : ℕ) (first before bet
   stops_at_one len into step now grows (Unlike group number) is =
       to_unlike from to start n first before between r s later.names.target takes len into step now grows group number
       room is.0 is.1
-  stops_at_one len into step now grows (Route halt) is = (
-    why halt is.0,
-    part_more from to start n first before between r s later.names.target takes len into step now grows room is.1,
-  )
+  stops_at_one len into step now grows (Route halt) is =
+      why halt is.0
+      (part_more from to start n first before between r s later.names.target takes len into step now grows room is.1)
     where
       mid : IsLater first between
       mid = later_taken from first before between later takes
 
       why : (s : RouteStop)
           → IsStop (OutputFailed to between.place now.place) (SendingFailed to between.link now.link) ⊥ s
-          → IsStop (HadFault first.place now.place (IsRelayUse from to first.place))
-          (ReceivingFailed from first.link now.link ⊎ SendingFailed to first.link now.link) ⊥ s
-      why stop.NoMemory is = tt
-      why stop.Place is =
-          output_used from to first.place between.place now.place mid.names.target mid.place is
-      why stop.Link is = inr (sending_since to first.link between.link now.link mid.keeps.aimed mid.link is)
-      why stop.Out is = is
+          → RelayedPart from to start first now → StopsRelaying from to start first now (Route s)
+      why stop.NoMemory is part = part
+      why stop.Place is part =
+          inr (output_since to first.place between.place now.place mid.names.target mid.place is, part)
+      why stop.Link is part =
+          inr (sending_since to first.link between.link now.link mid.keeps.aimed mid.link is, part)
+      why stop.Out is part = is
 
 -- 16,777,216 datagrams were read
 pub relayed_many : (from to : Way) (start : ReceiverState ℕ) (n : ℕ) (first now : Routes) (r : ReceiverState ℕ)

@@ -1,20 +1,18 @@
 -- What `relay` leaves at each of its ends. This project's own.
 use Rattle.std.specs.Prelude.{◌≡◌, ◌⊎◌, ℕ, ◌+◌, ◌<◌, ◌≤◌, List, [], ◌∷◌, ◌++◌, length}
 use Rattle.pet_base.specs.declared.limits.TheConstants.{MAX_DATAGRAMS}
-use Rattle.pet_base.specs.Entries.{datagrams}
 use Rattle.pet_base.specs.LinkSeen.{LinkSeen}
 use Rattle.pet_base.specs.OutsideSeen.{OutsideSeen}
-use Rattle.pet_base.specs.Seen.{Blame}
+use Rattle.pet_base.specs.Seen.{Seen, Blame, HadFault}
 use Rattle.outside_files.specs.Printed.{Unprinted}
 use Rattle.outside_files.specs.Uses.{reading, writing, Failed}
-use Rattle.outside_routes.specs.Coming.{HaveCome, KeepsFeed}
+use Rattle.outside_routes.specs.Coming.{KeepsFeed}
 use Rattle.outside_routes.specs.RouteFaults.{AimedFailed, BoundFailed}
-use Rattle.outside_routes.specs.Sending.{Routes, AreFirstDatagrams}
+use Rattle.outside_routes.specs.Sending.{Routes}
 use Rattle.outside_routes.specs.Way.{Way, OnFile, OnLink}
-use Rattle.store_text.specs.Files.{HasFile}
 use Rattle.packet_reading.specs.Opened.{IsBoundTo, IsUntouched, PortFailed, PrintedPort}
-use Rattle.packet_reading.specs.Begun.{OutStops}
-use Rattle.packet_reading.specs.Layers.{IsRead, IsReadFirst}
+use Rattle.packet_reading.specs.Begun.{EnteringFailed, OutStops}
+use Rattle.packet_reading.specs.Layers.{IsRead, IsReadFirst, HaveComeFirst}
 use Rattle.pet_repair.specs.Failures.{relay_end_of_output}
 use Rattle.field_elements.specs.Gf16.{gf16_coding}
 use Rattle.pet_receive.specs.Arrivals.{ReceiverState, kept_set}
@@ -66,11 +64,13 @@ pub record RelaysFront (from : Way) (session : List ℕ) (to : Way) (before afte
   pub may : MayGiveNext relayed.now next more
   pub sent : SentFront to (on_end relayed.sent ++ more) (routes_of before) (routes_of after)
 
--- FROM is there and these are its first datagrams; or exactly these have left the link
-abbrev pub IsReadTo : Way → List (List ℕ) → OutsideSeen → OutsideSeen → Type 0
-IsReadTo (OnFile name) read before after =
-    HasFile before.place.files name (λ bytes. AreFirstDatagrams read (datagrams bytes))
-IsReadTo (OnLink address) read before after = HaveCome read before.link.feed after.link.feed
+-- FROM failed while datagrams were to come: TO has the whole of what those send that came before.
+pub record RelaysUntilFault (from : Way) (session : List ℕ) (to : Way) (before after : OutsideSeen) : Type 0 where
+  pub read : List (List ℕ)
+  pub few : length read ≤ MAX_DATAGRAMS
+  pub come : HaveComeFirst from read before after
+  pub relayed : Relayed session read
+  pub sent : SentTo to (on_end relayed.sent) (routes_of before) (routes_of after)
 
 -- At the last datagram that was read its group was to be made again, but a kept packet of it is not the one that its encoder
 -- makes. TO has what came before, and that datagram; nothing of that group was made again.
@@ -79,7 +79,7 @@ pub record RelaysToUnlike (from : Way) (session : List ℕ) (to : Way) (group nu
   pub read : List (List ℕ)
   pub last : List ℕ
   pub few : length read < MAX_DATAGRAMS
-  pub input : IsReadTo from (read ++ last ∷ []) before after
+  pub input : HaveComeFirst from (read ++ last ∷ []) before after
   pub relayed : Relayed session read
   pub stopped : IsStopped (λ a. a < 65536) gf16_coding relayed.now last group number
   pub sent : SentTo to (on_end relayed.sent ++ last ∷ []) (routes_of before) (routes_of after)
@@ -101,9 +101,32 @@ relay_uses (OnFile from) (OnLink address) = reading from ∷ []
 relay_uses (OnLink address) (OnFile to) = writing to ∷ []
 relay_uses (OnLink address) (OnLink other) = []
 
--- At an end with numbers the datagrams of FROM were relayed, and TO has all that they sent. Where memory, the place or the link failed
--- TO has a front of it, or nothing has begun. Nothing is printed but the line of the port of a link FROM, before TO is made
--- ready.
+-- the place failed at the file TO; of a link no file is written
+abbrev pub WritingFailed : Way → Seen → Seen → Type 0
+WritingFailed (OnFile name) old new = HadFault old new (λ blame. blame ≡ writing name)
+WritingFailed (OnLink address) old new = ⊥
+
+-- Where the place failed: before TO was ready; or at FROM, a file, behind that; or at TO, a file, which then has at most a
+-- front.
+abbrev pub StopsAtFile : Way → List ℕ → Way → OutsideSeen → OutsideSeen → Type 0
+StopsAtFile from session to before after =
+    (Failed (relay_uses from to) before.place after.place × HasNotBegun from before after)
+    ⊎ (EnteringFailed from before.place after.place × RelaysUntilFault from session to before after)
+    ⊎ (WritingFailed to before.place after.place × RelaysFront from session to before after)
+
+-- Where the link failed: before TO was ready; or while it received at FROM, behind that; or while it sent to TO, which then has
+-- at most a front.
+abbrev pub StopsAtLink : Way → List ℕ → Way → OutsideSeen → OutsideSeen → Type 0
+StopsAtLink from session to before after =
+    ((BoundFailed from before.link after.link ⊎ AimedFailed to before.link after.link)
+    × HasNotBegun from before after × (Unprinted before after ⊎ PrintedPort from before after))
+    ⊎ (BoundFailed from before.link after.link × RelaysUntilFault from session to before after
+    × PrintedPort from before after)
+    ⊎ (AimedFailed to before.link after.link × RelaysFront from session to before after × PrintedPort from before after)
+
+-- At an end with numbers the datagrams of FROM were relayed, and TO has all that they sent. Where FROM failed, a file or the link, TO
+-- has all that those sent that came before; where memory or TO failed it has a front; or nothing has begun. Nothing is printed but the
+-- line of the port of a link FROM, before TO is made ready.
 abbrev pub EndsRelay : Way → List ℕ → Way → OutsideSeen → OutsideSeen → RelayEnd → Type 0
 EndsRelay from session to before after (Done read sent) =
     (r : Relays from session to before after) × (length r.read < MAX_DATAGRAMS)
@@ -121,12 +144,8 @@ EndsRelay from session to before after NoMemory =
     (HasNotBegun from before after × Unprinted before after)
     ⊎ (RelaysFront from session to before after × PrintedPort from before after)
 EndsRelay from session to before after PlaceFault =
-    Failed (relay_uses from to) before.place after.place
-    × (HasNotBegun from before after ⊎ RelaysFront from session to before after) × PrintedPort from before after
-EndsRelay from session to before after LinkFault =
-    (BoundFailed from before.link after.link ⊎ AimedFailed to before.link after.link)
-    × ((HasNotBegun from before after × (Unprinted before after ⊎ PrintedPort from before after))
-    ⊎ (RelaysFront from session to before after × PrintedPort from before after))
+    StopsAtFile from session to before after × PrintedPort from before after
+EndsRelay from session to before after LinkFault = StopsAtLink from session to before after
 
 -- The link receives at FROM, at each end that tells of what came or comes behind the making ready of TO. Want of memory,
 -- and a failure of the link, may come before, and then nothing has left it.

@@ -4,5 +4,6 @@ pub mod SessionRepaired
 pub mod CompletesLaws
 pub mod RelayIsRule
 pub mod OutputLaws
+pub mod RelayUses
 pub mod SessionRelayed
 pub mod StreamZeros

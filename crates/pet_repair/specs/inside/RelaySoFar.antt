@@ -1,15 +1,14 @@
 -- What a relay has read and sent so far, since FROM was begun and TO was made ready. This project's own.
 use Rattle.std.specs.Prelude.{◌≡◌, ◌⊎◌, ℕ, ◌+◌, ◌<◌, ◌≤◌, List, [], ◌∷◌, ◌++◌, length, IfSome}
 use Rattle.pet_base.specs.declared.limits.TheConstants.{MAX_DATAGRAMS}
-use Rattle.pet_base.specs.Causes.{Blames}
 use Rattle.pet_base.specs.Entries.{datagrams}
-use Rattle.pet_base.specs.declared.place.Side.TheVariants.{Read, Written}
-use Rattle.pet_base.specs.Seen.{Seen, Blame, HadFault, KeepsNames}
+use Rattle.pet_base.specs.Seen.{KeepsNames}
 use Rattle.pet_base.specs.LinkSeen.{LinkSeen}
 use Rattle.outside_routes.specs.Way.{Way, OnFile, OnLink}
 use Rattle.outside_routes.specs.Coming.{coming, HaveCome}
-use Rattle.outside_routes.specs.RouteFaults.{IsStop, ReceivingFailed}
-use Rattle.outside_routes.specs.Sending.{Routes, AreFirstDatagrams, SendingFailed}
+use Rattle.outside_routes.specs.RouteFaults.{InputFailed, ReceivingFailed}
+use Rattle.outside_routes.specs.declared.fault.RouteStop.TheVariants as stop
+use Rattle.outside_routes.specs.Sending.{Routes, AreFirstDatagrams, OutputFailed, SendingFailed}
 use Rattle.packet_reading.specs.Layers.{HaveLeft}
 use Rattle.pet_receive.specs.Arrivals.{ReceiverState, kept_set}
 use Rattle.packet_verdicts.specs.KeptSet.{kept_in_all}
@@ -48,6 +47,16 @@ abbrev pub CameTo : Way → List (List ℕ) → Routes → Routes → Type 0
 CameTo (OnFile name) read first now = IfSome first.place.rest (λ bytes. AreFirstDatagrams read (datagrams bytes))
 CameTo (OnLink address) read first now = HaveCome read first.link.feed now.link.feed
 
+-- what some datagrams that came sent, and no other came
+pub record RelayedUntil (from to : Way) (start : ReceiverState ℕ) (first now : Routes) : Type 0 where
+  pub read : List (List ℕ)
+  pub sent : List (List (List ℕ))
+  pub state : ReceiverState ℕ
+  pub arrived : HaveArrivedIn start read sent state
+  pub few : length read ≤ MAX_DATAGRAMS
+  pub came : CameTo from read first now
+  pub handed : Handed to (on_end sent) first now
+
 -- a front of what some datagrams that came first sent, and of what one more may send
 pub record RelayedPart (from to : Way) (start : ReceiverState ℕ) (first now : Routes) : Type 0 where
   pub read : List (List ℕ)
@@ -74,19 +83,16 @@ pub record RelayedTo (from to : Way) (start : ReceiverState ℕ) (first now : Ro
   pub stopped : IsStoppedIn state last group number
   pub handed : Handed to (on_end sent ++ last ∷ []) first now
 
--- the input, where a file is read, or the output, where one is written
-abbrev pub IsRelayUse : Way → Way → Seen → Blame → Type 0
-IsRelayUse (OnFile from) (OnFile to) place blame = Blames Read place.source blame ⊎ Blames Written place.target blame
-IsRelayUse (OnFile from) (OnLink address) place blame = Blames Read place.source blame
-IsRelayUse (OnLink address) (OnFile to) place blame = Blames Written place.target blame
-IsRelayUse (OnLink address) (OnLink other) place blame = ⊥
-
--- where the relaying stopped, and why
+-- where the relaying stopped, and why: at FROM, or at TO, or for want of memory
 abbrev pub StopsRelaying : Way → Way → ReceiverState ℕ → Routes → Routes → RelayStop → Type 0
-StopsRelaying from to start first now (Route stop) =
-    IsStop (HadFault first.place now.place (IsRelayUse from to first.place))
-    (ReceivingFailed from first.link now.link ⊎ SendingFailed to first.link now.link) ⊥ stop
-    × RelayedPart from to start first now
+StopsRelaying from to start first now (Route stop.NoMemory) = RelayedPart from to start first now
+StopsRelaying from to start first now (Route stop.Place) =
+    (InputFailed from first.place now.place × RelayedUntil from to start first now)
+    ⊎ (OutputFailed to first.place now.place × RelayedPart from to start first now)
+StopsRelaying from to start first now (Route stop.Link) =
+    (ReceivingFailed from first.link now.link × RelayedUntil from to start first now)
+    ⊎ (SendingFailed to first.link now.link × RelayedPart from to start first now)
+StopsRelaying from to start first now (Route stop.Out) = ⊥
 StopsRelaying from to start first now (Unlike group number) = RelayedTo from to start first now group number
 
 -- the addresses of the link, and its port, are those that they were

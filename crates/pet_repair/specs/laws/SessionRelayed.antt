@@ -16,6 +16,7 @@ use Rattle.outside_routes.specs.Coming.{HaveCome}
 use Rattle.outside_routes.specs.RouteFaults.{AimedFailed, BoundFailed}
 use Rattle.outside_routes.specs.Sending.{AreFirstDatagrams}
 use Rattle.store_text.specs.Files.{HasFile}
+use Rattle.packet_reading.specs.Layers.{HaveComeFirst}
 use Rattle.packet_reading.specs.Opened.{PortFailed}
 use Rattle.packet_reading.specs.SessionRead.{HasDatagrams, HasPacketsOfIn}
 use Rattle.packet_reading.specs.laws.ReadLaws.{all_read}
@@ -36,7 +37,9 @@ use Rattle.packet_relay.specs.laws.CompleteLaws.{whole_alike}
 use Rattle.packet_rebuild.specs.Message.{HaveZeroEnds}
 use Rattle.pet_repair.specs.Arrival.{HaveArrived}
 use Rattle.pet_repair.specs.Repaired.{on_end}
-use Rattle.pet_repair.specs.Relays.{Relayed, Relays, RelaysToUnlike, IsReadTo, AreCounts, EndsRelay, routes_of}
+use Rattle.pet_repair.specs.Relays.{Relayed, Relays, RelaysToUnlike, AreCounts, EndsRelay, StopsAtFile, StopsAtLink}
+use Rattle.pet_repair.specs.Relays.{routes_of}
+use Rattle.pet_repair.specs.laws.RelayUses.{entering_used, writing_used}
 use Rattle.pet_repair.specs.Relays.{IsBoundAtRelayEnd, DoesRelay}
 use Rattle.pet_repair.specs.RelaysSession.{CanRelay, RelaysSession, CompletesRelay, relayed_pairs, relayed_datagrams}
 use Rattle.pet_repair.specs.RelaysSession.{relayed_end}
@@ -122,7 +125,7 @@ come_of read ds old None told come = absurd (none_some ds (sym come ∙ told))
 come_of read ds old (Some more) told come = (more, some_same _ _ (sym told ∙ come))
 
 first_of : (from : Way) (read ds : List (List ℕ)) (files : Files) (before after : OutsideSeen)
-    → before.place.files ≡ Some files → HasDatagrams from files ds before → IsReadTo from read before after
+    → before.place.files ≡ Some files → HasDatagrams from files ds before → HaveComeFirst from read before after
     → (more : List (List ℕ)) × (ds ≡ read ++ more)
 first_of (OnFile name) read ds files before after told found input =
     let at = subst (λ (o : Option Files). HasFile o name (λ bytes. AreFirstDatagrams read (datagrams bytes))) told
@@ -135,7 +138,7 @@ first_of (OnLink address) read ds files before after told found input =
 
 plain_to : (s : Session) (from : Way) (files : Files) (ds : List (List ℕ)) (before after : OutsideSeen)
     → HasPacketsOfIn FORMAT gf16_coding s from files ds before → (read : List (List ℕ)) (last : List ℕ)
-    → IsReadTo from (read ++ last ∷ []) before after → All (IsPlain gf16_coding s) read × IsPlain gf16_coding s last
+    → HaveComeFirst from (read ++ last ∷ []) before after → All (IsPlain gf16_coding s) read × IsPlain gf16_coding s last
 plain_to s from files ds before after given read last input =
     let is = first_of from (read ++ last ∷ []) ds files before after given.told given.found input in
     let all : All (IsPlain gf16_coding s) ((read ++ last ∷ []) ++ is.0) =
@@ -225,12 +228,22 @@ module _ (s : Session) (from to : Way) (files : Files) (ds : List (List ℕ)) (b
           u.stopped
   relayed_so OutFault is bound ends = absurd (can.well.out (port_well from ends.1))
   relayed_so NoMemory is bound ends = absurd (can.memory is)
-  relayed_so PlaceFault is bound ends = absurd (can.well.place ends.0)
-  relayed_so LinkFault is bound ends = absurd (either ends.0)
+  relayed_so PlaceFault is bound ends = absurd (place ends.0)
+    where
+      place : StopsAtFile from s.number to before after → ⊥
+      place (inl stops) = can.well.place stops.0
+      place (inr (inl stops)) = can.well.place (entering_used from to before.place after.place stops.0)
+      place (inr (inr stops)) = can.well.place (writing_used from to before.place after.place stops.0)
+  relayed_so LinkFault is bound ends = absurd (link ends)
     where
       either : BoundFailed from before.link after.link ⊎ AimedFailed to before.link after.link → ⊥
       either (inl failed) = can.bound failed
       either (inr failed) = can.aimed failed
+
+      link : StopsAtLink from s.number to before after → ⊥
+      link (inl stops) = either stops.0
+      link (inr (inl stops)) = can.bound stops.0
+      link (inr (inr stops)) = can.aimed stops.0
 
 pub completes_relay : (from : Way) (session : List ℕ) (to : Way) (before after : OutsideSeen) (end : RelayEnd)
     → DoesRelay from session to before after end → CompletesRelay from session to before after end
