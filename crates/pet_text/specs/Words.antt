@@ -66,155 +66,158 @@ bytes_of (c ∷ d ∷ word) = byte_before (byte_of (digit_of c) (digit_of d)) (b
 abbrev pub session_of : List ℕ → Option (List ℕ)
 session_of word = if length word == 16 then bytes_of word else None
 
--- the id of a video: `e0` to `ef`
+-- an id: the byte of two digits
 abbrev pub id_of : List ℕ → Option ℕ
-id_of (c ∷ d ∷ []) = if c == 101 then option_map (λ low. 0xE0 + low) (digit_of d) else None
+id_of (c ∷ d ∷ []) = byte_of (digit_of c) (digit_of d)
 id_of _ = None
 
 -- a decimal number below 2^64, without leading zeros
 abbrev pub plain_number : List ℕ → Option ℕ
 plain_number word = if is_plain word then number_up_to 18446744073709551615 word else None
 
--- such a number from 1 to 100
-abbrev pub some_groups : Option ℕ → Option ℕ
-some_groups None = None
-some_groups (Some groups) = if nat_le 1 groups && nat_le groups MAX_SAMPLE_GROUPS then Some groups else None
+-- a file at this end is another than this one
+abbrev pub other_end : List ℕ → End → Bool
+other_end file (File name) = not (bytes_eq name file)
+other_end file (Udp address) = true
 
-abbrev pub groups_of : List ℕ → Option ℕ
-groups_of word = some_groups (plain_number word)
-
--- a file that is read, and another that is written
-abbrev pub other_files : List ℕ → List ℕ → Bool
-other_files file out = is_name file && (is_name out && not (bytes_eq out file))
-
--- three files that are read
-abbrev pub three_files : List ℕ → List ℕ → List ℕ → Bool
-three_files first second third = is_name first && (is_name second && is_name third)
-
--- two files that are read, and another file that is written, or an address
-abbrev pub send_files : List ℕ → List ℕ → End → Bool
-send_files stream priority (File to) =
-    is_name stream && (is_name priority && (not (bytes_eq to stream) && not (bytes_eq to priority)))
-send_files stream priority (Udp address) = is_name stream && is_name priority
-
--- a file that is read, and another that is written, or an address
-abbrev pub repair_files : List ℕ → End → Bool
-repair_files store (File to) = is_name store && not (bytes_eq to store)
-repair_files store (Udp address) = is_name store
+-- and than each of two
+abbrev pub send_apart : List ℕ → List ℕ → End → Bool
+send_apart stream priority to = other_end stream to && other_end priority to
 
 -- two files that are written, each another than the other, and than a file that is read
-abbrev pub receive_files : End → List ℕ → List ℕ → Bool
-receive_files (File from) layers store =
-    is_name layers
-    && (is_name store && (not (bytes_eq from layers) && (not (bytes_eq from store) && not (bytes_eq layers store))))
-receive_files (Udp address) layers store = is_name layers && (is_name store && not (bytes_eq layers store))
+abbrev pub receive_apart : End → List ℕ → List ℕ → Bool
+receive_apart from layers store = other_end layers from && (other_end store from && not (bytes_eq layers store))
 
--- a file that is written, another than one that is read
-abbrev pub breceive_files : End → List ℕ → Bool
-breceive_files (File from) layers = is_name layers && not (bytes_eq from layers)
-breceive_files (Udp address) layers = is_name layers
+-- and both have names
+abbrev pub receive_files : End → List ℕ → List ℕ → Bool
+receive_files from layers store = (is_name layers && is_name store) && receive_apart from layers store
 
 -- a file that is read, and another that is written; or one of the two, and an address
-abbrev pub relay_files : End → End → Bool
-relay_files (File from) (File to) = not (bytes_eq from to)
-relay_files (File from) (Udp address) = true
-relay_files (Udp address) (File to) = true
-relay_files (Udp address) (Udp other) = false
+abbrev pub relay_apart : End → End → Bool
+relay_apart (File from) (File to) = not (bytes_eq from to)
+relay_apart (File from) (Udp address) = true
+relay_apart (Udp address) (File to) = true
+relay_apart (Udp address) (Udp other) = false
 
--- two files that are read, maybe one and the same, and another file that is written
-abbrev pub merge_files : List ℕ → List ℕ → List ℕ → Bool
-merge_files first second out =
-    is_name first && (is_name second && (is_name out && (not (bytes_eq out first) && not (bytes_eq out second))))
+-- the files of a command have names; those behind `file:` have them by their words
+abbrev pub has_names : Command → Bool
+has_names (Plan stream priority) = is_name stream && is_name priority
+has_names (Check stream priority plan) = is_name stream && (is_name priority && is_name plan)
+has_names (Send stream priority to) = is_name stream && is_name priority
+has_names (Bsend stream priority to) = is_name stream && is_name priority
+has_names (Receive from session layers store) = is_name layers && is_name store
+has_names (Merge first second out) = is_name first && (is_name second && is_name out)
+has_names (Video store out) = is_name store && is_name out
+has_names (Unwrap file id out) = is_name file && is_name out
+has_names (Wrap file out) = is_name file && is_name out
+has_names (Migrate store out) = is_name store && is_name out
+has_names (Replay stream priority script) = is_name stream && (is_name priority && is_name script)
+has_names (Sample seed groups) = true
+has_names (Repair store to) = is_name store
+has_names (Breceive from session layers) = is_name layers
+has_names (Relay from session to) = true
 
--- The files of a command have names, and a file that is written has another name than each other file of it. One end of
--- a relay is a file.
-abbrev pub names_files : Command → Bool
-names_files (Plan stream priority) = is_name stream && is_name priority
-names_files (Check stream priority plan) = three_files stream priority plan
-names_files (Send stream priority to) = send_files stream priority to
-names_files (Bsend stream priority to) = send_files stream priority to
-names_files (Receive from session layers store) = receive_files from layers store
-names_files (Merge first second out) = merge_files first second out
-names_files (Video store out) = other_files store out
-names_files (Unwrap file id out) = other_files file out
-names_files (Wrap file out) = other_files file out
-names_files (Migrate store out) = other_files store out
-names_files (Replay stream priority script) = three_files stream priority script
-names_files (Sample seed groups) = true
-names_files (Repair store to) = repair_files store to
-names_files (Breceive from session layers) = breceive_files from layers
-names_files (Relay from session to) = relay_files from to
+-- A file that a command writes has another name than each other file of it; one that writes none has no case here. One
+-- end of a relay is a file.
+abbrev pub writes_others : Command → Bool
+writes_others (Send stream priority to) = send_apart stream priority to
+writes_others (Bsend stream priority to) = send_apart stream priority to
+writes_others (Receive from session layers store) = receive_apart from layers store
+writes_others (Merge first second out) = not (bytes_eq out first) && not (bytes_eq out second)
+writes_others (Video store out) = not (bytes_eq out store)
+writes_others (Unwrap file id out) = not (bytes_eq out file)
+writes_others (Wrap file out) = not (bytes_eq out file)
+writes_others (Migrate store out) = not (bytes_eq out store)
+writes_others (Repair store to) = other_end store to
+writes_others (Breceive from session layers) = other_end layers from
+writes_others (Relay from session to) = relay_apart from to
+writes_others _ = true
 
--- the command, where it so names its files
-abbrev pub if_named : Command → Option Command
-if_named command = if names_files command then Some command else None
+-- the id of `unwrap` is that of a video, from E0 to EF, and `sample` makes from 1 to 100 groups
+abbrev pub has_numbers : Command → Bool
+has_numbers (Unwrap file id out) = nat_le 0xE0 id && nat_le id 0xEF
+has_numbers (Sample seed groups) = nat_le 1 groups && nat_le groups MAX_SAMPLE_GROUPS
+has_numbers _ = true
+
+-- all three
+abbrev pub has_form : Command → Bool
+has_form command = has_names command && (writes_others command && has_numbers command)
+
+-- the command, where it is so
+abbrev pub if_formed : Option Command → Option Command
+if_formed None = None
+if_formed (Some command) = if has_form command then Some command else None
 
 -- `send STREAM PRIORITY TO`
 abbrev pub send_of : List ℕ → List ℕ → Option End → Option Command
 send_of stream priority None = None
-send_of stream priority (Some to) = if_named (Send stream priority to)
+send_of stream priority (Some to) = Some (Send stream priority to)
 
 -- `bsend STREAM PRIORITY TO`
 abbrev pub bsend_of : List ℕ → List ℕ → Option End → Option Command
 bsend_of stream priority None = None
-bsend_of stream priority (Some to) = if_named (Bsend stream priority to)
+bsend_of stream priority (Some to) = Some (Bsend stream priority to)
 
 -- `receive FROM SESSION LAYERS STORE`
 abbrev pub receive_of : Option End → Option (List ℕ) → List ℕ → List ℕ → Option Command
 receive_of None session layers store = None
 receive_of (Some from) None layers store = None
-receive_of (Some from) (Some session) layers store = if_named (Receive from session layers store)
+receive_of (Some from) (Some session) layers store = Some (Receive from session layers store)
 
 -- `breceive FROM SESSION LAYERS`
 abbrev pub breceive_of : Option End → Option (List ℕ) → List ℕ → Option Command
 breceive_of None session layers = None
 breceive_of (Some from) None layers = None
-breceive_of (Some from) (Some session) layers = if_named (Breceive from session layers)
+breceive_of (Some from) (Some session) layers = Some (Breceive from session layers)
 
 -- `relay FROM SESSION TO`
 abbrev pub relay_of : Option End → Option (List ℕ) → Option End → Option Command
 relay_of None session to = None
 relay_of (Some from) None to = None
 relay_of (Some from) (Some session) None = None
-relay_of (Some from) (Some session) (Some to) = if_named (Relay from session to)
+relay_of (Some from) (Some session) (Some to) = Some (Relay from session to)
 
 -- `unwrap FILE ID OUT`
 abbrev pub unwrap_of : List ℕ → Option ℕ → List ℕ → Option Command
 unwrap_of file None out = None
-unwrap_of file (Some id) out = if_named (Unwrap file id out)
+unwrap_of file (Some id) out = Some (Unwrap file id out)
 
 -- `sample SEED GROUPS`
 abbrev pub sample_of : Option ℕ → Option ℕ → Option Command
 sample_of None groups = None
 sample_of (Some seed) None = None
-sample_of (Some seed) (Some groups) = if_named (Sample seed groups)
+sample_of (Some seed) (Some groups) = Some (Sample seed groups)
 
 -- `repair STORE TO`
 abbrev pub repair_of : List ℕ → Option End → Option Command
 repair_of store None = None
-repair_of store (Some to) = if_named (Repair store to)
+repair_of store (Some to) = Some (Repair store to)
 
--- The command of the words, where they have the form of one. Datagrams are received at any port, also at one that is to be
--- found, which is port 0; they are sent to a port of another number.
-abbrev pub command_of : List (List ℕ) → Option Command
-command_of (word ∷ first ∷ second ∷ []) =
-    if bytes_eq word (codes "plan") then if_named (Plan first second)
-    else if bytes_eq word (codes "video") then if_named (Video first second)
-    else if bytes_eq word (codes "wrap") then if_named (Wrap first second)
-    else if bytes_eq word (codes "migrate") then if_named (Migrate first second)
-    else if bytes_eq word (codes "sample") then sample_of (plain_number first) (groups_of second)
+-- The command that words spell, before its names and numbers are looked at. Datagrams are received at any port, also at
+-- one that is to be found, which is port 0; they are sent to a port of another number.
+abbrev pub spelled : List (List ℕ) → Option Command
+spelled (word ∷ first ∷ second ∷ []) =
+    if bytes_eq word (codes "plan") then Some (Plan first second)
+    else if bytes_eq word (codes "video") then Some (Video first second)
+    else if bytes_eq word (codes "wrap") then Some (Wrap first second)
+    else if bytes_eq word (codes "migrate") then Some (Migrate first second)
+    else if bytes_eq word (codes "sample") then sample_of (plain_number first) (plain_number second)
     else if bytes_eq word (codes "repair") then repair_of first (end_of 1 second)
     else None
-command_of (word ∷ first ∷ second ∷ third ∷ []) =
-    if bytes_eq word (codes "check") then if_named (Check first second third)
+spelled (word ∷ first ∷ second ∷ third ∷ []) =
+    if bytes_eq word (codes "check") then Some (Check first second third)
     else if bytes_eq word (codes "send") then send_of first second (end_of 1 third)
     else if bytes_eq word (codes "bsend") then bsend_of first second (end_of 1 third)
-    else if bytes_eq word (codes "merge") then if_named (Merge first second third)
+    else if bytes_eq word (codes "merge") then Some (Merge first second third)
     else if bytes_eq word (codes "unwrap") then unwrap_of first (id_of second) third
-    else if bytes_eq word (codes "replay") then if_named (Replay first second third)
+    else if bytes_eq word (codes "replay") then Some (Replay first second third)
     else if bytes_eq word (codes "breceive") then breceive_of (end_of 0 first) (session_of second) third
     else if bytes_eq word (codes "relay") then relay_of (end_of 0 first) (session_of second) (end_of 1 third)
     else None
-command_of (word ∷ first ∷ second ∷ third ∷ fourth ∷ []) =
+spelled (word ∷ first ∷ second ∷ third ∷ fourth ∷ []) =
     if bytes_eq word (codes "receive") then receive_of (end_of 0 first) (session_of second) third fourth else None
-command_of _ = None
+spelled _ = None
+
+-- the command of the words, where they have the form of one
+abbrev pub command_of : List (List ℕ) → Option Command
+command_of words = if_formed (spelled words)

@@ -5,7 +5,7 @@ ghost use Rattle.pet_text.specs.Words.{texts_of, end_of, session_of};
 ghost use Rattle.pet_text.specs.inside.KeepForms.{keep_in};
 
 use crate::end::{End, own_end, read_end};
-use crate::form::are_receive_files;
+use crate::files::are_receive_files;
 use crate::name::Name;
 use crate::session::read_session;
 use crate::words::WordsFault;

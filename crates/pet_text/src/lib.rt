@@ -6,7 +6,7 @@
 #![tactic(auto)]
 
 mod end;
-mod form;
+mod files;
 mod keep_words;
 mod name;
 mod numbers;

@@ -1,9 +1,7 @@
-//! The numbers of the words of `sample`.
+//! A number in a command word.
 ghost use Rattle.std.specs.Prelude.{◌≡◌};
-ghost use Rattle.pet_text.specs.Words.{plain_number, groups_of};
+ghost use Rattle.pet_text.specs.Words.{plain_number};
 ghost use Rattle.pet_text.specs.inside.PlainNumbers.{begins_plain};
-
-use pet_base::MAX_SAMPLE_GROUPS;
 
 /// The number below 2^64 that a word is, in decimal digits without leading zeros.
 pub fn read_plain(word: &str) -> Option<u64>
@@ -20,15 +18,4 @@ fn is_begun(digits: &[u8]) -> bool
     ensures { result ≡ begins_plain digits.now }
 {
     matches!(digits, [b'0'..=b'9'] | [b'1'..=b'9', _, ..])
-}
-
-/// How many groups a word tells: such a number from 1 to 100.
-pub fn read_groups(word: &str) -> Option<u32>
-    ensures { result ≡ groups_of word.now }
-{
-    let groups = read_plain(word)?;
-    if groups < 1 || groups > u64::from(MAX_SAMPLE_GROUPS) {
-        return None;
-    }
-    Some(groups as u32)
 }

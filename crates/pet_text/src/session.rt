@@ -1,5 +1,5 @@
-//! A session number, and the id of a video, in a command word.
-ghost use Rattle.std.specs.Prelude.{◌≡◌, ◌<◌, length, option_map};
+//! A session number, and an id, in a command word.
+ghost use Rattle.std.specs.Prelude.{◌≡◌, ◌<◌, length};
 ghost use Rattle.pet_text.specs.Words.{digit_of, byte_of, session_of, id_of};
 
 /// The session number that sixteen digits out of `0` to `9` and `a` to `f` spell.
@@ -17,12 +17,12 @@ pub fn read_session(word: &str) -> Option<[u8; 8]>
     Some(session)
 }
 
-/// The id of a video that `e0` to `ef` spell.
+/// The id that two such digits spell.
 pub fn read_id(word: &str) -> Option<u8>
     ensures { result ≡ id_of word.now }
 {
     match word.as_bytes() {
-        [b'e', digit] => Some(0xE0 + read_digit(*digit)?),
+        [high, low] => read_byte(*high, *low),
         _ => None,
     }
 }

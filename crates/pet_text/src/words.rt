@@ -1,14 +1,15 @@
 //! The command words.
-ghost use Rattle.std.specs.Prelude.{◌≡◌, ◌↔◌, Err, None, Some, IfOk};
-ghost use Rattle.pet_text.specs.declared.words.Command.TheVariants.{Plan, Check, Send, Receive, Merge, Video, Unwrap, Wrap, Migrate, Replay, Sample, Repair, Breceive, Relay, Bsend};
-ghost use Rattle.pet_text.specs.Words.{texts_of, command_of};
-ghost use Rattle.pet_text.specs.inside.Forms.{command_in};
-ghost use Rattle.pet_text.specs.Ends.{end_in};
+ghost use Rattle.std.specs.Prelude.{◌≡◌, ◌↔◌, [], ◌∷◌, Err, None, Some, IfOk};
+ghost use Rattle.pet_text.specs.declared.words.Command.TheVariants.{Plan, Check, Merge, Video, Wrap, Migrate, Replay};
+ghost use Rattle.pet_text.specs.Words.{texts_of, end_of, session_of, id_of, plain_number, if_formed, send_of, bsend_of, receive_of, breceive_of, relay_of, unwrap_of, sample_of, repair_of, command_of};
+ghost use Rattle.pet_text.specs.inside.Reading.{Reads};
 
-use crate::end::{End, own_end};
-use crate::form::{Form, form_of};
+use crate::end::{End, own_end, read_end};
+use crate::files::{are_receive_files, are_relay_files, are_send_files, is_other, same};
 use crate::name::Name;
-use outside_routes::Route;
+use crate::numbers::read_plain;
+use crate::session::{read_id, read_session};
+use pet_base::MAX_SAMPLE_GROUPS;
 use std::alloc::{AllocError, Global};
 
 /// A command, with what its words name.
@@ -141,9 +142,6 @@ pub enum Command {
     },
 }
 
-/// A command with copies of its texts.
-type Owned = Result<Command, AllocError>;
-
 /// Why there is no command.
 #[derive(Clone, Copy, Debug, PartialEq, Eq)]
 pub enum WordsFault {
@@ -163,77 +161,127 @@ impl From<AllocError> for WordsFault {
     }
 }
 
+/// A command, or why there is none.
+type Read = Result<Command, WordsFault>;
+
 /// Reads the words of a command, without the program's name: exactly those that have a form.
 pub fn read_words(alloc: Global, words: &[String]) -> Result<Command, WordsFault>
     ensures usage { (result ≡ Err WordsFault.Usage) ↔ (command_of (texts_of words.now) ≡ None) }
     ensures command { IfOk result (λ command. command_of (texts_of words.now) ≡ Some command) }
 {
-    let Some(form) = form_of(words) else {
-        return Err(WordsFault::Usage);
-    };
-    let command = own_command(alloc, form)?;
-    Ok(command)
+    read_command(alloc, words)
 }
 
-/// The command of a form, with copies of its texts.
-fn own_command(alloc: Global, form: Form<'_>) -> Owned
-    ensures { IfOk result (λ command. command ≡ command_in form.entry) }
+/// The same, as one relation.
+fn read_command(alloc: Global, words: &[String]) -> Read
+    ensures { Reads result (command_of (texts_of words.now)) }
 {
-    match form {
-        Form::Plan { stream, priority } => own_plan(alloc, stream, priority),
-        Form::Check {
-            stream,
-            priority,
-            plan,
-        } => own_check(alloc, stream, priority, plan),
-        Form::Send {
-            stream,
-            priority,
-            to,
-        } => own_send(alloc, stream, priority, to),
-        Form::Bsend {
-            stream,
-            priority,
-            to,
-        } => own_bsend(alloc, stream, priority, to),
-        Form::Receive {
-            from,
-            session,
-            layers,
-            store,
-        } => own_receive(alloc, from, session, layers, store),
-        Form::Merge { first, second, out } => own_merge(alloc, first, second, out),
-        Form::Video { store, out } => own_video(alloc, store, out),
-        Form::Unwrap { file, id, out } => own_unwrap(alloc, file, id, out),
-        Form::Wrap { file, out } => own_wrap(alloc, file, out),
-        Form::Migrate { store, out } => own_migrate(alloc, store, out),
-        Form::Replay {
-            stream,
-            priority,
-            script,
-        } => own_replay(alloc, stream, priority, script),
-        Form::Sample { seed, groups } => Ok(Command::Sample { seed, groups }),
-        Form::Repair { store, to } => own_repair(alloc, store, to),
-        Form::Breceive {
-            from,
-            session,
-            layers,
-        } => own_breceive(alloc, from, session, layers),
-        Form::Relay { from, session, to } => own_relay(alloc, from, session, to),
+    match words {
+        [word, first, second] => {
+            two_words(alloc, word.as_str(), first.as_str(), second.as_str())
+        }
+        [word, first, second, third] => three_words(
+            alloc,
+            word.as_str(),
+            first.as_str(),
+            second.as_str(),
+            third.as_str(),
+        ),
+        [word, first, second, third, fourth] => four_words(
+            alloc,
+            word.as_str(),
+            first.as_str(),
+            second.as_str(),
+            third.as_str(),
+            fourth.as_str(),
+        ),
+        _ => Err(WordsFault::Usage),
     }
 }
 
-fn own_plan(alloc: Global, stream: &str, priority: &str) -> Owned
-    ensures { IfOk result (λ command. command ≡ Plan stream.now priority.now) }
+/// A command with two words behind its own.
+fn two_words(alloc: Global, word: &str, first: &str, second: &str) -> Read
+    ensures { Reads result (command_of (word.now ∷ first.now ∷ second.now ∷ [])) }
 {
+    if same(word, "plan") {
+        plan_words(alloc, first, second)
+    } else if same(word, "video") {
+        video_words(alloc, first, second)
+    } else if same(word, "wrap") {
+        wrap_words(alloc, first, second)
+    } else if same(word, "migrate") {
+        migrate_words(alloc, first, second)
+    } else if same(word, "sample") {
+        sample_words(alloc, first, second)
+    } else if same(word, "repair") {
+        repair_words(alloc, first, second)
+    } else {
+        Err(WordsFault::Usage)
+    }
+}
+
+/// A command with three words behind its own.
+fn three_words(alloc: Global, word: &str, first: &str, second: &str, third: &str) -> Read
+    ensures { Reads result (command_of (word.now ∷ first.now ∷ second.now ∷ third.now ∷ [])) }
+{
+    if same(word, "check") {
+        check_words(alloc, first, second, third)
+    } else if same(word, "send") {
+        send_words(alloc, first, second, third)
+    } else if same(word, "bsend") {
+        bsend_words(alloc, first, second, third)
+    } else if same(word, "merge") {
+        merge_words(alloc, first, second, third)
+    } else if same(word, "unwrap") {
+        unwrap_words(alloc, first, second, third)
+    } else if same(word, "replay") {
+        replay_words(alloc, first, second, third)
+    } else if same(word, "breceive") {
+        breceive_words(alloc, first, second, third)
+    } else if same(word, "relay") {
+        relay_words(alloc, first, second, third)
+    } else {
+        Err(WordsFault::Usage)
+    }
+}
+
+/// A command with four words behind its own.
+fn four_words(
+    alloc: Global,
+    word: &str,
+    first: &str,
+    second: &str,
+    third: &str,
+    fourth: &str,
+) -> Read
+    ensures { Reads result (command_of (word.now ∷ first.now ∷ second.now ∷ third.now ∷ fourth.now ∷ [])) }
+{
+    if same(word, "receive") {
+        receive_words(alloc, first, second, third, fourth)
+    } else {
+        Err(WordsFault::Usage)
+    }
+}
+
+/// The words behind `plan`.
+fn plan_words(alloc: Global, stream: &str, priority: &str) -> Read
+    ensures { Reads result (if_formed (Some (Plan stream.now priority.now))) }
+{
+    if stream.is_empty() || priority.is_empty() {
+        return Err(WordsFault::Usage);
+    }
     let stream = Name::new(alloc, stream)?;
     let priority = Name::new(alloc, priority)?;
     Ok(Command::Plan { stream, priority })
 }
 
-fn own_check(alloc: Global, stream: &str, priority: &str, plan: &str) -> Owned
-    ensures { IfOk result (λ command. command ≡ Check stream.now priority.now plan.now) }
+/// The words behind `check`.
+fn check_words(alloc: Global, stream: &str, priority: &str, plan: &str) -> Read
+    ensures { Reads result (if_formed (Some (Check stream.now priority.now plan.now))) }
 {
+    if stream.is_empty() || priority.is_empty() || plan.is_empty() {
+        return Err(WordsFault::Usage);
+    }
     let stream = Name::new(alloc, stream)?;
     let priority = Name::new(alloc, priority)?;
     let plan = Name::new(alloc, plan)?;
@@ -244,9 +292,33 @@ fn own_check(alloc: Global, stream: &str, priority: &str, plan: &str) -> Owned
     })
 }
 
-fn own_send(alloc: Global, stream: &str, priority: &str, to: Route<'_>) -> Owned
-    ensures { IfOk result (λ command. command ≡ Send stream.now priority.now (end_in to.entry)) }
+/// The words behind `replay`.
+fn replay_words(alloc: Global, stream: &str, priority: &str, script: &str) -> Read
+    ensures { Reads result (if_formed (Some (Replay stream.now priority.now script.now))) }
 {
+    if stream.is_empty() || priority.is_empty() || script.is_empty() {
+        return Err(WordsFault::Usage);
+    }
+    let stream = Name::new(alloc, stream)?;
+    let priority = Name::new(alloc, priority)?;
+    let script = Name::new(alloc, script)?;
+    Ok(Command::Replay {
+        stream,
+        priority,
+        script,
+    })
+}
+
+/// The words behind `send`.
+fn send_words(alloc: Global, stream: &str, priority: &str, to: &str) -> Read
+    ensures { Reads result (if_formed (send_of stream.now priority.now (end_of 1 to.now))) }
+{
+    let Some(to) = read_end(to, 1) else {
+        return Err(WordsFault::Usage);
+    };
+    if !are_send_files(stream, priority, to) {
+        return Err(WordsFault::Usage);
+    }
     let stream = Name::new(alloc, stream)?;
     let priority = Name::new(alloc, priority)?;
     let to = own_end(alloc, to)?;
@@ -257,14 +329,16 @@ fn own_send(alloc: Global, stream: &str, priority: &str, to: Route<'_>) -> Owned
     })
 }
 
-fn own_bsend(
-    alloc: Global,
-    stream: &str,
-    priority: &str,
-    to: Route<'_>,
-) -> Result<Command, AllocError>
-    ensures { IfOk result (λ command. command ≡ Bsend stream.now priority.now (end_in to.entry)) }
+/// The words behind `bsend`.
+fn bsend_words(alloc: Global, stream: &str, priority: &str, to: &str) -> Read
+    ensures { Reads result (if_formed (bsend_of stream.now priority.now (end_of 1 to.now))) }
 {
+    let Some(to) = read_end(to, 1) else {
+        return Err(WordsFault::Usage);
+    };
+    if !are_send_files(stream, priority, to) {
+        return Err(WordsFault::Usage);
+    }
     let stream = Name::new(alloc, stream)?;
     let priority = Name::new(alloc, priority)?;
     let to = own_end(alloc, to)?;
@@ -275,10 +349,19 @@ fn own_bsend(
     })
 }
 
-fn own_receive(alloc: Global, from: Route<'_>, session: [u8; 8], layers: &str, store: &str) -> Owned
-    ensures { IfOk result (λ command. command
-        ≡ Receive (end_in from.entry) session layers.now store.now) }
+/// The words behind `receive`.
+fn receive_words(alloc: Global, from: &str, session: &str, layers: &str, store: &str) -> Read
+    ensures { Reads result (if_formed (receive_of (end_of 0 from.now) (session_of session.now) layers.now store.now)) }
 {
+    let Some(from) = read_end(from, 0) else {
+        return Err(WordsFault::Usage);
+    };
+    let Some(session) = read_session(session) else {
+        return Err(WordsFault::Usage);
+    };
+    if !are_receive_files(from, layers, store) {
+        return Err(WordsFault::Usage);
+    }
     let from = own_end(alloc, from)?;
     let layers = Name::new(alloc, layers)?;
     let store = Name::new(alloc, store)?;
@@ -290,9 +373,19 @@ fn own_receive(alloc: Global, from: Route<'_>, session: [u8; 8], layers: &str, s
     })
 }
 
-fn own_breceive(alloc: Global, from: Route<'_>, session: [u8; 8], layers: &str) -> Owned
-    ensures { IfOk result (λ command. command ≡ Breceive (end_in from.entry) session layers.now) }
+/// The words behind `breceive`.
+fn breceive_words(alloc: Global, from: &str, session: &str, layers: &str) -> Read
+    ensures { Reads result (if_formed (breceive_of (end_of 0 from.now) (session_of session.now) layers.now)) }
 {
+    let Some(from) = read_end(from, 0) else {
+        return Err(WordsFault::Usage);
+    };
+    let Some(session) = read_session(session) else {
+        return Err(WordsFault::Usage);
+    };
+    if layers.is_empty() || !is_other(layers, from) {
+        return Err(WordsFault::Usage);
+    }
     let from = own_end(alloc, from)?;
     let layers = Name::new(alloc, layers)?;
     Ok(Command::Breceive {
@@ -302,71 +395,124 @@ fn own_breceive(alloc: Global, from: Route<'_>, session: [u8; 8], layers: &str) 
     })
 }
 
-fn own_relay(alloc: Global, from: Route<'_>, session: [u8; 8], to: Route<'_>) -> Owned
-    ensures { IfOk result (λ command. command ≡ Relay (end_in from.entry) session (end_in to.entry)) }
+/// The words behind `relay`.
+fn relay_words(alloc: Global, from: &str, session: &str, to: &str) -> Read
+    ensures { Reads result (if_formed (relay_of (end_of 0 from.now) (session_of session.now) (end_of 1 to.now))) }
 {
+    let Some(from) = read_end(from, 0) else {
+        return Err(WordsFault::Usage);
+    };
+    let Some(session) = read_session(session) else {
+        return Err(WordsFault::Usage);
+    };
+    let Some(to) = read_end(to, 1) else {
+        return Err(WordsFault::Usage);
+    };
+    if !are_relay_files(from, to) {
+        return Err(WordsFault::Usage);
+    }
     let from = own_end(alloc, from)?;
     let to = own_end(alloc, to)?;
     Ok(Command::Relay { from, session, to })
 }
 
-fn own_merge(alloc: Global, first: &str, second: &str, out: &str) -> Owned
-    ensures { IfOk result (λ command. command ≡ Merge first.now second.now out.now) }
+/// The words behind `merge`.
+fn merge_words(alloc: Global, first: &str, second: &str, out: &str) -> Read
+    ensures { Reads result (if_formed (Some (Merge first.now second.now out.now))) }
 {
+    if first.is_empty() || second.is_empty() || out.is_empty() {
+        return Err(WordsFault::Usage);
+    }
+    if same(out, first) || same(out, second) {
+        return Err(WordsFault::Usage);
+    }
     let first = Name::new(alloc, first)?;
     let second = Name::new(alloc, second)?;
     let out = Name::new(alloc, out)?;
     Ok(Command::Merge { first, second, out })
 }
 
-fn own_video(alloc: Global, store: &str, out: &str) -> Owned
-    ensures { IfOk result (λ command. command ≡ Video store.now out.now) }
+/// The words behind `video`.
+fn video_words(alloc: Global, store: &str, out: &str) -> Read
+    ensures { Reads result (if_formed (Some (Video store.now out.now))) }
 {
+    if store.is_empty() || out.is_empty() || same(out, store) {
+        return Err(WordsFault::Usage);
+    }
     let store = Name::new(alloc, store)?;
     let out = Name::new(alloc, out)?;
     Ok(Command::Video { store, out })
 }
 
-fn own_unwrap(alloc: Global, file: &str, id: u8, out: &str) -> Owned
-    ensures { IfOk result (λ command. command ≡ Unwrap file.now id out.now) }
+/// The words behind `wrap`.
+fn wrap_words(alloc: Global, file: &str, out: &str) -> Read
+    ensures { Reads result (if_formed (Some (Wrap file.now out.now))) }
 {
-    let file = Name::new(alloc, file)?;
-    let out = Name::new(alloc, out)?;
-    Ok(Command::Unwrap { file, id, out })
-}
-
-fn own_wrap(alloc: Global, file: &str, out: &str) -> Owned
-    ensures { IfOk result (λ command. command ≡ Wrap file.now out.now) }
-{
+    if file.is_empty() || out.is_empty() || same(out, file) {
+        return Err(WordsFault::Usage);
+    }
     let file = Name::new(alloc, file)?;
     let out = Name::new(alloc, out)?;
     Ok(Command::Wrap { file, out })
 }
 
-fn own_migrate(alloc: Global, store: &str, out: &str) -> Owned
-    ensures { IfOk result (λ command. command ≡ Migrate store.now out.now) }
+/// The words behind `migrate`.
+fn migrate_words(alloc: Global, store: &str, out: &str) -> Read
+    ensures { Reads result (if_formed (Some (Migrate store.now out.now))) }
 {
+    if store.is_empty() || out.is_empty() || same(out, store) {
+        return Err(WordsFault::Usage);
+    }
     let store = Name::new(alloc, store)?;
     let out = Name::new(alloc, out)?;
     Ok(Command::Migrate { store, out })
 }
 
-fn own_replay(alloc: Global, stream: &str, priority: &str, script: &str) -> Owned
-    ensures { IfOk result (λ command. command ≡ Replay stream.now priority.now script.now) }
+/// The words behind `unwrap`.
+fn unwrap_words(alloc: Global, file: &str, id: &str, out: &str) -> Read
+    ensures { Reads result (if_formed (unwrap_of file.now (id_of id.now) out.now)) }
 {
-    let stream = Name::new(alloc, stream)?;
-    let priority = Name::new(alloc, priority)?;
-    let script = Name::new(alloc, script)?;
-    Ok(Command::Replay {
-        stream,
-        priority,
-        script,
-    })
+    let Some(id) = read_id(id) else {
+        return Err(WordsFault::Usage);
+    };
+    if id < 0xE0 || id > 0xEF {
+        return Err(WordsFault::Usage);
+    }
+    if file.is_empty() || out.is_empty() || same(out, file) {
+        return Err(WordsFault::Usage);
+    }
+    let file = Name::new(alloc, file)?;
+    let out = Name::new(alloc, out)?;
+    Ok(Command::Unwrap { file, id, out })
 }
 
-fn own_repair(alloc: Global, store: &str, to: Route<'_>) -> Owned
-    ensures { IfOk result (λ command. command ≡ Repair store.now (end_in to.entry)) }
+/// The words behind `sample`.
+fn sample_words(alloc: Global, seed: &str, groups: &str) -> Read
+    ensures { Reads result (if_formed (sample_of (plain_number seed.now) (plain_number groups.now))) }
 {
+    let Some(seed) = read_plain(seed) else {
+        return Err(WordsFault::Usage);
+    };
+    let Some(groups) = read_plain(groups) else {
+        return Err(WordsFault::Usage);
+    };
+    if groups < 1 || groups > u64::from(MAX_SAMPLE_GROUPS) {
+        return Err(WordsFault::Usage);
+    }
+    let groups = groups as u32;
+    Ok(Command::Sample { seed, groups })
+}
+
+/// The words behind `repair`.
+fn repair_words(alloc: Global, store: &str, to: &str) -> Read
+    ensures { Reads result (if_formed (repair_of store.now (end_of 1 to.now))) }
+{
+    let Some(to) = read_end(to, 1) else {
+        return Err(WordsFault::Usage);
+    };
+    if store.is_empty() || !is_other(store, to) {
+        return Err(WordsFault::Usage);
+    }
     let store = Name::new(alloc, store)?;
     let to = own_end(alloc, to)?;
     Ok(Command::Repair { store, to })

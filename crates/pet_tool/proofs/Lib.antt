@@ -1,10 +1,7 @@
 pub mod Telling
 pub mod Ends
-pub mod SystemCompleted
-pub mod LinesTold
-pub mod BytesCompleted
-pub mod RelayCompleted
-pub mod Completing
 pub mod NoMemory
-pub mod WordsRead
+pub mod LinesTold
 pub mod SessionSent
+pub mod Headline
+pub mod Owed

@@ -1,5 +1,5 @@
--- What was printed behind the line of a port.
-use Rattle.std.proofs.Common.{◌≡◌, List, ℕ, ◌++◌, sym, ap, append_assoc, ◌∙◌}
+-- What was printed of an end, and behind the line of a port.
+use Rattle.std.proofs.Common.{◌≡◌, List, ℕ, ◌++◌, Option, sym, ap, append_assoc, ◌∙◌}
 use Rattle.std.specs.Io.KnownBytes.{append_known}
 use Rattle.pet_base.specs.LinkSeen.{LinkSeen}
 use Rattle.pet_base.specs.OutsideSeen.{OutsideSeen}
@@ -10,6 +10,7 @@ use Rattle.command_receive.specs.laws.LineLaws.{port_then}
 use Rattle.text_status.specs.Statuses.{fault_text}
 use Rattle.text_status.specs.declared.status.Status.{Status}
 use Rattle.pet_tool.specs.Undisturbed.{EndsWith}
+use Rattle.pet_tool.proofs.Telling.{Told}
 
 -- the lines and then that of the status which the end has
 pub ends_with : (status now : Status) (lines : List ℕ) (before after : OutsideSeen) → now ≡ status
@@ -29,3 +30,12 @@ lines_told from line numbers of_status before between after port printed link is
     ∙ ap (append_known before.written) (sym (append_assoc (port_line from between.link) line of_status))
     ∙ ap (λ (l : LinkSeen). append_known before.written ((port_line from l ++ line) ++ of_status)) (sym link)
     ∙ ap (λ (t : List ℕ). append_known before.written ((port_line from after.link ++ t) ++ of_status)) is
+
+-- what was told of a command that printed nothing itself, whose status and line are known
+pub ended_with : (before between after : OutsideSeen) (status of_end wanted : Status) (line lines : List ℕ)
+    → between.written ≡ before.written → Told line of_end between after status → of_end ≡ wanted → line ≡ lines
+    → EndsWith wanted lines before after status
+ended_with before between after status of_end wanted line lines written said ended is =
+    ends_with wanted status lines before after (said.ended ∙ ended)
+    (said.printed ∙ ap (λ (o : Option (List ℕ)). append_known o (line ++ fault_text status)) written
+    ∙ ap (λ (l : List ℕ). append_known before.written (l ++ fault_text status)) is)

@@ -24,8 +24,7 @@ use Rattle.command_send.specs.laws.EndLaws.{sends_session_in}
 use Rattle.text_status.specs.Statuses.{fault_text}
 use Rattle.text_status.specs.declared.status.Status.{Status}
 use Rattle.text_status.specs.declared.status.Status.TheVariants.{Done}
-use Rattle.pet_tool.specs.Lines.{line_of_send}
-use Rattle.pet_tool.specs.Statuses.{status_of_send}
+use Rattle.pet_tool.specs.Commands.Streams.{line_of_send, status_of_send}
 use Rattle.pet_tool.specs.Told.{Tells}
 use Rattle.pet_tool.specs.Undisturbed.{IsUndisturbedOn, EndsWith}
 use Rattle.pet_tool.proofs.LinesTold.{ends_with}

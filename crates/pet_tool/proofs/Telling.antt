@@ -12,11 +12,11 @@ use Rattle.outside_files.specs.laws.PrintedLaws.{append_known-twice, append_know
 use Rattle.text_status.specs.declared.status.Status.{Status}
 use Rattle.text_status.specs.declared.status.Status.TheVariants.{OutFault, Usage}
 use Rattle.text_status.specs.Statuses.{fault_text}
-use Rattle.pet_tool.specs.Does.{Refuses, Strikes}
-use Rattle.pet_tool.specs.declared.end.End.{End}
-use Rattle.pet_tool.specs.declared.end.End.TheVariants as end
-use Rattle.pet_tool.specs.Lines.{line_of}
-use Rattle.pet_tool.specs.Statuses.{status_of, of_place, of_link}
+use Rattle.pet_tool.specs.declared.commands.End.{End}
+use Rattle.pet_tool.specs.declared.commands.End.TheVariants as end
+use Rattle.pet_tool.specs.Commands.{line_of, status_of}
+use Rattle.pet_tool.specs.Runs.{Refuses, Strikes}
+use Rattle.pet_tool.specs.Statuses.{of_place, of_link}
 use Rattle.pet_tool.specs.Told.{PrintedWhole, PrintedShort, Tells}
 
 same_seen : (a b : OutsideSeen) → b.place ≡ a.place → b.link ≡ a.link → b.written ≡ a.written
@@ -115,33 +115,13 @@ strikes line of_end before between after status tells lined once = by tells.line
 -- only words of no form end as usage
 pub usage_told : (e : End) (status : Status) (before after : OutsideSeen)
     → PrintedWhole (line_of e) (status_of e) before after status ⊎ PrintedShort (line_of e) before after status
-    → (e ≢ end.Usage → status ≢ Usage)
-    → (status ≡ Usage) ↔ (e ≡ end.Usage)
+    → (status ≡ Usage → e ≡ end.Usage) → (status ≡ Usage) ↔ (e ≡ end.Usage)
 usage_told e status before after line known = (
-  to e known,
+  known,
   λ is. from (subst (λ (e : End). PrintedWhole (line_of e) (status_of e) before after status
       ⊎ PrintedShort (line_of e) before after status) is line),
 )
   where
-    to : (e : End) → (e ≢ end.Usage → status ≢ Usage) → status ≡ Usage → e ≡ end.Usage
-    to end.Usage known is = refl
-    to end.NoMemory known is = absurd (known (λ same. cc) is)
-    to (end.Plan x) known is = absurd (known (λ same. cc) is)
-    to (end.Check x) known is = absurd (known (λ same. cc) is)
-    to (end.Send x) known is = absurd (known (λ same. cc) is)
-    to (end.Bsend x) known is = absurd (known (λ same. cc) is)
-    to (end.Receive x) known is = absurd (known (λ same. cc) is)
-    to (end.Merge x) known is = absurd (known (λ same. cc) is)
-    to (end.Video x) known is = absurd (known (λ same. cc) is)
-    to (end.Unwrap x) known is = absurd (known (λ same. cc) is)
-    to (end.Wrap x) known is = absurd (known (λ same. cc) is)
-    to (end.Migrate x) known is = absurd (known (λ same. cc) is)
-    to (end.Replay x) known is = absurd (known (λ same. cc) is)
-    to (end.Sample x) known is = absurd (known (λ same. cc) is)
-    to (end.Repair x) known is = absurd (known (λ same. cc) is)
-    to (end.Breceive x) known is = absurd (known (λ same. cc) is)
-    to (end.Relay x) known is = absurd (known (λ same. cc) is)
-
     from : PrintedWhole [] Usage before after status ⊎ PrintedShort [] before after status → status ≡ Usage
     from (inl whole) = whole.ended
     from (inr short) = absurd (short.some refl)

@@ -13,7 +13,7 @@ use Rattle.pet_byte.specs.BytesReceived.{HasBytePacketsOf, ReceivesByteSession}
 use Rattle.pet_byte.specs.ReceivesBytes.{byte_uses_of}
 use Rattle.text_status.specs.declared.status.Status.{Status}
 use Rattle.text_status.specs.declared.status.Status.TheVariants.{Done, Incomplete}
-use Rattle.pet_tool.specs.Lines.{totals_text}
+use Rattle.pet_tool.specs.Commands.Routes.{totals_text}
 use Rattle.pet_tool.specs.Undisturbed.{IsUndisturbedOn, EndsWith}
 
 -- the line of the numbers, by the packets that were met

@@ -16,7 +16,7 @@ use Rattle.command_receive.specs.Receives.{port_line, uses_of}
 use Rattle.command_receive.specs.ReceivesSession.{HasDatagrams, HasPacketsOf, ReceivesSession, session_totals}
 use Rattle.text_status.specs.declared.status.Status.{Status}
 use Rattle.text_status.specs.declared.status.Status.TheVariants.{Done, Incomplete, TurnsSpent}
-use Rattle.pet_tool.specs.Lines.{totals_text}
+use Rattle.pet_tool.specs.Commands.Routes.{totals_text}
 use Rattle.pet_tool.specs.Undisturbed.{IsUndisturbedOn, EndsWith}
 
 -- the line of the numbers, by the packets that were met

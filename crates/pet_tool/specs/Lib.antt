@@ -1,10 +1,10 @@
 pub mod Statuses
-pub mod Lines
 pub mod Told
-pub mod Does
+pub mod Runs
 pub mod Undisturbed
+pub mod Commands
 pub mod Headline
 pub mod ByteHeadline
 pub mod RelayHeadline
-pub mod Completes
 pub mod Starts
+pub mod inside

@@ -7,8 +7,7 @@ use Rattle.pet_text.specs.Words.{command_of}
 use Rattle.text_status.specs.Statuses.{fault_text}
 use Rattle.text_status.specs.declared.status.Status.{Status}
 use Rattle.text_status.specs.declared.status.Status.TheVariants.{NoMemory}
-use Rattle.pet_tool.specs.Does.{Does}
-use Rattle.pet_tool.specs.Completes.{Completes}
+use Rattle.pet_tool.specs.Commands.{Does, Completes}
 
 -- Nothing is open, nothing failed and nothing is counted; what the files and the network have is not told. Of the
 -- output is told what its writer tells.

@@ -6,14 +6,10 @@ ghost use Rattle.pet_base.specs.Causes.{one_more};
 ghost use Rattle.outside_files.specs.Printed.{Printed, PrintedFront, PrintsLine};
 ghost use Rattle.pet_text.specs.Words.{texts_of, command_of};
 ghost use Rattle.text_status.specs.Statuses.{fault_text};
-ghost use Rattle.pet_tool.specs.Completes.{Completes};
-ghost use Rattle.pet_tool.specs.Does.{Does};
-ghost use Rattle.pet_tool.specs.Lines.{line_of};
+ghost use Rattle.pet_tool.specs.Commands.{line_of, status_of, Does, Completes};
 ghost use Rattle.pet_tool.specs.Told.{OnlyTells, PrintedWhole, PrintedShort, Tells};
-ghost use Rattle.pet_tool.specs.Statuses.{status_of};
 
-use crate::commands::run_command;
-use crate::end::{End, end_line, end_status};
+use crate::commands::{End, end_line, end_status, run_command};
 use arrayvec::ArrayVec;
 use pet_base::{Failed, Link, Outside, Place, Sink, Steps};
 use pet_text::{Status, WordsFault, fault_line, read_words};
@@ -22,7 +18,7 @@ use std::sync::ledger::Ledger;
 
 /// Runs the command that the words give, without the program's name. It reads and writes files of the place, receives and sends
 /// datagrams by the link, prints to the output, and counts field steps on the counter that is handed in.
-#[tactic(auto, using(crate::proofs::Completing::completes))]
+#[tactic(auto, using(crate::proofs::Owed::completes))]
 pub fn run<P: Place, K: Link, S: Sink, L: Ledger>(
     alloc: Global,
     words: &[String],
@@ -93,7 +89,7 @@ fn tell_end<P: Place, K: Link, S: Sink, L: Ledger>(
     ensures only { OnlyTells (seen outside.old) (seen outside.new) }
     ensures line { PrintedWhole (line_of end.now) (status_of end.now) (seen outside.old) (seen outside.new) result
         ⊎ PrintedShort (line_of end.now) (seen outside.old) (seen outside.new) result }
-    ensures known { end.now ≢ End.Usage → result ≢ Status.Usage }
+    ensures known { result ≡ Status.Usage → end.now ≡ End.Usage }
     ensures same { AreSame outside.old outside.new }
 {
     let mut room: ArrayVec<u8, 64> = ArrayVec::new();

@@ -3,7 +3,7 @@ use Rattle.pet_base.specs.Lent.{seen}
 use Rattle.text_status.specs.declared.status.Status.{Status}
 use Rattle.text_status.specs.declared.status.Status.TheVariants.{Usage}
 use Rattle.pet_text.specs.Words.{texts_of, command_of}
-use Rattle.pet_tool.specs.Does.{Does}
+use Rattle.pet_tool.specs.Commands.{Does}
 use Rattle.pet_tool.proofs.Telling.{usage_told}
 use Rattle.pet_tool.proofs.top.run_words.Goals as goal
 

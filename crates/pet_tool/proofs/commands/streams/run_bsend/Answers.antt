@@ -1,0 +1,14 @@
+use Rattle.pet_tool.proofs.Owed.Streams.{bsend_differs, bsend_ends_as}
+use Rattle.pet_tool.proofs.commands.streams.run_bsend.Goals as goal
+
+pub returns-clause-ends : goal.returns-clause-ends
+returns-clause-ends g c =
+    bsend_ends_as _ _ _ _ _ _ _ _ c.bsend.result c.as_str-stream.ensures c.as_str-priority.ensures c.route-to.ensures
+    c.bsend.ensures.sends c.bsend.ensures.once_place c.bsend.ensures.once_link
+
+pub bsend-requires : goal.bsend-requires
+bsend-requires g c = record {
+  differ =
+      bsend_differs c.args.stream.now c.args.priority.now _ c.args.to.now _ c.requires.form c.as_str-stream.ensures
+      c.route-to.ensures;
+}
