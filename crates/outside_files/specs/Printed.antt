@@ -18,13 +18,6 @@ pub record PrintedFront (text : List ℕ) (before after : OutsideSeen) : Type 0 
   pub printed : Printed (take count text) before after
   pub rose : Rose before.out_faults after.out_faults
 
--- No file, no datagram that was sent and no step: files may have been read, and text printed.
-pub record OnlyPrints (before after : OutsideSeen) : Type 0 where
-  pub files : after.place.files ≡ before.place.files
-  pub link : after.link ≡ before.link
-  pub steps : after.steps ≡ before.steps
-  pub later : before.out_faults ≤ after.out_faults
-
 -- Only this line was printed; a front of it, where the output failed.
 pub record PrintsLine (line : List ℕ) (before after : OutsideSeen) : Type 0 where
   pub place : after.place ≡ before.place

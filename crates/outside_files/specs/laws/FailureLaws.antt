@@ -1,7 +1,7 @@
 -- Laws of calls that end at the first failure, for the proofs of callers.
-use Rattle.std.proofs.Common.{◌≡◌, ℕ, Bool, true, false, ap, ◌∙◌}
+use Rattle.std.proofs.Common.{◌≡◌, Bool, true, false, ap, ◌∙◌}
 use Rattle.std.specs.Prelude.{Result, Ok, Err, IfErr, OnOk}
-use Rattle.pet_base.specs.Causes.{StopsAtOnce, one_more, stops}
+use Rattle.pet_base.specs.Causes.{one_more, stops}
 use Rattle.pet_base.specs.Seen.{Seen, PlaceStops}
 
 -- what came behind calls of which none failed

@@ -1,16 +1,12 @@
 -- Laws of what is printed, for the proofs of callers.
 use Rattle.std.proofs.Common.{◌≡◌, ◌⊎◌, inl, inr, ℕ, ◌≤◌, take, List, [], ◌++◌, Option, None, Some, refl, sym, ap}
-use Rattle.std.proofs.Common.{subst, ◌∙◌, append_assoc, arith}
+use Rattle.std.proofs.Common.{◌∙◌, append_assoc, arith}
 use Rattle.std.proofs.lemmas.List.{append-nil}
 use Rattle.std.proofs.Math.Seq.{take-length}
 use Rattle.std.specs.Prelude.{Result, Ok, Err, is_err, OnOk, OnErr, length}
 use Rattle.std.specs.Io.KnownBytes.{append_known}
 use Rattle.pet_base.specs.Causes.{Rose, HasCause, count_after, one_more}
 use Rattle.pet_base.specs.declared.faults.Failed.{Failed}
-use Rattle.pet_base.specs.Seen.{Seen, Blame, HadFault}
-use Rattle.pet_base.specs.OutsideSeen.{OutsideSeen}
-use Rattle.outside_files.specs.Printed.{PrintsLine}
-use Rattle.outside_files.specs.Uses.{IsOneOf, IsWell}
 
 pub append_known-twice : (o : Option (List ℕ)) (a b : List ℕ)
     → append_known (append_known o a) b ≡ append_known o (a ++ b)
@@ -42,15 +38,3 @@ pub count_once : {T E : Type 0} (result : Result T E) (before now : ℕ) → now
     → (now ≡ before) ⊎ (now ≡ one_more before)
 count_once (Ok x) before now count = inl count
 count_once (Err e) before now count = inr count
-
--- Where nothing had a fault in a whole call, nothing had one before its last line, nor in the line.
-module _ (uses : List Blame) (line : List ℕ) (before between after : OutsideSeen)
-    (printed : PrintsLine line between after) (well : IsWell uses before after) where
-  pub well_before : IsWell uses before between
-  well_before = record {
-    place = λ had. well.place (subst (λ (s : Seen). HadFault before.place s (IsOneOf uses)) (sym printed.place) had);
-    out = λ rose. well.out (Rose-before _ _ _ printed.later rose);
-  }
-
-  pub well_since : before.out_faults ≤ between.out_faults → Rose between.out_faults after.out_faults → ⊥
-  well_since later rose = well.out (Rose-since _ _ _ later rose)

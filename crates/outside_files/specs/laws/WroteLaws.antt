@@ -1,7 +1,7 @@
 -- Laws of what was written, for the proofs of callers.
 use Rattle.std.proofs.Common.{◌≡◌, ℕ, Bool, true, false, take, drop, List, [], ◌∷◌, ◌++◌, Option, None, Some, refl, sym}
 use Rattle.std.proofs.Common.{ap, subst, ◌∙◌, append_assoc}
-use Rattle.std.proofs.lemmas.List.{append-nil, take-append-drop}
+use Rattle.std.proofs.lemmas.List.{take-append-drop}
 use Rattle.std.specs.Prelude.{option_map, cond}
 use Rattle.std.specs.Str.{bytes_eq}
 use Rattle.pet_base.specs.Seen.{Seen, Files, with_file, appended, Grows, Names}
@@ -60,11 +60,6 @@ Wrote-front file k target old made new create is put = (
   (drop k file.bytes, sym (take-append-drop k file.bytes)),
   Grows-named file.name (take k file.bytes) target old.files made.files new.files create is put,
 )
-
--- a whole file is a front of itself
-pub Wrote-as_front : (whole : List File) (file : File) (old new : Seen) → Wrote (whole ++ file ∷ []) None old new
-    → Wrote whole (Some file) old new
-Wrote-as_front whole file old new p = (file.bytes, ([], sym (append-nil file.bytes)), p)
 
 -- putting behind a file's bytes
 appended-with_file : (name a b : List ℕ) (f : Files) → appended name b (with_file name a f) ≡ with_file name (a ++ b) f
