@@ -24,7 +24,7 @@ use std::alloc::Global;
 use std::sync::ledger::Ledger;
 use stream_session::SessionFault;
 
-/// How `send` ended.
+/// How `send` or `bsend` ended.
 #[derive(Clone, Copy, Debug, PartialEq, Eq)]
 pub enum SendEnd {
     /// All packets were sent.
