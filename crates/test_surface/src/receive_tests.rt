@@ -45,6 +45,15 @@ fn tells(receiver: &Receiver<'_, Gf16Plain>) -> bool {
         && receiver.header(0).is_some_and(|header| header.groups == 1)
 }
 
+/// Whether a receiver has the tag of packet 1 beside it, the last bytes of its datagram, and none of packet 2.
+fn tells_tags(receiver: &Receiver<'_, Gf16Plain>) -> bool {
+    let packets = packets();
+    match receiver.tag(0, 1) {
+        Some(tag) => packets[1].ends_with(&tag) && receiver.tag(0, 2).is_none(),
+        None => false,
+    }
+}
+
 /// Whether another takes them in, and one of another session does not.
 fn are_taken_in<'f, L: Ledger>(
     alloc: Global,
@@ -58,6 +67,7 @@ fn are_taken_in<'f, L: Ledger>(
     let refused = stranger.absorb(receiver, steps).err();
     shown.is_ok_and(|layers| layers.as_slice() == [(0, 0)].as_slice())
         && refused == Some(Absorb::OtherSession)
+        && tells_tags(&other)
 }
 
 /// Whether a receiver does so.
@@ -72,6 +82,7 @@ fn receives<L: Ledger>(alloc: Global, blank: Blank) -> Result<bool, NoMemory>
     Ok(
         judges(&mut receiver, &mut steps)?
             && tells(&receiver)
+            && tells_tags(&receiver)
             && are_taken_in(alloc, &field, &receiver, &mut steps),
     )
 }
