@@ -7,7 +7,7 @@ use Rattle.packet_frame.specs.declared.format.Format.{Format}
 use Rattle.packet_frame.specs.declared.format.TheConstants.{FORMAT}
 use Rattle.packet_frame.specs.Format.{IsFormat}
 use Rattle.packet_frame.specs.Frame.{Fields, tag_of, text_in, text_before_tag}
-use Rattle.packet_frame.specs.Planned.{halved, unplanned, by_text, planned_fields, planned_text}
+use Rattle.packet_frame.specs.Planned.{halved, unplanned, by_text, planned_fields}
 use Rattle.packet_frame.specs.Refusals.{first_fault_in}
 use Rattle.packet_frame.specs.View.{fields_with}
 use Rattle.packet_frame.specs.laws.Again.{length-tag}
