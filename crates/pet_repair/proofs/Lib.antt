@@ -6,3 +6,4 @@ pub mod AgainSent
 pub mod ArrivalMade
 pub mod RelayedMore
 pub mod RelayBegun
+pub mod LinkKept

@@ -159,11 +159,17 @@ IsBoundAtRelayEnd from old new PlaceFault = IsBoundTo from old new
 IsBoundAtRelayEnd from old new NoMemory = KeepsFeed from old new ⊎ IsBoundTo from old new
 IsBoundAtRelayEnd from old new LinkFault = KeepsFeed from old new ⊎ IsBoundTo from old new
 
--- what `relay` does: the link receives at FROM, the faults of the output do not fall, and it fails once at OutFault and at
+-- where FROM is a file the link receives where it did
+abbrev pub KeepsBound : Way → LinkSeen → LinkSeen → Type 0
+KeepsBound (OnFile name) old new = new.bound ≡ old.bound
+KeepsBound (OnLink address) old new = Unit {0}
+
+-- what `relay` does: the link receives at FROM, or where it did, the faults of the output do not fall, and it fails once at OutFault and at
 -- no other end
 pub record DoesRelay (from : Way) (session : List ℕ) (to : Way) (before after : OutsideSeen)
     (end : RelayEnd) : Type 0 where
   pub bound : IsBoundAtRelayEnd from before.link after.link end
+  pub kept : KeepsBound from before.link after.link
   pub later : before.out_faults ≤ after.out_faults
   pub out : OutStops (relay_end_of_output end) before after
   pub ends : EndsRelay from session to before after end

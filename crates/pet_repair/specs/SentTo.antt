@@ -31,6 +31,11 @@ SentFront (OnFile to) datagrams old new =
 SentFront (OnLink address) datagrams old new =
     IsAimedAt address old.link new.link × SentFirst datagrams old.link new.link × (new.place.files ≡ old.place.files)
 
+-- of a file TO the link is as it was; of an address it receives where it did, and no datagram has left it
+abbrev pub KeepsLinkTo : Way → LinkSeen → LinkSeen → Type 0
+KeepsLinkTo (OnFile to) old new = new ≡ old
+KeepsLinkTo (OnLink address) old new = (new.feed ≡ old.feed) × (new.port ≡ old.port) × (new.bound ≡ old.bound)
+
 -- no file has changed, and the link has sent nothing
 abbrev pub SentNothing : Routes → Routes → Type 0
 SentNothing old new = (new.place.files ≡ old.place.files) × (new.link.sent ≡ old.link.sent)

@@ -14,7 +14,7 @@ ghost use Rattle.packet_reading.specs.Opened.{IsBoundTo, PrintedPort};
 ghost use Rattle.packet_verdicts.specs.KeptSet.{kept_in_all};
 ghost use Rattle.pet_receive.specs.Arrivals.{kept_set};
 ghost use Rattle.pet_receive.specs.ShownBytes.{IsComplete};
-ghost use Rattle.pet_repair.specs.Relays.{Relays, EndsRelay, IsBoundAtRelayEnd};
+ghost use Rattle.pet_repair.specs.Relays.{Relays, EndsRelay, IsBoundAtRelayEnd, KeepsBound};
 ghost use Rattle.pet_repair.specs.inside.Arrivals.{StandsIn, relay_of_place, relay_of_link, relay_of_output};
 ghost use Rattle.pet_repair.specs.inside.RelayEnds.{end_of_relay, IsRelayingOf, OnlyBegins};
 ghost use Rattle.pet_repair.specs.inside.RelaySoFar.{KeepsAddresses, RelayedAll, StopsRelaying};
@@ -56,6 +56,7 @@ pub(crate) fn relay<P: Place, K: Link, S: Sink, L: Ledger>(
         (seen outside.new).link) }
     ensures bound { IfErr result (λ stop. IsBoundAtRelayEnd (way_of from.entry) (seen outside.old).link
         (seen outside.new).link (end_of_relay stop)) }
+    ensures kept { KeepsBound (way_of from.entry) (seen outside.old).link (seen outside.new).link }
     ensures later { (seen outside.old).out_faults ≤ (seen outside.new).out_faults }
     ensures out { OutStops (stops relay_of_output result) (seen outside.old) (seen outside.new) }
     ensures same { AreSame outside.old outside.new }

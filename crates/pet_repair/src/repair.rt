@@ -5,7 +5,7 @@ ghost use Rattle.pet_base.specs.Seen.{PlaceStops};
 ghost use Rattle.outside_routes.specs.Sending.{routes};
 ghost use Rattle.pet_repair.specs.Failures.{repair_of_place, repair_of_link};
 ghost use Rattle.pet_repair.specs.Repairs.{Repairs, CompletesRepair};
-ghost use Rattle.pet_repair.specs.SentTo.{way_at};
+ghost use Rattle.pet_repair.specs.SentTo.{KeepsLinkTo, way_at};
 
 use crate::repairing::repair_store;
 use outside_routes::route_at;
@@ -52,6 +52,7 @@ pub fn repair_loop<P: Place, K: Link, L: Ledger>(
         (routes P.Place K.Link place.new link.new) result }
     ensures completes { CompletesRepair store.now (way_at to_udp to.now)
         (routes P.Place K.Link place.old link.old) (routes P.Place K.Link place.new link.new) result }
+    ensures kept { KeepsLinkTo (way_at to_udp to.now) (K.seen link.old) (K.seen link.new) }
     ensures once_place { PlaceStops (repair_of_place result) (P.seen place.old) (P.seen place.new) }
     ensures once_link { LinkStops (repair_of_link result) (K.seen link.old) (K.seen link.new) }
 {

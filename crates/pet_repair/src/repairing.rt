@@ -11,6 +11,7 @@ ghost use Rattle.pet_receive.specs.ShownBytes.{groups_told};
 ghost use Rattle.pet_repair.specs.Failures.{repair_of_place, repair_of_link};
 ghost use Rattle.pet_repair.specs.Repaired.{count_whole, on_end};
 ghost use Rattle.pet_repair.specs.Repairs.{Repairs, RepairsStore};
+ghost use Rattle.pet_repair.specs.SentTo.{KeepsLinkTo};
 ghost use Rattle.packet_rebuild.specs.Rebuilding.{IsOpenFor};
 ghost use Rattle.pet_repair.specs.inside.Groups.{SendsEncoded, SendsGroup, SendsGroups, StopsAtGroup, StopsEncoded, StopsInGroups};
 
@@ -102,6 +103,7 @@ pub(crate) fn repair_store<P: Place, K: Link, L: Ledger>(
         × (n.datagrams ≡ length (on_end r.groups))) }
     ensures stop { IfErr result (Repairs store.now (way_of to.entry)
         (routes P.Place K.Link place.old link.old) (routes P.Place K.Link place.new link.new)) }
+    ensures kept { KeepsLinkTo (way_of to.entry) (K.seen link.old) (K.seen link.new) }
     ensures once_place { PlaceStops (stops repair_of_place result) (P.seen place.old) (P.seen place.new) }
     ensures once_link { LinkStops (stops repair_of_link result) (K.seen link.old) (K.seen link.new) }
 {

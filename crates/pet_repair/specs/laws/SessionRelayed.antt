@@ -256,12 +256,14 @@ pub nothing_relayed : (from : Way) (session : List ℕ) (to : Way) (now : Outsid
     → DoesRelay from session to now now NoMemory
 nothing_relayed (OnFile name) session to now = record {
   bound = inl tt;
+  kept = refl;
   later = omega arith;
   out = refl;
   ends = inl (record { untouched = record { files = refl; feed = tt }; sent = refl }, refl);
 }
 nothing_relayed (OnLink address) session to now = record {
   bound = inl refl;
+  kept = tt;
   later = omega arith;
   out = refl;
   ends = inl (record { untouched = record { files = refl; feed = refl }; sent = refl }, refl);

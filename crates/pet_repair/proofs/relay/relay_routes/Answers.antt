@@ -15,6 +15,7 @@ returns-in-Ok-clause-relays g c = record {
   bound =
       bound_at_any (way_of c.args.from) (seen c.args.outside.now).link (seen c.relay.new.outside).link
       c.end_after.result c.in-Ok.ensures.listens;
+  kept = c.relay.ensures.kept;
   later = c.relay.ensures.later;
   out =
       subst (λ b. OutStops b (seen c.args.outside.now) (seen c.relay.new.outside))
@@ -39,6 +40,7 @@ returns-in-Err-clause-relays g c =
     subst (DoesRelay (way_of c.args.from) c.args.session (way_of c.args.to) (seen c.args.outside.now)
     (seen c.relay.new.outside)) (sym c.stopped.ensures) (record {
       bound = c.in-Err.ensures.bound;
+      kept = c.relay.ensures.kept;
       later = c.relay.ensures.later;
       out =
           subst (λ b. OutStops b (seen c.args.outside.now) (seen c.relay.new.outside)) (stop_output c.in-Err.stop)

@@ -9,7 +9,7 @@ use Rattle.pet_repair.specs.declared.arriving.RelayStop.TheVariants.{Route}
 use Rattle.pet_repair.specs.inside.RelayEnds.{OnlyBegins, end_of_relay}
 use Rattle.pet_repair.proofs.ArrivalMade.{err_is, err_so, ok_so}
 use Rattle.pet_repair.specs.laws.SessionRelayed.{nothing_relayed}
-use Rattle.pet_repair.proofs.RelayBegun.{bound_at_any, bound_at_stop, bound_kept, out_of, stops_beginning}
+use Rattle.pet_repair.proofs.RelayBegun.{bound_at_any, bound_at_stop, bound_kept, kept_same, kept_begun, out_of, stops_beginning}
 use Rattle.std.proofs.Common.{false, refl, ap, ◌∙◌}
 use Rattle.pet_base.specs.Causes.{count_after, stops}
 use Rattle.packet_reading.specs.Begun.{stop_of_an_output}
@@ -120,3 +120,19 @@ returns-in_err-begin-clause-out g c =
 pub returns-clause-out : goal.returns-clause-out
 returns-clause-out g c =
     c.relay_begun.ensures.out ∙ ap (count_after (stops relay_of_output c.relay_begun.result)) c.in_ok-begin.ensures.out
+
+pub returns-in_err-buffer-clause-kept : goal.returns-in_err-buffer-clause-kept
+returns-in_err-buffer-clause-kept g c = kept_same (way_of c.args.from) (seen c.args.outside.now).link
+
+pub returns-in_err-field-clause-kept : goal.returns-in_err-field-clause-kept
+returns-in_err-field-clause-kept g c = kept_same (way_of c.args.from) (seen c.args.outside.now).link
+
+pub returns-in_err-begin-clause-kept : goal.returns-in_err-begin-clause-kept
+returns-in_err-begin-clause-kept g c =
+    kept_begun (way_of c.args.from) (seen c.args.outside.now).link (seen c.begin.new.outside).link
+    (seen c.begin.new.outside).link c.begin.ensures.others.link refl
+
+pub returns-clause-kept : goal.returns-clause-kept
+returns-clause-kept g c =
+    kept_begun (way_of c.args.from) (seen c.args.outside.now).link (seen c.begin.new.outside).link
+    (seen c.relay_begun.new.outside).link c.begin.ensures.others.link c.relay_begun.ensures.bound

@@ -6,6 +6,8 @@ use Rattle.packet_verdicts.specs.Union.{frames_in}
 use Rattle.pet_receive.specs.Arrivals.{kept_set}
 use Rattle.pet_repair.specs.Repairs.{HasState, Repairs}
 use Rattle.pet_repair.specs.inside.Groups.{end_of_failed}
+use Rattle.pet_receive.specs.ShownBytes.{groups_told}
+use Rattle.pet_repair.proofs.LinkKept.{kept_link, kept_unopened, kept_repaired}
 use Rattle.pet_repair.proofs.RepairEnds.{repair_end_is, not_opened, repaired_all, repair_stopped}
 use Rattle.pet_repair.proofs.repairing.repair_store.Goals as goal
 
@@ -67,3 +69,25 @@ returns-clause-stop g c =
     c.read_store_file.ensures.others.files refl c.read_store_file.ensures.later opened now
     c.in_ok-open_route.ensures.opened c.open_route.ensures.others c.repair_groups.ensures.others e stops)
     c.repair_groups.ensures.stop
+
+pub returns-in_err-field-clause-kept : goal.returns-in_err-field-clause-kept
+returns-in_err-field-clause-kept g c = kept_link (way_of c.args.to) (g.K.Link.seen c.args.link.now)
+
+pub returns-in_err-receiver-clause-kept : goal.returns-in_err-receiver-clause-kept
+returns-in_err-receiver-clause-kept g c = kept_link (way_of c.args.to) (g.K.Link.seen c.args.link.now)
+
+pub returns-in_err-open_route-clause-kept : goal.returns-in_err-open_route-clause-kept
+returns-in_err-open_route-clause-kept g c =
+    kept_unopened (way_of c.args.to) (routes g.P.Place g.K.Link c.read_store_file.new.place c.args.link.now)
+    (routes g.P.Place g.K.Link c.open_route.new.place c.open_route.new.link) c.in_err-open_route.ensures.unopened
+    c.open_route.ensures.others
+
+pub returns-clause-kept : goal.returns-clause-kept
+returns-clause-kept g c =
+    let r = c.in_ok-receiver.receiver in
+    kept_repaired (way_of c.args.to) r (groups_told (kept_set r))
+    (routes g.P.Place g.K.Link c.read_store_file.new.place c.args.link.now)
+    (routes g.P.Place g.K.Link c.open_route.new.place c.open_route.new.link)
+    (routes g.P.Place g.K.Link c.repair_groups.new.place c.repair_groups.new.link) c.repair_groups.result
+    c.in_ok-open_route.ensures.opened c.open_route.ensures.others c.repair_groups.ensures.others
+    c.repair_groups.ensures.done c.repair_groups.ensures.stop
