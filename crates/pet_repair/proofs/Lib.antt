@@ -7,3 +7,4 @@ pub mod ArrivalMade
 pub mod RelayedMore
 pub mod RelayBegun
 pub mod LinkKept
+pub mod BetweenKept

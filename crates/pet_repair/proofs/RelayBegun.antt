@@ -32,7 +32,7 @@ use Rattle.packet_met.specs.Kept.{nothing_of}
 use Rattle.packet_verdicts.specs.KeptSet.{kept_in_all}
 use Rattle.pet_repair.specs.Repaired.{on_end}
 use Rattle.pet_repair.specs.Relays.{Relays, RelaysFront, RelaysToUnlike, RelaysUntilFault, HasNotBegun, WritingFailed}
-use Rattle.pet_repair.specs.Relays.{relay_uses, routes_of, EndsRelay, IsBoundAtRelayEnd, KeepsBound, DoesRelay}
+use Rattle.pet_repair.specs.Relays.{relay_uses, routes_of, EndsRelay, IsBoundAtRelayEnd, DoesRelay}
 use Rattle.pet_repair.specs.SentTo.{SentTo, SentFront}
 use Rattle.pet_repair.specs.declared.arriving.RelayStop.{RelayStop}
 use Rattle.pet_repair.specs.declared.arriving.RelayStop.TheVariants.{Route, Unlike}
@@ -378,16 +378,6 @@ pub bound_kept : (from : Way) (before mid new : LinkSeen) → new.bound ≡ mid.
     → IsBoundTo from before new
 bound_kept (OnFile name) before mid new same bound = tt
 bound_kept (OnLink address) before mid new same bound = same ∙ bound
-
--- where FROM is a file the link stays bound where it was
-pub kept_same : (from : Way) (l : LinkSeen) → KeepsBound from l l
-kept_same (OnFile name) l = refl
-kept_same (OnLink address) l = tt
-
-pub kept_begun : (from : Way) (old mid new : LinkSeen) → KeepsLink from old mid → new.bound ≡ mid.bound
-    → KeepsBound from old new
-kept_begun (OnFile name) old mid new keeps bound = bound ∙ ap (λ (l : LinkSeen). l.bound) keeps
-kept_begun (OnLink address) old mid new keeps bound = tt
 
 -- where FROM was begun the link is bound at each end, and where it was not at the end of that stop
 pub bound_at_any : (from : Way) (old new : LinkSeen) (e : RelayEnd) → IsBoundTo from old new

@@ -159,17 +159,18 @@ IsBoundAtRelayEnd from old new PlaceFault = IsBoundTo from old new
 IsBoundAtRelayEnd from old new NoMemory = KeepsFeed from old new ⊎ IsBoundTo from old new
 IsBoundAtRelayEnd from old new LinkFault = KeepsFeed from old new ⊎ IsBoundTo from old new
 
--- where FROM is a file the link receives where it did
-abbrev pub KeepsBound : Way → LinkSeen → LinkSeen → Type 0
-KeepsBound (OnFile name) old new = new.bound ≡ old.bound
-KeepsBound (OnLink address) old new = Unit {0}
+-- where FROM is a file the link receives where it did, and where TO is one too it is as it was
+abbrev pub KeepsLinkBetween : Way → Way → LinkSeen → LinkSeen → Type 0
+KeepsLinkBetween (OnFile from) (OnFile to) old new = new ≡ old
+KeepsLinkBetween (OnFile from) (OnLink address) old new = new.bound ≡ old.bound
+KeepsLinkBetween (OnLink address) to old new = Unit {0}
 
 -- what `relay` does: the link receives at FROM, or where it did, the faults of the output do not fall, and it fails once at OutFault and at
 -- no other end
 pub record DoesRelay (from : Way) (session : List ℕ) (to : Way) (before after : OutsideSeen)
     (end : RelayEnd) : Type 0 where
   pub bound : IsBoundAtRelayEnd from before.link after.link end
-  pub kept : KeepsBound from before.link after.link
+  pub kept : KeepsLinkBetween from to before.link after.link
   pub later : before.out_faults ≤ after.out_faults
   pub out : OutStops (relay_end_of_output end) before after
   pub ends : EndsRelay from session to before after end

@@ -14,7 +14,7 @@ ghost use Rattle.packet_reading.specs.Opened.{IsBoundTo, PrintedPort};
 ghost use Rattle.packet_verdicts.specs.KeptSet.{kept_in_all};
 ghost use Rattle.pet_receive.specs.Arrivals.{kept_set};
 ghost use Rattle.pet_receive.specs.ShownBytes.{IsComplete};
-ghost use Rattle.pet_repair.specs.Relays.{Relays, EndsRelay, IsBoundAtRelayEnd, KeepsBound};
+ghost use Rattle.pet_repair.specs.Relays.{Relays, EndsRelay, IsBoundAtRelayEnd, KeepsLinkBetween};
 ghost use Rattle.pet_repair.specs.inside.Arrivals.{StandsIn, relay_of_place, relay_of_link, relay_of_output};
 ghost use Rattle.pet_repair.specs.inside.RelayEnds.{end_of_relay, IsRelayingOf, OnlyBegins};
 ghost use Rattle.pet_repair.specs.inside.RelaySoFar.{KeepsAddresses, RelayedAll, StopsRelaying};
@@ -56,7 +56,8 @@ pub(crate) fn relay<P: Place, K: Link, S: Sink, L: Ledger>(
         (seen outside.new).link) }
     ensures bound { IfErr result (λ stop. IsBoundAtRelayEnd (way_of from.entry) (seen outside.old).link
         (seen outside.new).link (end_of_relay stop)) }
-    ensures kept { KeepsBound (way_of from.entry) (seen outside.old).link (seen outside.new).link }
+    ensures kept { KeepsLinkBetween (way_of from.entry) (way_of to.entry) (seen outside.old).link
+        (seen outside.new).link }
     ensures later { (seen outside.old).out_faults ≤ (seen outside.new).out_faults }
     ensures out { OutStops (stops relay_of_output result) (seen outside.old) (seen outside.new) }
     ensures same { AreSame outside.old outside.new }
@@ -100,6 +101,8 @@ fn relay_begun<P: Place, K: Link, S: Sink, L: Ledger>(
         → OnlyBegins (way_of from.entry) before (seen outside.old)
         → EndsRelay (way_of from.entry) session (way_of to.entry) before (seen outside.new)
         (end_of_relay stop)) }
+    ensures kept { KeepsLinkBetween (way_of from.entry) (way_of to.entry) (seen outside.old).link
+        (seen outside.new).link }
     ensures bound { (seen outside.new).link.bound ≡ (seen outside.old).link.bound }
     ensures out { OutStops (stops relay_of_output result) (seen outside.old) (seen outside.new) }
     ensures later { (seen outside.old).out_faults ≤ (seen outside.new).out_faults }
@@ -159,6 +162,8 @@ fn relay_all<P: Place, K: Link, L: Ledger>(
     ensures stopped { IfErr result (StopsRelaying (way_of from.entry) (way_of to.entry) receiver.old
         (routes P.Place K.Link place.old link.old) (routes P.Place K.Link place.new link.new)) }
     ensures keeps { KeepsAddresses (K.seen link.old) (K.seen link.new) }
+    ensures kept { KeepsLinkBetween (way_of from.entry) (way_of to.entry) (K.seen link.old)
+        (K.seen link.new) }
     ensures place_later { (P.seen place.old).faults ≤ (P.seen place.new).faults }
     ensures link_later { (K.seen link.old).faults ≤ (K.seen link.new).faults }
     ensures once_place { PlaceStops (stops relay_of_place result) (P.seen place.old)

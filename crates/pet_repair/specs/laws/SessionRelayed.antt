@@ -254,7 +254,14 @@ completes_relay from session to before after end does = λ s files ds is can.
 -- a command that has done nothing for want of memory
 pub nothing_relayed : (from : Way) (session : List ℕ) (to : Way) (now : OutsideSeen)
     → DoesRelay from session to now now NoMemory
-nothing_relayed (OnFile name) session to now = record {
+nothing_relayed (OnFile name) session (OnFile other) now = record {
+  bound = inl tt;
+  kept = refl;
+  later = omega arith;
+  out = refl;
+  ends = inl (record { untouched = record { files = refl; feed = tt }; sent = refl }, refl);
+}
+nothing_relayed (OnFile name) session (OnLink address) now = record {
   bound = inl tt;
   kept = refl;
   later = omega arith;

@@ -9,7 +9,8 @@ use Rattle.pet_repair.specs.declared.arriving.RelayStop.TheVariants.{Route}
 use Rattle.pet_repair.specs.inside.RelayEnds.{OnlyBegins, end_of_relay}
 use Rattle.pet_repair.proofs.ArrivalMade.{err_is, err_so, ok_so}
 use Rattle.pet_repair.specs.laws.SessionRelayed.{nothing_relayed}
-use Rattle.pet_repair.proofs.RelayBegun.{bound_at_any, bound_at_stop, bound_kept, kept_same, kept_begun, out_of, stops_beginning}
+use Rattle.pet_repair.proofs.BetweenKept.{between_same, between_then, between_begun}
+use Rattle.pet_repair.proofs.RelayBegun.{bound_at_any, bound_at_stop, bound_kept, out_of, stops_beginning}
 use Rattle.std.proofs.Common.{false, refl, ap, ◌∙◌}
 use Rattle.pet_base.specs.Causes.{count_after, stops}
 use Rattle.packet_reading.specs.Begun.{stop_of_an_output}
@@ -122,17 +123,23 @@ returns-clause-out g c =
     c.relay_begun.ensures.out ∙ ap (count_after (stops relay_of_output c.relay_begun.result)) c.in_ok-begin.ensures.out
 
 pub returns-in_err-buffer-clause-kept : goal.returns-in_err-buffer-clause-kept
-returns-in_err-buffer-clause-kept g c = kept_same (way_of c.args.from) (seen c.args.outside.now).link
+returns-in_err-buffer-clause-kept g c =
+    between_same (way_of c.args.from) (way_of c.args.to) (seen c.args.outside.now).link
 
 pub returns-in_err-field-clause-kept : goal.returns-in_err-field-clause-kept
-returns-in_err-field-clause-kept g c = kept_same (way_of c.args.from) (seen c.args.outside.now).link
+returns-in_err-field-clause-kept g c =
+    between_same (way_of c.args.from) (way_of c.args.to) (seen c.args.outside.now).link
 
 pub returns-in_err-begin-clause-kept : goal.returns-in_err-begin-clause-kept
 returns-in_err-begin-clause-kept g c =
-    kept_begun (way_of c.args.from) (seen c.args.outside.now).link (seen c.begin.new.outside).link
-    (seen c.begin.new.outside).link c.begin.ensures.others.link refl
+    between_begun (way_of c.args.from) (way_of c.args.to) (seen c.args.outside.now).link (seen c.begin.new.outside).link
+    c.begin.ensures.others.link
 
 pub returns-clause-kept : goal.returns-clause-kept
 returns-clause-kept g c =
-    kept_begun (way_of c.args.from) (seen c.args.outside.now).link (seen c.begin.new.outside).link
-    (seen c.relay_begun.new.outside).link c.begin.ensures.others.link c.relay_begun.ensures.bound
+    let from = way_of c.args.from in
+    let to = way_of c.args.to in
+    between_then from to (seen c.args.outside.now).link (seen c.begin.new.outside).link
+    (seen c.relay_begun.new.outside).link
+    (between_begun from to (seen c.args.outside.now).link (seen c.begin.new.outside).link c.begin.ensures.others.link)
+    c.relay_begun.ensures.kept

@@ -1,4 +1,4 @@
-use Rattle.std.proofs.Common.{◌+◌, ◌∙◌, arith, refl, subst}
+use Rattle.std.proofs.Common.{◌+◌, ◌∙◌, take, arith, refl, subst}
 use Rattle.outside_routes.specs.Way.{way_of}
 use Rattle.outside_routes.specs.Coming.{coming, TakesDatagram}
 use Rattle.outside_routes.specs.RouteFaults.{stop_of_route}
@@ -8,6 +8,7 @@ use Rattle.packet_reading.specs.laws.BegunLaws.{input_kept}
 use Rattle.pet_repair.specs.declared.arriving.RelayStop.TheVariants.{Route}
 use Rattle.pet_repair.specs.inside.RelaySoFar.{StopsRelaying}
 use Rattle.pet_repair.proofs.ArrivalMade.{err_is}
+use Rattle.pet_repair.proofs.BetweenKept.{between_same, between_then, between_taken, between_sent, between_stopped}
 use Rattle.pet_repair.proofs.RelayedMore.{so_far_start, relayed_all, relayed_more, stops_taking, stops_at_one}
 use Rattle.pet_repair.proofs.RelayedMore.{later_same, later_taken, later_grown, open_taken, relayed_many}
 use Rattle.pet_repair.proofs.relaying.relay_all.Goals as goal
@@ -21,6 +22,7 @@ loop-turn-init g c =
       input = c.requires.input;
       is_open = c.requires.open;
       later = later_same r;
+      kept = between_same (way_of c.args.from) (way_of c.args.to) (g.K.Link.seen c.args.link.now);
       calm_place = refl;
       calm_link = refl;
     }
@@ -103,6 +105,10 @@ loop-turn-preserved g c =
           input_kept from before.place now.place (grows.place.has_input ∙ takes.place.has_input) held.input;
       is_open = grows_open to between now grows (open_taken from to before between takes held.is_open);
       later = later_grown first between now (later_taken from first before between held.later takes) grows;
+      kept =
+          between_then from to first.link before.link now.link held.kept
+          (between_then from to before.link between.link now.link (between_taken from to before between takes)
+          (between_sent from to done.sent between now grows done.sends));
       calm_place = c.in_ok-relay_one-in-Datagram.ensures.once_place ∙ c.in_ok-next_datagram.ensures.once_place ∙ held.calm_place;
       calm_link = c.in_ok-relay_one-in-Datagram.ensures.once_link ∙ c.in_ok-next_datagram.ensures.once_link ∙ held.calm_link;
     }
@@ -113,3 +119,34 @@ returns-clause-done g c =
     (routes g.P.Place g.K.Link c.args.place.now c.args.link.now)
     (routes g.P.Place g.K.Link c.loop-turn.place c.loop-turn.link) c.loop-turn.receiver
     c.loop-turn.invariant.so_far (omega arith)
+
+pub returns-in_err-next_datagram-clause-kept : goal.returns-in_err-next_datagram-clause-kept
+returns-in_err-next_datagram-clause-kept g c =
+    let from = way_of c.args.from in
+    let to = way_of c.args.to in
+    let before = routes g.P.Place g.K.Link c.loop-turn.place c.loop-turn.link in
+    let now = routes g.P.Place g.K.Link c.next_datagram.new.place c.next_datagram.new.link in
+    between_then from to (g.K.Link.seen c.args.link.now) before.link now.link c.loop-turn.invariant.kept
+    (between_taken from to before now c.next_datagram.ensures.others)
+
+pub returns-in-End-clause-kept : goal.returns-in-End-clause-kept
+returns-in-End-clause-kept g c =
+    let from = way_of c.args.from in
+    let to = way_of c.args.to in
+    let before = routes g.P.Place g.K.Link c.loop-turn.place c.loop-turn.link in
+    let now = routes g.P.Place g.K.Link c.next_datagram.new.place c.next_datagram.new.link in
+    between_then from to (g.K.Link.seen c.args.link.now) before.link now.link c.loop-turn.invariant.kept
+    (between_taken from to before now c.next_datagram.ensures.others)
+
+pub returns-in_err-relay_one-in-Datagram-clause-kept : goal.returns-in_err-relay_one-in-Datagram-clause-kept
+returns-in_err-relay_one-in-Datagram-clause-kept g c =
+    let from = way_of c.args.from in
+    let to = way_of c.args.to in
+    let before = routes g.P.Place g.K.Link c.loop-turn.place c.loop-turn.link in
+    let between = routes g.P.Place g.K.Link c.next_datagram.new.place c.next_datagram.new.link in
+    let now = routes g.P.Place g.K.Link c.relay_one.new.place c.relay_one.new.link in
+    between_then from to (g.K.Link.seen c.args.link.now) before.link now.link c.loop-turn.invariant.kept
+    (between_then from to before.link between.link now.link
+    (between_taken from to before between c.next_datagram.ensures.others)
+    (between_stopped from to c.loop-turn.receiver (take c.in-Datagram.len c.next_datagram.new.into) between now
+    c.relay_one.ensures.others c.in_err-relay_one-in-Datagram.field-0.0 c.in_err-relay_one-in-Datagram.ensures.stopped))

@@ -10,6 +10,7 @@ use Rattle.pet_repair.specs.declared.arriving.RelayStop.TheVariants.{Route}
 use Rattle.pet_repair.specs.inside.Arrivals.{StandsIn}
 use Rattle.pet_repair.specs.inside.RelayEnds.{OnlyBegins, end_of_relay}
 use Rattle.pet_repair.proofs.ArrivalMade.{err_is}
+use Rattle.pet_repair.proofs.BetweenKept.{between_then, between_opened, between_unopened}
 use Rattle.pet_repair.proofs.RelayBegun.{stops_opening, stops_relaying, relays_with, input_opened, open_opened}
 use Rattle.pet_repair.proofs.RelayBegun.{out_of, relaying_output, route_output}
 use Rattle.pet_repair.proofs.relaying.relay_begun.Goals as goal
@@ -101,3 +102,32 @@ returns-in_err-read-clause-out g c =
     out_of c.from_residual-in_err-read.result why false (seen o) new c.from_residual-in_err-read.ensures.1
     (relaying_output (way_of c.args.from) (way_of c.args.to) c.new-receiver.result opened
     (routes g.P.Place g.K.Link c.relay_all.new.place c.relay_all.new.link) why c.in_err-read.ensures.stopped) refl
+
+pub returns-in_err-open_route-clause-kept : goal.returns-in_err-open_route-clause-kept
+returns-in_err-open_route-clause-kept g c =
+    let o = c.args.outside.now in
+    between_unopened (way_of c.args.from) (way_of c.args.to) (routes g.P.Place g.K.Link o.place.now o.link.now)
+    (routes g.P.Place g.K.Link c.open_route.new.place c.open_route.new.link) c.in_err-open_route.ensures.unopened
+    c.open_route.ensures.others
+
+pub returns-in_err-read-clause-kept : goal.returns-in_err-read-clause-kept
+returns-in_err-read-clause-kept g c =
+    let from = way_of c.args.from in
+    let to = way_of c.args.to in
+    let o = c.args.outside.now in
+    between_then from to (g.K.Link.seen o.link.now) (g.K.Link.seen c.open_route.new.link)
+    (g.K.Link.seen c.relay_all.new.link)
+    (between_opened from to (routes g.P.Place g.K.Link o.place.now o.link.now)
+    (routes g.P.Place g.K.Link c.open_route.new.place c.open_route.new.link) c.in_ok-open_route.ensures.opened
+    c.open_route.ensures.others) c.relay_all.ensures.kept
+
+pub returns-clause-kept : goal.returns-clause-kept
+returns-clause-kept g c =
+    let from = way_of c.args.from in
+    let to = way_of c.args.to in
+    let o = c.args.outside.now in
+    between_then from to (g.K.Link.seen o.link.now) (g.K.Link.seen c.open_route.new.link)
+    (g.K.Link.seen c.relay_all.new.link)
+    (between_opened from to (routes g.P.Place g.K.Link o.place.now o.link.now)
+    (routes g.P.Place g.K.Link c.open_route.new.place c.open_route.new.link) c.in_ok-open_route.ensures.opened
+    c.open_route.ensures.others) c.relay_all.ensures.kept
