@@ -4,4 +4,5 @@ pub mod NoMemory
 pub mod LinesTold
 pub mod SessionSent
 pub mod Headline
+pub mod BytesReceived
 pub mod Owed

@@ -9,6 +9,7 @@ use Rattle.text_status.specs.declared.status.Status.{Status}
 use Rattle.pet_text.specs.declared.words.Command.{Command}
 use Rattle.pet_text.specs.Ends.{way_in}
 use Rattle.pet_tool.specs.Commands.{Completes, Does}
+use Rattle.pet_tool.proofs.BytesReceived.{with_what_was_sent}
 use Rattle.pet_tool.proofs.Owed.Routes.{breceive_completes, relay_completes, receive_completes, receive_no_memory}
 use Rattle.pet_tool.proofs.Owed.Routes.{breceive_no_memory, relay_no_memory, repair_completes, repair_no_memory}
 use Rattle.pet_tool.proofs.Owed.Files.{unwrap_completes, wrap_completes, merge_completes, merge_no_memory}
@@ -39,7 +40,8 @@ completes (Some (words.Sample seed groups)) before after status runs =
 completes (Some (words.Receive from session layers store)) before after status runs =
     receive_completes (way_in from) session layers store before after status runs
 completes (Some (words.Breceive from session layers)) before after status runs =
-    breceive_completes (way_in from) session layers before after status runs
+    with_what_was_sent (way_in from) session layers before after status
+    (breceive_completes (way_in from) session layers before after status runs)
 completes (Some (words.Relay from session to)) before after status runs =
     relay_completes (way_in from) session (way_in to) before after status runs
 completes (Some (words.Repair store to)) before after status runs =

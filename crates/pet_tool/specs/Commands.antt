@@ -11,7 +11,7 @@ use Rattle.std.specs.Prelude.{ℕ, List, [], Option, None, Some}
 use Rattle.pet_base.specs.OutsideSeen.{OutsideSeen}
 use Rattle.pet_text.specs.declared.words.Command.{Command}
 use Rattle.pet_text.specs.Ends.{way_in}
-use Rattle.pet_tool.specs.ByteHeadline.{ByteHeadline}
+use Rattle.pet_tool.specs.BytesSent.{CompletesBreceive}
 use Rattle.pet_tool.specs.Headline.{MeetsHeadline}
 use Rattle.pet_tool.specs.RelayHeadline.{CompletesRelay}
 use Rattle.pet_tool.specs.Commands.Streams.{line_of_plan, status_of_plan, RunsPlan, CompletesPlan, line_of_check}
@@ -110,7 +110,7 @@ Completes (Some (words.Sample seed groups)) before after status = CompletesSampl
 Completes (Some (words.Receive from session layers store)) before after status =
     MeetsHeadline (way_in from) session layers store before after status
 Completes (Some (words.Breceive from session layers)) before after status =
-    ByteHeadline (way_in from) session layers before after status
+    CompletesBreceive (way_in from) session layers before after status
 Completes (Some (words.Relay from session to)) before after status =
     CompletesRelay (way_in from) session (way_in to) before after status
 Completes (Some (words.Repair store to)) before after status = CompletesRepair store (way_in to) before after status

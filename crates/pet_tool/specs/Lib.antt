@@ -5,6 +5,7 @@ pub mod Undisturbed
 pub mod Commands
 pub mod Headline
 pub mod ByteHeadline
+pub mod BytesSent
 pub mod RelayHeadline
 pub mod Starts
 pub mod inside
