@@ -4,6 +4,7 @@ ghost use Rattle.std.specs.Prelude.{◌≡◌, ◌<◌};
 use crate::group_fixtures::{MESSAGE, table_of};
 use byte_frame::{ByteEncoder, FrameFault, read_byte_frame};
 use field_rows::Rows;
+use field_values::AllValues;
 use gf8::{Gf8Plain, Gf8Tables};
 use packet_frame::read_frame;
 use pet_base::{NoMemory, Steps};
@@ -69,6 +70,33 @@ pub(crate) fn frames_by<F: Rows, L: Ledger>(
         encoder.packet(number, &mut frames, &mut steps)?;
     }
     Ok(frames)
+}
+
+/// Whether the packets made all at once, and in two ranges, are these frames.
+fn makes_at_once<F: AllValues, L: Ledger>(
+    alloc: Global,
+    field: &F,
+    frames: &[u8],
+    blank: Blank,
+) -> Result<bool, Fail>
+    requires width { F.coding.width ≡ 1 }
+    requires points { F.COUNT ≡ 256 }
+    requires name { blank.name ≡ L.name }
+    requires parts { blank.parts ≡ L.parts }
+    requires some { 0 < blank.parts }
+{
+    let table = table_of(6)?;
+    if table.plan().words() != 68 {
+        return Ok(false);
+    }
+    let encoder = ByteEncoder::new(alloc, field, SESSION, 1, 0, table, &MESSAGE)?;
+    let mut steps = Steps::<L>::new(blank);
+    let mut all = Vec::new(alloc);
+    encoder.all(&mut all, &mut steps)?;
+    let mut ranges = Vec::new(alloc);
+    encoder.range(0, 2, &mut ranges, &mut steps)?;
+    encoder.range(2, 4, &mut ranges, &mut steps)?;
+    Ok(all.as_slice() == frames && ranges.as_slice() == frames)
 }
 
 /// The frame of this number among frames on end, where it is there.
@@ -144,6 +172,15 @@ fn makes_the_packets_of_the_example_session(rt: HostRuntime) -> Result<(), Fail>
     assert!(rt; Sha256::digest(&frames) == DIGEST);
     assert!(rt; read_byte_frame(&PACKET_3).is_ok());
     assert!(rt; read_frame(&PACKET_3).err() == Some(FrameFault::Magic));
+    Ok(())
+}
+
+#[test]
+fn makes_the_packets_at_once(rt: HostRuntime) -> Result<(), Fail> {
+    let alloc = rt.alloc();
+    let field = Gf8Tables::new();
+    let frames = frames_by::<Gf8Tables, Brand>(alloc, &field, Blank::new(1))?;
+    assert!(rt; makes_at_once::<Gf8Tables, Brand>(alloc, &field, &frames, Blank::new(1))?);
     Ok(())
 }
 

@@ -33,6 +33,9 @@ fn refuses_other_words_of_breceive(rt: HostRuntime) {
     assert_eq!(rt; first_read(rt.alloc()), None);
 }
 
+/// Packets by a link.
+const HEAR: &[&str] = &["breceive", "udp:x:1", "a5ac9461b03bcf36", "d"];
+
 /// The example stream as `s`, its priorities as `f`.
 const EXAMPLE: Files = (&STREAM, PRIORITIES, "");
 
@@ -117,21 +120,64 @@ fn receives_the_example_session_in_the_byte_profile(rt: HostRuntime) {
     assert!(rt; receives_bytes(rt.alloc()).unwrap_or(false));
 }
 
-/// Its own line, and that of the port, are not printed.
-static SILENT: [Case; 1] = [(
-    (&[], "", ""),
-    [&[], &[0]],
+/// A link that brings none, that breaks once LAYERS is made, and that cannot be bound; and the line of its port, before LAYERS is made,
+/// and its own are not printed.
+static BY_LINK: [Case; 6] = [
     (
-        &["breceive", "file:s", "a5ac9461b03bcf36", "d"],
-        Status::OutFault,
-        5,
-        "",
+        (&[], "", ""),
+        [&[], &[]],
+        (
+            HEAR,
+            Status::Incomplete,
+            12,
+            "bound 40000\nread 0 kept 0 shown 0\nfault incomplete\n",
+        ),
+        0,
+        true,
     ),
-    0,
-    true,
-)];
+    (
+        (&[], "", ""),
+        [&[1], &[]],
+        (HEAR, Status::LinkFault, 4, "bound 40000\nfault link\n"),
+        0,
+        true,
+    ),
+    (
+        (&[], "", ""),
+        [&[0], &[]],
+        (HEAR, Status::LinkFault, 4, "fault link\n"),
+        0,
+        false,
+    ),
+    (
+        (&[], "", ""),
+        [&[], &[0]],
+        (HEAR, Status::OutFault, 5, ""),
+        0,
+        false,
+    ),
+    (
+        (&[], "", ""),
+        [&[], &[1]],
+        (HEAR, Status::OutFault, 5, "bound 40000\n"),
+        0,
+        true,
+    ),
+    (
+        (&[], "", ""),
+        [&[], &[0]],
+        (
+            &["breceive", "file:s", "a5ac9461b03bcf36", "d"],
+            Status::OutFault,
+            5,
+            "",
+        ),
+        0,
+        true,
+    ),
+];
 
 #[test]
-fn tells_of_no_line_of_breceive(rt: HostRuntime) {
-    assert_eq!(rt; first_wrong(rt.alloc(), &SILENT), None);
+fn tells_the_port_of_breceive(rt: HostRuntime) {
+    assert_eq!(rt; first_wrong(rt.alloc(), &BY_LINK), None);
 }
