@@ -4,7 +4,7 @@ ghost use Rattle.pet_poly.specs.Value.{value};
 ghost use Rattle.field_rows.specs.Blocks.{columns_of, size_of, width_of};
 ghost use Rattle.field_values.specs.Matrix.{HasRows};
 
-use crate::transformed::fill_transformed;
+use crate::transformed::{fill_transformed, transformed_rows};
 use field_rows::{Block, MAX_WIDTH, Rows, block_values};
 use field_transform::Subspaces;
 use pet_base::{MAX_PACKETS, NoMemory, Steps};
@@ -56,6 +56,10 @@ impl<F: Subspaces + Rows> AllValues for F {
         count: usize,
         steps: &mut Steps<L>,
     ) -> Result<Vec<F::Elem>, NoMemory> {
+        let at_once = transformed_rows(self, alloc, blocks, laid, stripes, first, count, steps);
+        if let Some(values) = at_once {
+            return Ok(values);
+        }
         let mut values = vec![in alloc; self.zero(); count * stripes]?;
         fill_values(
             self,

@@ -78,6 +78,40 @@ pub(crate) fn transform<F: Subspaces, L: Ledger>(
     );
 }
 
+/// Takes each column of 2^level rows, as the coefficients of a polynomial, to its values at the points of the first `count`
+/// numbers of a coset: row p gets those of the number p of it. The rows from `known` on are zero.
+pub(crate) fn transform_in_place<F: Subspaces, L: Ledger>(
+    f: &F,
+    rows: &mut [F::Elem],
+    stripes: usize,
+    level: u32,
+    known: usize,
+    coset: u16,
+    count: usize,
+    steps: &mut Steps<L>,
+)
+    requires level { level ≤ MAX_LEVEL }
+    requires below { level < F.LEVELS }
+    requires elements { All F.is_element rows.old }
+    requires size { length rows.old ≡ 2 ^ level * stripes }
+    requires known { known ≤ 2 ^ level }
+    requires zeros { (i : ℕ) → known * stripes ≤ i → slice_index_or rows.old i F.coding.ops.nought
+        ≡ F.coding.ops.nought }
+    requires some { 0 < count }
+    requires few { count ≤ 2 ^ level }
+    requires points { coset * 2 ^ level + count ≤ F.COUNT }
+    ensures values { (p c : ℕ) → p < count → c < stripes
+        → slice_index_or rows.new (p * stripes + c) F.coding.ops.nought
+        ≡ value F.coding.ops (column F.coding.ops.nought stripes (2 ^ level) c rows.old)
+        (F.coding.point_of (coset * 2 ^ level + p)) }
+    ensures cost { steps.new ≤ steps.old + level * (known * stripes) + 2 ^ (level + 1)
+        + (butterflies level * stripes + 2 ^ (level + 1)) }
+{
+    convert(f, rows, stripes, level, known, steps);
+    let block = u32::from(coset);
+    values_at_coset(f, rows, stripes, level, block, count, steps);
+}
+
 /// Writes the values of each column, as coefficients in the basis of the subspaces, coset after coset. The last coset is made
 /// of the rows themselves, each before it of a copy.
 fn fill_cosets<F: Subspaces, L: Ledger>(

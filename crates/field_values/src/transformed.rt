@@ -1,11 +1,11 @@
 //! The values of all stripes at many points by the additive fast Fourier transform, over any field that has its constants.
-ghost use Rattle.std.specs.Prelude.{◌≡◌, ℕ, ◌+◌, ◌*◌, ◌<◌, ◌≤◌, ◌^◌, length, map, All, IfOk, IfSome, vec_len, true, false};
+ghost use Rattle.std.specs.Prelude.{◌≡◌, ℕ, ◌+◌, ◌*◌, ◌<◌, ◌≤◌, ◌^◌, length, map, All, IfOk, IfSome, IfNone, vec_len, true, false};
 ghost use Rattle.field_transform.specs.Steps.{butterflies};
 ghost use Rattle.pet_poly.specs.Value.{value};
 ghost use Rattle.field_rows.specs.Blocks.{columns_of, size_of, width_of};
 ghost use Rattle.field_values.specs.Matrix.{HasRows};
 
-use crate::cosets::{MAX_LEVEL, coset_of, size_at, transform};
+use crate::cosets::{MAX_LEVEL, coset_of, size_at, transform, transform_in_place};
 use crate::wide::side_by_side;
 use field_rows::Block;
 use field_transform::Subspaces;
@@ -142,4 +142,51 @@ pub(crate) fn fill_transformed<F: Subspaces, L: Ledger>(
         f, &mut rows, &mut spare, stripes, level, most, from, last, first, count, into, steps,
     );
     true
+}
+
+/// The values of all stripes at the points of the numbers `first` to `first + count - 1`, a row for each number, where these are
+/// the first of a coset, a transform is taken and there is memory for its buffer: they are the first rows of it.
+pub(crate) fn transformed_rows<F: Subspaces, L: Ledger>(
+    f: &F,
+    alloc: Global,
+    blocks: &[Block],
+    laid: &[F::Elem],
+    stripes: usize,
+    first: usize,
+    count: usize,
+    steps: &mut Steps<L>,
+) -> Option<Vec<F::Elem>>
+    requires whole { length laid.now ≡ size_of blocks.now }
+    requires stripes { stripes ≡ width_of blocks.now }
+    requires room { count * stripes < 2 ^ 64 }
+    requires elements { All F.is_element laid.now }
+    requires points { first + count ≤ F.COUNT }
+    requires few { first + count ≤ MAX_PACKETS }
+    ensures rows { IfSome result (λ values. HasRows stripes count
+        (λ p. map (λ s. value F.coding.ops s (F.coding.point_of (first + p)))
+        (columns_of F.coding.ops.nought blocks.now laid.now)) values.items) }
+    ensures cost { steps.new ≤ steps.old + count * length laid.now }
+    ensures none { IfNone result (steps.new ≡ steps.old) }
+{
+    if count == 0 {
+        return None;
+    }
+    let most = longest(blocks);
+    let Some(level) = level_of(most, F::LEVELS) else {
+        return None;
+    };
+    let size = size_at(level);
+    let coset = coset_of(first, level);
+    if usize::from(coset) * size != first || count > size {
+        return None;
+    }
+    if !is_taken(level, most, stripes, 0, count, laid.len()) {
+        return None;
+    }
+    let Ok(mut rows) = side_by_side(alloc, f, blocks, laid, stripes, size) else {
+        return None;
+    };
+    transform_in_place(f, &mut rows, stripes, level, most, coset, count, steps);
+    rows.truncate(count * stripes);
+    Some(rows)
 }

@@ -10,6 +10,3 @@ returns-clause-rows g c =
     rw (take_at c.fill_values.new.into (drop (length c.fill_values.new.into) c.in_ok-values.values.items)
     c.in_ok-values.values.len (c.fill_values.auto.into ∙ c.deref_mut.ensures.len))
     c.fill_values.ensures.rows
-
-pub returns-clause-cost : goal.returns-clause-cost
-returns-clause-cost g c = c.fill_values.ensures.cost
