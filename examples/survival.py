@@ -3,7 +3,8 @@
 
 The stream is sent to a file of packets. At each loss rate each packet is lost or not, the rest is received, and the pictures
 are counted of the video that can be shown. Beside it the stream is sent once more, as one layer with one need for all, the
-smallest whose packets have no more bytes, and loses the same packets. Where ffmpeg decodes the stream, the frames that are
+smallest whose packets have no more bytes, and loses the same packets. Two more curves are of a way of two halves, each of which
+loses so many packets: without and with a relay in the middle. Where ffmpeg decodes the stream, the frames that are
 wrong are counted too (wrong_frames.py), and drawn as a share of all. Nothing in the picture is made up: its curves are these
 counts, and its dashed lines the counts of packets that the plan prints.
 """
@@ -21,7 +22,9 @@ if not PET.is_file():
 RATES = range(0, 91, 2)
 KINDS = {1: "I", 2: "P", 3: "B"}
 COLOURS = {"I": "#1b6ca8", "P": "#2e8b57", "B": "#c1440e", "one": "#7d3c98", "wrong": "#d4a017"}
+COLOURS |= {"twice": "#999999", "relay": "#222222"}
 NAMES = {"I": "I frames", "P": "P frames", "B": "B frames", "one": "all frames, one need", "wrong": "wrong frames"}
+NAMES |= {"twice": "all, lost twice", "relay": "all, lost twice, a relay"}
 LEFT, TOP, WIDTH, HEIGHT = 60, 50, 600, 260
 INCOMPLETE = 12
 
@@ -44,12 +47,24 @@ def pictures(path):
     return counts
 
 
+def lose(rate, seed, sent, came):
+    subprocess.run([sys.executable, HERE / "lose.py", str(rate), str(seed), sent, came], check=True)
+
+
 def survivors(rate, seed, session, sent):
     """The pictures that can be shown of what is left at a loss rate."""
-    subprocess.run([sys.executable, HERE / "lose.py", str(rate), seed, sent, "came"], check=True)
+    lose(rate, seed, sent, "came")
     pet("receive", "file:came", session, "layers", "store")
     pet("video", "store", "shown")
     return pictures("shown")
+
+
+def survivors_of_two(rate, seed, session, has_relay):
+    """The pictures that can be shown behind two halves of a way, each of which loses so many packets."""
+    lose(rate, seed, "sent", "half")
+    if has_relay:
+        pet("relay", "file:half", session, "file:relayed")
+    return survivors(rate, int(seed) + 1, session, "relayed" if has_relay else "half")
 
 
 def bytes_sent(plan):
@@ -129,14 +144,18 @@ def main(stream, priority, seed):
     frames = wrong_frames.frames(stream) if wrong_frames.is_video(stream) else []
     shares = []
     for rate in RATES:
-        share = {"one": survivors(rate, seed, session_as_one, "sent-as-one").total() / whole.total()}
+        share = {
+            "one": survivors(rate, seed, session_as_one, "sent-as-one").total() / whole.total(),
+            "twice": survivors_of_two(rate, seed, session, False).total() / whole.total(),
+            "relay": survivors_of_two(rate, seed, session, True).total() / whole.total(),
+        }
         shown = survivors(rate, seed, session, "sent")
         share = {kind: shown[kind] / whole[kind] for kind in KINDS.values() if whole[kind]} | share
         if frames:
             share["wrong"] = wrong_frames.wrong(frames, wrong_frames.frames("shown")) / len(frames)
         shares.append((rate, share))
         print(rate, *(f"{kind} {shown[kind]}/{whole[kind]}" for kind in KINDS.values()), end=" ", file=sys.stderr)
-        print(*(f"{kind} {100 * share[kind]:.1f} %" for kind in ("one", "wrong") if kind in share), file=sys.stderr)
+        print(*(f"{kind} {100 * share[kind]:.1f} %" for kind in ("one", "twice", "relay", "wrong") if kind in share), file=sys.stderr)
     style = 'stroke="#888" stroke-dasharray="5 4"'
     print(f'<svg xmlns="http://www.w3.org/2000/svg" viewBox="0 0 {LEFT + WIDTH + 170} {TOP + HEIGHT + 60}"', end="")
     print(' font-family="sans-serif" font-size="13">', '<rect width="100%" height="100%" fill="white"/>', *axes(), sep="\n")
