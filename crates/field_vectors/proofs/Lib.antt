@@ -1,5 +1,5 @@
+pub mod Written
 pub mod LaneMaps
 pub mod FourNibbles
 pub mod FourPlaces
-pub mod HornerSteps
-pub mod ColumnLoop
+pub mod Words

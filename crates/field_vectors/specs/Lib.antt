@@ -1,5 +1,4 @@
 pub mod Nibbles
-pub mod Factors
 pub mod Spread
 pub mod inside
 pub mod laws

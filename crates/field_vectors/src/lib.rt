@@ -8,14 +8,19 @@
 
 mod count;
 mod kernels;
+mod lane;
 mod lanes;
 mod long_rows;
 mod memory;
 mod nibbles;
+mod prepared;
 mod products;
 
 pub use count::count_steps;
 pub use kernels::{add_multiples, column_values, scale_row};
+pub use lane::Lane;
 pub use lanes::{at_high, at_low, spread};
 pub use long_rows::{add_multiple_row, butterfly_row, multiply_row};
+pub use memory::{load, store, unload};
+pub use prepared::Prepared;
 pub use products::Products;

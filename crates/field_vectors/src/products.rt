@@ -1,11 +1,14 @@
 //! The products of a factor of the field of 65,536 elements, by tables.
-ghost use Rattle.std.specs.Prelude.{◌≡◌, ℕ, List, ◌*◌, ◌/◌, ◌%◌, ◌<◌, ◌^◌, length, map, slice_index};
-ghost use Rattle.std.specs.Simd.Lanes.{Each1};
+ghost use Rattle.std.specs.Prelude.{◌≡◌, ◌<◌, map};
 ghost use Rattle.field_elements.specs.Gf16.{gf16};
+ghost use Rattle.field_elements.specs.laws.Gf16Laws.{gf16_field};
 ghost use Rattle.field_vectors.specs.Nibbles.{AreProducts};
+ghost use Rattle.field_vectors.specs.inside.Lanes.{words};
 
 use crate::lanes::{join, look_up, split_high, split_low, spread};
+use crate::memory::{load, store, unload};
 use crate::nibbles::{NibbleProducts, nibble_products};
+use crate::prepared::Prepared;
 use std::simd::prelude::*;
 
 /// The products of a factor with each nibble at each of its four places, as low and high bytes.
@@ -51,9 +54,8 @@ impl Products {
 
     /// The products of each lane with the factor, from and to low and high bytes.
     #[inline(always)]
-    pub(crate) fn times_split(&self, low: u8x32, high: u8x32) -> (u8x32, u8x32)
-        ensures { (v : List ℕ) → Each1 (λ a. a < 65536) v → low ≡ map (λ a. a % 256) v → high ≡ map (λ a. a / 256) v →
-            (result.0 ≡ map (λ a. gf16.times self.now.factor a % 256) v) × (result.1 ≡ map (λ a. gf16.times self.now.factor a / 256) v) }
+    fn times_split(&self, low: u8x32, high: u8x32) -> (u8x32, u8x32)
+        ensures { words result.0 result.1 ≡ map (gf16.times self.now.factor) (words low high) }
     {
         let product_low = look_up(
             spread(&self.low[0]),
@@ -73,13 +75,74 @@ impl Products {
         );
         (product_low, product_high)
     }
+}
 
-    /// The products of each lane with the factor.
+/// A vector of words, and products on their low and their high bytes.
+impl Prepared for Products {
+    type Elem = u16;
+
+    type Vector = u16x32;
+
+    type Parts = (u8x32, u8x32);
+
+    ghost is_element = { λ a. a < 65536 };
+
+    ghost ops = { gf16 };
+
+    ghost factor = { λ p. p.factor };
+
+    ghost lanes = { λ v. v };
+
+    ghost joined = { λ v. words v.0 v.1 };
+
     #[inline(always)]
-    pub(crate) fn times(&self, v: u16x32) -> u16x32
-        ensures { result ≡ map (gf16.times self.now.factor) v }
-    {
-        let (low, high) = self.times_split(split_low(v), split_high(v));
-        join(low, high)
+    fn elements(&self, _row: &[u16]) {}
+
+    #[inline(always)]
+    fn load(rows: &[u16], at: usize) -> u16x32 {
+        load(rows, at, 0)
     }
+
+    #[inline(always)]
+    fn unload(v: u16x32, into: &mut [u16]) {
+        unload(v, into);
+    }
+
+    #[inline(always)]
+    fn store(v: u16x32, rows: &mut [u16], at: usize) {
+        store(v, rows, at);
+    }
+
+    #[inline(always)]
+    fn add(a: u16x32, b: u16x32) -> u16x32 {
+        a ^ b
+    }
+
+    #[inline(always)]
+    fn zeros() -> (u8x32, u8x32) {
+        (u8x32::splat(0), u8x32::splat(0))
+    }
+
+    #[inline(always)]
+    fn split(v: u16x32) -> (u8x32, u8x32) {
+        (split_low(v), split_high(v))
+    }
+
+    #[inline(always)]
+    fn join(parts: (u8x32, u8x32)) -> u16x32 {
+        join(parts.0, parts.1)
+    }
+
+    #[inline(always)]
+    fn times(&self, parts: (u8x32, u8x32)) -> (u8x32, u8x32) {
+        self.times_split(parts.0, parts.1)
+    }
+
+    #[inline(always)]
+    fn step(&self, sums: (u8x32, u8x32), row: u16x32) -> (u8x32, u8x32) {
+        let (low, high) = self.times_split(sums.0, sums.1);
+        (split_low(row) ^ low, split_high(row) ^ high)
+    }
+
+    ghost field = { gf16_field };
 }

@@ -1,6 +1,5 @@
 pub mod Gf8
 pub mod Nibbles
-pub mod Factors
 pub mod Constants
 pub mod inside
 pub mod laws

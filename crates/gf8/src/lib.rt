@@ -8,9 +8,6 @@
 //! one for each product, and no other call counts any. No call takes memory.
 #![tactic(auto)]
 
-mod kernels;
-mod long_rows;
-mod memory;
 mod nibbles;
 mod plain;
 mod products;
@@ -18,7 +15,6 @@ mod rows;
 mod subspaces;
 mod tables;
 
-pub use kernels::{add_multiples, column_values, scale_row};
 pub use plain::Gf8Plain;
 pub use products::ByteProducts;
 pub use tables::Gf8Tables;

@@ -1,12 +1,11 @@
 //! The rows of the field of 256 elements: by tables on vectors, where the calls of one product stay with the tables of powers, and
 //! without tables as of any field.
 
-use crate::kernels::{add_multiples, column_values, scale_row};
 use crate::plain::Gf8Plain;
 use crate::products::ByteProducts;
 use crate::tables::Gf8Tables;
 use field_rows::Rows;
-use field_vectors::count_steps;
+use field_vectors::{add_multiples, column_values, count_steps, scale_row};
 use pet_base::Steps;
 use std::sync::ledger::Ledger;
 

@@ -3,10 +3,10 @@ ghost use Rattle.std.specs.Prelude.{◌≡◌, ◌<◌};
 ghost use Rattle.gf8.specs.Constants;
 ghost use Rattle.gf8.specs.laws.Gf8Subspaces.{gf8_subspaces};
 
-use crate::long_rows::{add_multiple_row, butterfly_row, multiply_row};
 use crate::products::ByteProducts;
 use crate::tables::Gf8Tables;
 use field_transform::Subspaces;
+use field_vectors::{add_multiple_row, butterfly_row, multiply_row};
 use pet_base::Steps;
 use std::sync::ledger::Ledger;
 

@@ -1,7 +1,6 @@
 //! The field of 65,536 elements by tables, on vectors: the calls of one product stay with the tables of powers.
 ghost use Rattle.std.specs.Prelude.{◌≡◌, ℕ, ◌+◌, ◌*◌, ◌<◌, ◌≤◌, length, slice_index, bit_xor};
 ghost use Rattle.field_elements.specs.Gf16.{gf16};
-ghost use Rattle.field_vectors.specs.Factors.{factors_of};
 
 use crate::tables::Gf16Tables;
 use field_rows::{Rows, each_column};

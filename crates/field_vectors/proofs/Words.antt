@@ -1,15 +1,50 @@
--- One step of Horner's rule in each lane.
+-- Words in the lanes of vectors of their low and of their high bytes.
 use lib.Lanes.{zip2, Each1}
-use Rattle.std.proofs.Common.{◌≡◌, ℕ, ◌+◌, ◌*◌, ◌/◌, ◌%◌, ◌<◌, List, length, get_or, map, bit_xor, sym, ap, ap₂, ◌∙◌}
-use Rattle.std.proofs.Common.{arith, w8, Fits}
+use Rattle.std.proofs.Common.{◌≡◌, ℕ, ◌+◌, ◌*◌, ◌/◌, ◌%◌, ◌<◌, List, [], ◌∷◌, length, get_or, map, bit_xor, refl, sym, ap}
+use Rattle.std.proofs.Common.{ap₂, ◌∙◌, arith, w8, Fits}
 use Rattle.std.proofs.lemmas.Simd.{Each1-get_or, get_or-zip2, length-zip2, Each1-from_get_or, below_from_Fits}
-use Rattle.std.proofs.lemmas.Nat.{xor_mod, xor_shr, xor_comm}
+use Rattle.std.proofs.lemmas.Nat.{xor_block, xor_comm}
 use Rattle.std.proofs.lemmas.List.{get_or-map, length-map, ext_get_or}
 use lib.Bits.{xor_shifted}
-use Rattle.field_elements.specs.BinaryField.{times}
+use Rattle.field_elements.specs.laws.Xor.{xor_swap}
+use Rattle.field_vectors.specs.inside.Lanes.{words}
+use Rattle.field_vectors.proofs.FourNibbles.{word}
 
 abbrev J : ℕ → ℕ → ℕ
 J l h = bit_xor l (h * 256)
+
+-- ---- split and joined
+
+pub split_words : (v : List ℕ) → words (map (λ a. a % 256) v) (map (λ a. a / 256) v) ≡ v
+split_words [] = refl
+split_words (a ∷ v) = ap₂ ◌∷◌ (word a) (split_words v)
+
+-- ---- sums
+
+sum_of_words : (a b c d : ℕ) → J (bit_xor a c) (bit_xor b d) ≡ bit_xor (J a b) (J c d)
+sum_of_words a b c d =
+    let up : bit_xor (b * 256 + 0) (d * 256 + 0) ≡ bit_xor b d * 256 + bit_xor 0 0 =
+    xor_block 8 b d 0 0 (omega arith) (omega arith) in
+    let e : b * 256 + 0 ≡ b * 256 = omega arith in
+    let f : d * 256 + 0 ≡ d * 256 = omega arith in
+    let h : bit_xor b d * 256 ≡ bit_xor b d * 256 + 0 = omega arith in
+    ap (bit_xor (bit_xor a c)) (h ∙ sym up ∙ ap₂ bit_xor e f) ∙ xor_swap a c (b * 256) (d * 256)
+
+pub words_sum : (a b c d : List ℕ)
+    → words (zip2 bit_xor a c) (zip2 bit_xor b d) ≡ zip2 bit_xor (words a b) (words c d)
+words_sum [] b c d = refl
+words_sum (x ∷ a) [] [] d = refl
+words_sum (x ∷ a) (y ∷ b) [] d = refl
+words_sum (x ∷ a) [] (z ∷ c) d = refl
+words_sum (x ∷ a) (y ∷ b) (z ∷ c) [] = refl
+words_sum (x ∷ a) (y ∷ b) (z ∷ c) (w ∷ d) = ap₂ ◌∷◌ (sum_of_words x y z w) (words_sum a b c d)
+
+pub step_words : (T : ℕ → ℕ) (row r0 r1 q0 q1 s : List ℕ) → q0 ≡ map (λ a. a % 256) row → q1 ≡ map (λ a. a / 256) row
+    → words r0 r1 ≡ map T s → words (zip2 bit_xor q0 r0) (zip2 bit_xor q1 r1) ≡ zip2 bit_xor row (map T s)
+step_words T row r0 r1 q0 q1 s e0 e1 is =
+    words_sum q0 q1 r0 r1 ∙ ap₂ (zip2 bit_xor) (ap₂ words e0 e1 ∙ split_words row) is
+
+-- ---- joined and split
 
 sum_of_bytes : (l h : ℕ) → l < 256 → J l h ≡ h * 256 + l
 sum_of_bytes l h g = xor_comm l (h * 256) ∙ xor_shifted h 8 l g
@@ -53,27 +88,3 @@ module _ (low high : List ℕ) (long_low : length low ≡ 32) (long_high : lengt
       let m : c < 32 = omega arith in
       let n : c < length v = omega (arith, long) in
       sym (get_or-map (λ a. a / 256) v c 0 0 n ∙ ap (λ a. a / 256) (at c m) ∙ omega (arith, at_low c m)))
-
-  pub stepped : (x : ℕ) (row r0 r1 q0 q1 : List ℕ) → length row ≡ 32 → r0 ≡ map (λ a. times 16 0x1100B x a % 256) v
-      → r1 ≡ map (λ a. times 16 0x1100B x a / 256) v
-      → q0 ≡ map (λ a. a % 256) row → q1 ≡ map (λ a. a / 256) row → (c a : ℕ) → c < 32 → get_or low c 0 ≡ a % 256
-      → get_or high c 0 ≡ a / 256
-      → (get_or (zip2 bit_xor r0 q0) c 0 ≡ bit_xor (times 16 0x1100B x a) (get_or row c 0) % 256)
-      × (get_or (zip2 bit_xor r1 q1) c 0 ≡ bit_xor (times 16 0x1100B x a) (get_or row c 0) / 256)
-  stepped x row r0 r1 q0 q1 long_row e0 e1 d0 d1 c a l el eh =
-      let n : c < length v = omega (arith, long) in
-      let is : get_or v c 0 ≡ a = at c l ∙ omega (arith, el, eh) in
-      let P = times 16 0x1100B x in
-      let m0 : c < length r0 = omega (arith, ap length e0, length-map v (λ a. P a % 256)) in
-      let m1 : c < length r1 = omega (arith, ap length e1, length-map v (λ a. P a / 256)) in
-      let k0 : c < length q0 = omega (arith, ap length d0, length-map row (λ a. a % 256)) in
-      let k1 : c < length q1 = omega (arith, ap length d1, length-map row (λ a. a / 256)) in (
-        get_or-zip2 bit_xor r0 q0 c 0 0 0 m0 k0
-            ∙ ap₂ bit_xor (ap (λ t. get_or t c 0) e0 ∙ get_or-map (λ a. P a % 256) v c 0 0 n ∙ ap (λ t. P t % 256) is)
-            (ap (λ t. get_or t c 0) d0 ∙ get_or-map (λ a. a % 256) row c 0 0 (omega arith))
-            ∙ sym (xor_mod (P a) (get_or row c 0) 8),
-        get_or-zip2 bit_xor r1 q1 c 0 0 0 m1 k1
-            ∙ ap₂ bit_xor (ap (λ t. get_or t c 0) e1 ∙ get_or-map (λ a. P a / 256) v c 0 0 n ∙ ap (λ t. P t / 256) is)
-            (ap (λ t. get_or t c 0) d1 ∙ get_or-map (λ a. a / 256) row c 0 0 (omega arith))
-            ∙ sym (xor_shr (P a) (get_or row c 0) 8),
-      )
