@@ -43,7 +43,8 @@ pub fn add_multiples<P: Prepared>(factors: &[P], row: &[P::Elem], rows: &mut [P:
     ensures sums { (j c : ℕ) → j < length factors.now → c < length row.now →
         slice_index_or rows.new (j * length row.now + c) P.ops.nought
         ≡ P.ops.plus (slice_index_or rows.old (j * length row.now + c) P.ops.nought)
-        (P.ops.times (slice_index_or (map P.factor factors.now) j P.ops.nought) (slice_index_or row.now c P.ops.nought)) }
+        (P.ops.times (slice_index_or (map P.factor factors.now) j P.ops.nought)
+        (slice_index_or row.now c P.ops.nought)) }
     ensures others { (i : ℕ) → length factors.now * length row.now ≤ i
         → slice_index_or rows.new i P.ops.nought ≡ slice_index_or rows.old i P.ops.nought }
 {
@@ -65,8 +66,10 @@ fn add_times<P: Prepared>(by: &P, from: P::Parts, rows: &mut [P::Elem], at: usiz
     ensures inside { (c : ℕ) → c < 32 → at + c < length rows.old →
         slice_index_or rows.new (at + c) P.ops.nought ≡ P.ops.plus (slice_index_or rows.old (at + c) P.ops.nought)
         (P.ops.times (P.factor by.now) (slice_index_or (P.joined from) c P.ops.nought)) }
-    ensures before { (i : ℕ) → i < at → slice_index_or rows.new i P.ops.nought ≡ slice_index_or rows.old i P.ops.nought }
-    ensures behind { (i : ℕ) → at + 32 ≤ i → slice_index_or rows.new i P.ops.nought ≡ slice_index_or rows.old i P.ops.nought }
+    ensures before { (i : ℕ) → i < at
+        → slice_index_or rows.new i P.ops.nought ≡ slice_index_or rows.old i P.ops.nought }
+    ensures behind { (i : ℕ) → at + 32 ≤ i
+        → slice_index_or rows.new i P.ops.nought ≡ slice_index_or rows.old i P.ops.nought }
 {
     by.elements(rows);
     let multiples = P::join(by.times(from));

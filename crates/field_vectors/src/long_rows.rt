@@ -34,7 +34,8 @@ pub fn add_multiple_row<P: Prepared, L: Ledger>(
 )
     requires { length into.old ≡ length other.now }
     ensures sums { (i : ℕ) → i < length other.now → slice_index_or into.new i P.ops.nought
-        ≡ P.ops.plus (slice_index_or into.old i P.ops.nought) (P.ops.times (P.factor by.now) (slice_index_or other.now i P.ops.nought)) }
+        ≡ P.ops.plus (slice_index_or into.old i P.ops.nought)
+        (P.ops.times (P.factor by.now) (slice_index_or other.now i P.ops.nought)) }
     ensures cost { steps.new ≡ steps.old + length other.now }
 {
     count_steps(steps, other.len());
@@ -57,7 +58,8 @@ pub fn butterfly_row<P: Prepared, L: Ledger>(
 )
     requires { length low.old ≡ length high.old }
     ensures low { (i : ℕ) → i < length high.old → slice_index_or low.new i P.ops.nought
-        ≡ P.ops.plus (slice_index_or low.old i P.ops.nought) (P.ops.times (P.factor by.now) (slice_index_or high.old i P.ops.nought)) }
+        ≡ P.ops.plus (slice_index_or low.old i P.ops.nought)
+        (P.ops.times (P.factor by.now) (slice_index_or high.old i P.ops.nought)) }
     ensures high { (i : ℕ) → i < length high.old → slice_index_or high.new i P.ops.nought
         ≡ P.ops.plus (slice_index_or high.old i P.ops.nought) (slice_index_or low.new i P.ops.nought) }
     ensures cost { steps.new ≡ steps.old + length high.old }
@@ -78,7 +80,8 @@ fn multiply_at<P: Prepared>(by: &P, row: &mut [P::Elem], at: usize)
     ensures inside { (c : ℕ) → c < MAX_WIDTH → at + c < length row.old → slice_index_or row.new (at + c) P.ops.nought
         ≡ P.ops.times (P.factor by.now) (slice_index_or row.old (at + c) P.ops.nought) }
     ensures before { (i : ℕ) → i < at → slice_index_or row.new i P.ops.nought ≡ slice_index_or row.old i P.ops.nought }
-    ensures behind { (i : ℕ) → at + MAX_WIDTH ≤ i → slice_index_or row.new i P.ops.nought ≡ slice_index_or row.old i P.ops.nought }
+    ensures behind { (i : ℕ) → at + MAX_WIDTH ≤ i
+        → slice_index_or row.new i P.ops.nought ≡ slice_index_or row.old i P.ops.nought }
 {
     P::store(products(by, P::load(row, at)), row, at);
 }
@@ -89,9 +92,12 @@ fn add_multiple_at<P: Prepared>(by: &P, other: &[P::Elem], into: &mut [P::Elem],
     requires same { length into.old ≡ length other.now }
     requires place { at ≤ length other.now }
     ensures inside { (c : ℕ) → c < MAX_WIDTH → at + c < length other.now → slice_index_or into.new (at + c) P.ops.nought
-        ≡ P.ops.plus (slice_index_or into.old (at + c) P.ops.nought) (P.ops.times (P.factor by.now) (slice_index_or other.now (at + c) P.ops.nought)) }
-    ensures before { (i : ℕ) → i < at → slice_index_or into.new i P.ops.nought ≡ slice_index_or into.old i P.ops.nought }
-    ensures behind { (i : ℕ) → at + MAX_WIDTH ≤ i → slice_index_or into.new i P.ops.nought ≡ slice_index_or into.old i P.ops.nought }
+        ≡ P.ops.plus (slice_index_or into.old (at + c) P.ops.nought)
+        (P.ops.times (P.factor by.now) (slice_index_or other.now (at + c) P.ops.nought)) }
+    ensures before { (i : ℕ) → i < at
+        → slice_index_or into.new i P.ops.nought ≡ slice_index_or into.old i P.ops.nought }
+    ensures behind { (i : ℕ) → at + MAX_WIDTH ≤ i
+        → slice_index_or into.new i P.ops.nought ≡ slice_index_or into.old i P.ops.nought }
 {
     let multiples = products(by, P::load(other, at));
     P::store(P::add(P::load(into, at), multiples), into, at);
@@ -103,13 +109,18 @@ fn butterfly_at<P: Prepared>(by: &P, low: &mut [P::Elem], high: &mut [P::Elem], 
     requires same { length low.old ≡ length high.old }
     requires place { at ≤ length high.old }
     ensures low { (c : ℕ) → c < MAX_WIDTH → at + c < length high.old → slice_index_or low.new (at + c) P.ops.nought
-        ≡ P.ops.plus (slice_index_or low.old (at + c) P.ops.nought) (P.ops.times (P.factor by.now) (slice_index_or high.old (at + c) P.ops.nought)) }
+        ≡ P.ops.plus (slice_index_or low.old (at + c) P.ops.nought)
+        (P.ops.times (P.factor by.now) (slice_index_or high.old (at + c) P.ops.nought)) }
     ensures high { (c : ℕ) → c < MAX_WIDTH → at + c < length high.old → slice_index_or high.new (at + c) P.ops.nought
         ≡ P.ops.plus (slice_index_or high.old (at + c) P.ops.nought) (slice_index_or low.new (at + c) P.ops.nought) }
-    ensures before_low { (i : ℕ) → i < at → slice_index_or low.new i P.ops.nought ≡ slice_index_or low.old i P.ops.nought }
-    ensures before_high { (i : ℕ) → i < at → slice_index_or high.new i P.ops.nought ≡ slice_index_or high.old i P.ops.nought }
-    ensures behind_low { (i : ℕ) → at + MAX_WIDTH ≤ i → slice_index_or low.new i P.ops.nought ≡ slice_index_or low.old i P.ops.nought }
-    ensures behind_high { (i : ℕ) → at + MAX_WIDTH ≤ i → slice_index_or high.new i P.ops.nought ≡ slice_index_or high.old i P.ops.nought }
+    ensures before_low { (i : ℕ) → i < at
+        → slice_index_or low.new i P.ops.nought ≡ slice_index_or low.old i P.ops.nought }
+    ensures before_high { (i : ℕ) → i < at
+        → slice_index_or high.new i P.ops.nought ≡ slice_index_or high.old i P.ops.nought }
+    ensures behind_low { (i : ℕ) → at + MAX_WIDTH ≤ i
+        → slice_index_or low.new i P.ops.nought ≡ slice_index_or low.old i P.ops.nought }
+    ensures behind_high { (i : ℕ) → at + MAX_WIDTH ≤ i
+        → slice_index_or high.new i P.ops.nought ≡ slice_index_or high.old i P.ops.nought }
 {
     let from = P::load(high, at);
     let sum = P::add(P::load(low, at), products(by, from));

@@ -1,20 +1,22 @@
-//! The products of a factor with nibbles.
-ghost use Rattle.std.specs.Prelude.{◌≡◌, ℕ, ◌*◌, ◌/◌, ◌%◌, ◌<◌, ◌^◌, length, slice_index};
-ghost use Rattle.field_elements.specs.Gf16.{gf16};
-
-/// What x^16 is modulo x^16 + x^12 + x^3 + x + 1.
-const REDUCED: u16 = 0x100B;
+//! The products of a factor with nibbles, in a binary field of degree 8 to 16.
+ghost use Rattle.std.specs.Prelude.{◌≡◌, ℕ, ◌*◌, ◌/◌, ◌%◌, ◌<◌, ◌≤◌, ◌^◌, slice_index};
+ghost use Rattle.field_elements.specs.BinaryField.{IsModulus, times};
 
 /// x times a polynomial.
 #[inline(always)]
-fn double(a: u16) -> u16
-    ensures { result ≡ gf16.times a 2 }
+fn double(degree: u32, modulus: u32, a: u16) -> u16
+    requires modulus { IsModulus degree modulus }
+    requires wide { 8 ≤ degree }
+    requires narrow { degree ≤ 16 }
+    requires element { a < 2 ^ degree }
+    ensures below { result < 2 ^ degree }
+    ensures product { result ≡ times degree modulus a 2 }
 {
-    let shifted = a << 1;
-    if a < 32_768 {
-        shifted
+    let twice = u32::from(a) * 2;
+    if twice >> degree == 0 {
+        twice as u16
     } else {
-        shifted ^ REDUCED
+        (twice ^ modulus) as u16
     }
 }
 
@@ -28,22 +30,27 @@ fn pick(bits: u16, word: u16) -> u16
 
 /// The products of a factor with the sixteen nibbles, as low and high bytes, and with sixteen.
 #[derive(Drop)]
-pub(crate) struct NibbleProducts {
-    pub(crate) low: [u8; 16],
-    pub(crate) high: [u8; 16],
-    pub(crate) next: u16,
+pub struct NibbleProducts {
+    pub low: [u8; 16],
+    pub high: [u8; 16],
+    pub next: u16,
 }
 
 /// The products of x with the sixteen nibbles, and with sixteen.
 #[inline(always)]
-pub(crate) fn nibble_products(x: u16) -> NibbleProducts
-    ensures next { result.next ≡ gf16.times x 16 }
-    ensures low { (n : ℕ) → n < 16 → slice_index result.low n ≡ gf16.times x n % 256 }
-    ensures high { (n : ℕ) → n < 16 → slice_index result.high n ≡ gf16.times x n / 256 }
+pub fn nibble_products(degree: u32, modulus: u32, x: u16) -> NibbleProducts
+    requires modulus { IsModulus degree modulus }
+    requires wide { 8 ≤ degree }
+    requires narrow { degree ≤ 16 }
+    requires element { x < 2 ^ degree }
+    ensures below { result.next < 2 ^ degree }
+    ensures next { result.next ≡ times degree modulus x 16 }
+    ensures low { (n : ℕ) → n < 16 → slice_index result.low n ≡ times degree modulus x n % 256 }
+    ensures high { (n : ℕ) → n < 16 → slice_index result.high n ≡ times degree modulus x n / 256 }
 {
-    let x2 = double(x);
-    let x4 = double(x2);
-    let x8 = double(x4);
+    let x2 = double(degree, modulus, x);
+    let x4 = double(degree, modulus, x2);
+    let x8 = double(degree, modulus, x4);
     let mut low = [0u8; 16];
     let mut high = [0u8; 16];
     for n in 0..16u16 {
@@ -51,6 +58,6 @@ pub(crate) fn nibble_products(x: u16) -> NibbleProducts
         low[n as usize] = (product & 255) as u8;
         high[n as usize] = (product >> 8) as u8;
     }
-    let next = double(x8);
+    let next = double(degree, modulus, x8);
     NibbleProducts { low, high, next }
 }

@@ -39,12 +39,14 @@ pub trait Prepared {
     fn load(rows: &[Self::Elem], at: usize) -> Self::Vector
         requires { at ≤ length rows.now }
         ensures long { length (lanes result) ≡ 32 }
-        ensures lanes { (c : ℕ) → c < 32 → slice_index_or (lanes result) c ops.nought ≡ slice_index_or rows.now (at + c) ops.nought };
+        ensures lanes { (c : ℕ) → c < 32
+            → slice_index_or (lanes result) c ops.nought ≡ slice_index_or rows.now (at + c) ops.nought };
 
     /// Writes the first lanes.
     fn unload(v: Self::Vector, into: &mut [Self::Elem])
         requires { length into.old ≤ 32 }
-        ensures { (c : ℕ) → c < length into.old → slice_index_or into.new c ops.nought ≡ slice_index_or (lanes v) c ops.nought };
+        ensures { (c : ℕ) → c < length into.old
+            → slice_index_or into.new c ops.nought ≡ slice_index_or (lanes v) c ops.nought };
 
     /// Writes the lanes from `at` on, as far as there are elements.
     fn store(v: Self::Vector, rows: &mut [Self::Elem], at: usize)
@@ -52,8 +54,10 @@ pub trait Prepared {
         requires place { at ≤ length rows.old }
         ensures inside { (c : ℕ) → c < 32 → at + c < length rows.old
             → slice_index_or rows.new (at + c) ops.nought ≡ slice_index_or (lanes v) c ops.nought }
-        ensures before { (i : ℕ) → i < at → slice_index_or rows.new i ops.nought ≡ slice_index_or rows.old i ops.nought }
-        ensures behind { (i : ℕ) → at + 32 ≤ i → slice_index_or rows.new i ops.nought ≡ slice_index_or rows.old i ops.nought };
+        ensures before { (i : ℕ) → i < at
+            → slice_index_or rows.new i ops.nought ≡ slice_index_or rows.old i ops.nought }
+        ensures behind { (i : ℕ) → at + 32 ≤ i
+            → slice_index_or rows.new i ops.nought ≡ slice_index_or rows.old i ops.nought };
 
     /// The sums of two vectors.
     fn add(a: Self::Vector, b: Self::Vector) -> Self::Vector

@@ -1,5 +1,5 @@
 //! The products of a factor of the field of 65,536 elements, by tables.
-ghost use Rattle.std.specs.Prelude.{◌≡◌, ◌<◌, map};
+ghost use Rattle.std.specs.Prelude.{◌≡◌, ℕ, ◌/◌, ◌%◌, ◌<◌, map, slice_index};
 ghost use Rattle.field_elements.specs.Gf16.{gf16};
 ghost use Rattle.field_elements.specs.laws.Gf16Laws.{gf16_field};
 ghost use Rattle.field_vectors.specs.Nibbles.{AreProducts};
@@ -10,6 +10,12 @@ use crate::memory::{load, store, unload};
 use crate::nibbles::{NibbleProducts, nibble_products};
 use crate::prepared::Prepared;
 use std::simd::prelude::*;
+
+/// The modulus has this degree.
+const DEGREE: u32 = 16;
+
+/// The modulus x^16 + x^12 + x^3 + x + 1.
+const MODULUS: u32 = 0x1100B;
 
 /// The products of a factor with each nibble at each of its four places, as low and high bytes.
 #[derive(Drop)]
@@ -29,22 +35,22 @@ impl Products {
             low: l0,
             high: h0,
             next: x1,
-        } = nibble_products(factor);
+        } = word_products(factor);
         let NibbleProducts {
             low: l1,
             high: h1,
             next: x2,
-        } = nibble_products(x1);
+        } = word_products(x1);
         let NibbleProducts {
             low: l2,
             high: h2,
             next: x3,
-        } = nibble_products(x2);
+        } = word_products(x2);
         let NibbleProducts {
             low: l3,
             high: h3,
             next: _,
-        } = nibble_products(x3);
+        } = word_products(x3);
         Products {
             factor,
             low: [l0, l1, l2, l3],
@@ -75,6 +81,16 @@ impl Products {
         );
         (product_low, product_high)
     }
+}
+
+/// The products of a word with the sixteen nibbles, and with sixteen.
+#[inline(always)]
+fn word_products(x: u16) -> NibbleProducts
+    ensures next { result.next ≡ gf16.times x 16 }
+    ensures low { (n : ℕ) → n < 16 → slice_index result.low n ≡ gf16.times x n % 256 }
+    ensures high { (n : ℕ) → n < 16 → slice_index result.high n ≡ gf16.times x n / 256 }
+{
+    nibble_products(DEGREE, MODULUS, x)
 }
 
 /// A vector of words, and products on their low and their high bytes.

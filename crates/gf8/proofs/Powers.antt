@@ -4,6 +4,7 @@ use Rattle.std.proofs.Common.{drop, refl, sym, ap, ◌∙◌, arith}
 use Rattle.std.proofs.lemmas.Bool.{and_parts, eqb-true, ltb-true}
 use Rattle.field_elements.specs.Carryless.{product_of_bits, remainder_of_bits}
 use Rattle.field_elements.specs.BinaryField.{times}
+use Rattle.pet_field.specs.laws.PowerLaws.{powers_add}
 use Rattle.gf8.specs.Gf8.{gf8}
 use Rattle.gf8.specs.inside.Powers.{power_of_x}
 use Rattle.gf8.specs.laws.Gf8Laws.{gf8_field}
@@ -72,21 +73,16 @@ exponent_is (suc a) some few =
 
 -- ---- sums of exponents
 
-power_below : (k : ℕ) → power_of_x k < 256
+power-one : power_of_x 0 ≡ 1
 unfolding power_of_x
-power_below zero = omega arith
-power_below (suc k) = gf8_field.times_is 2 (power_of_x k) (omega arith) (power_below k)
+power-one = refl
+
+power-suc : (k : ℕ) → power_of_x (suc k) ≡ gf8.times 2 (power_of_x k)
+unfolding power_of_x
+power-suc k = refl
 
 pub power_sum : (k l : ℕ) → gf8.times (power_of_x k) (power_of_x l) ≡ power_of_x (k + l)
-unfolding power_of_x
-power_sum zero l =
-    let z : l ≡ 0 + l = omega arith in
-    gf8_field.times_comm 1 (power_of_x l) (omega arith) (power_below l)
-    ∙ gf8_field.times-one (power_of_x l) (power_below l) ∙ ap power_of_x z
-power_sum (suc k) l =
-    let e : suc (k + l) ≡ suc k + l = omega arith in
-    gf8_field.times_assoc 2 (power_of_x k) (power_of_x l) (omega arith) (power_below k) (power_below l)
-    ∙ ap (gf8.times 2) (power_sum k l) ∙ ap power_of_x e
+power_sum k l = sym (powers_add (λ a. a < 256) gf8 gf8_field 2 (omega arith) power_of_x power-one power-suc k l)
 
 pub power_order : power_of_x 255 ≡ 1
 power_order = sym (power_is 255 (omega arith))

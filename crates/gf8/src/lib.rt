@@ -8,7 +8,6 @@
 //! one for each product, and no other call counts any. No call takes memory.
 #![tactic(auto)]
 
-mod nibbles;
 mod plain;
 mod products;
 mod rows;

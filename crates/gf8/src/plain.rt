@@ -9,10 +9,10 @@ use pet_base::Steps;
 use std::sync::ledger::Ledger;
 
 /// The modulus has this degree.
-const DEGREE: u32 = 8;
+pub(crate) const DEGREE: u32 = 8;
 
 /// The modulus x^8 + x^4 + x^3 + x^2 + 1.
-const MODULUS: u32 = 0x11D;
+pub(crate) const MODULUS: u32 = 0x11D;
 
 /// GF(2^8), computed bit by bit.
 #[derive(Drop)]

@@ -4,8 +4,8 @@ ghost use Rattle.gf8.specs.Gf8.{gf8};
 ghost use Rattle.gf8.specs.Nibbles.{AreProducts};
 ghost use Rattle.gf8.specs.laws.Gf8Laws.{gf8_field};
 
-use crate::nibbles::{NibbleProducts, nibble_products};
-use field_vectors::{Prepared, at_high, at_low, load, spread, store, unload};
+use crate::plain::{DEGREE, MODULUS};
+use field_vectors::{Prepared, at_high, at_low, load, nibble_products, spread, store, unload};
 use std::simd::prelude::*;
 
 /// The products of a factor with each nibble at each of its two places.
@@ -22,11 +22,10 @@ impl ByteProducts {
     pub fn new(factor: u8) -> ByteProducts
         ensures { result.factor ≡ factor }
     {
-        let NibbleProducts { table: low, next } = nibble_products(factor);
-        let NibbleProducts {
-            table: high,
-            next: _,
-        } = nibble_products(next);
+        let first = nibble_products(DEGREE, MODULUS, u16::from(factor));
+        let second = nibble_products(DEGREE, MODULUS, first.next);
+        let low = first.low;
+        let high = second.low;
         ByteProducts { factor, low, high }
     }
 }

@@ -5,7 +5,7 @@ use Rattle.std.specs.List.{list_any, IsDistinct, AllByRecursion as Each}
 use Rattle.std.proofs.lemmas.Bool.{cases_eq, cases_lt, eqb-true, eqb-false, ne_eqb, or_cases, false≢true}
 use Rattle.std.proofs.lemmas.Map.Steps.{length-le_from_distinct_below}
 use lib.Bits.{bit_xor, xor_zero_r}
-use native.Mathlib.Nat.{zero-mul, one-mul, zero-add}
+use native.Mathlib.Nat.{zero-mul, one-mul}
 use Rattle.field_elements.specs.Carryless.{carryless}
 use Rattle.field_elements.specs.BinaryField.{IsProduct, times}
 use Rattle.field_elements.specs.laws.Xor.{xor_cancel}
@@ -17,6 +17,7 @@ use Rattle.field_elements.specs.laws.FieldLaws.{times-zero}
 use Rattle.field_elements.specs.laws.Gf16Laws.{gf16_modulus, gf16_field}
 use Rattle.field_elements.specs.Gf16.{gf16}
 use Rattle.pet_field.specs.Powers.{power_of_x}
+use Rattle.pet_field.specs.laws.PowerLaws.{powers_are, powers_add}
 
 -- x times the element
 twice : ℕ → ℕ
@@ -52,34 +53,22 @@ product_is a b c h g x =
 twice_times : (a : ℕ) → a < 65536 → twice a ≡ gf16.times 2 a
 twice_times a h = product_is 2 a (twice a) (omega arith) h (twice_is a h)
 
-pub power_below : (k : ℕ) → power_of_x k < 65536
-unfolding power_of_x
-power_below zero = omega arith
-power_below (suc k) = gf16_field.times_is 2 (power_of_x k) (omega arith) (power_below k)
-
 pub power-suc : (k : ℕ) → power_of_x (suc k) ≡ gf16.times 2 (power_of_x k)
 unfolding power_of_x
 power-suc k = refl
-
-power_twice : (k : ℕ) → power_of_x (suc k) ≡ twice (power_of_x k)
-power_twice k = power-suc k ∙ sym (twice_times (power_of_x k) (power_below k))
 
 pub power-one : power_of_x 0 ≡ 1
 unfolding power_of_x
 power-one = refl
 
-one_times : (a : ℕ) → a < 65536 → gf16.times 1 a ≡ a
-one_times a h = gf16_field.times_comm 1 a (omega arith) h ∙ gf16_field.times-one a h
+pub power_below : (k : ℕ) → power_of_x k < 65536
+power_below = powers_are (λ a. a < 65536) gf16 gf16_field 2 (omega arith) power_of_x power-one power-suc
 
 pub power-add : (i j : ℕ) → power_of_x (i + j) ≡ gf16.times (power_of_x i) (power_of_x j)
-power-add zero j =
-    ap power_of_x (zero-add j)
-    ∙ sym (ap (λ y. gf16.times y (power_of_x j)) power-one ∙ one_times (power_of_x j) (power_below j))
-power-add (suc i) j =
-    let e : suc i + j ≡ suc (i + j) = omega arith in
-    ap power_of_x e ∙ power-suc (i + j) ∙ ap (gf16.times 2) (power-add i j)
-    ∙ sym (gf16_field.times_assoc 2 (power_of_x i) (power_of_x j) (omega arith) (power_below i) (power_below j))
-    ∙ ap (λ y. gf16.times y (power_of_x j)) (sym (power-suc i))
+power-add = powers_add (λ a. a < 65536) gf16 gf16_field 2 (omega arith) power_of_x power-one power-suc
+
+power_twice : (k : ℕ) → power_of_x (suc k) ≡ twice (power_of_x k)
+power_twice k = power-suc k ∙ sym (twice_times (power_of_x k) (power_below k))
 
 -- ---- the order, by going through the powers
 

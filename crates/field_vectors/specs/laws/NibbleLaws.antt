@@ -1,9 +1,11 @@
 -- For callers: the products of a factor with nibbles, from its doubles, in any binary field of degree 8 at least.
-use Rattle.std.proofs.Common.{◌≡◌, ℕ, zero, suc, ◌+◌, ◌*◌, ◌/◌, ◌%◌, ◌<◌, ◌≤◌, ◌^◌, bit_xor, sym, ap, ap₂, ◌∙◌, arith}
-use Rattle.std.proofs.lemmas.Nat.{xor_lt, xor_comm, xor_block}
+use Rattle.std.proofs.Common.{◌≡◌, ℕ, zero, suc, ◌+◌, ◌*◌, ◌/◌, ◌%◌, ◌<◌, ◌≤◌, ◌^◌, bit_xor, inl, inr, refl, sym, ap, ap₂}
+use Rattle.std.proofs.Common.{◌∙◌, arith}
+use Rattle.std.proofs.lemmas.Bool.{cases_lt}
+use Rattle.std.proofs.lemmas.Nat.{xor_lt, xor_comm}
 use lib.Bits.{xor_shifted}
 use lib.Pow.{pow_mono}
-use native.Mathlib.Nat.{zero-mul, one-mul, mul_comm, pow-suc}
+use native.Mathlib.Nat.{zero-mul, one-mul, mul_comm, pow-suc, div-eq_of_lt, div-lt_iff_lt-mul}
 use Rattle.field_elements.specs.Carryless.{carryless}
 use Rattle.field_elements.specs.laws.CarrylessLaws.{carryless_double_r, carryless-zero_r, carryless-one_r, carryless-one_l}
 use Rattle.field_elements.specs.laws.Degrees.{same_degree_below}
@@ -36,7 +38,7 @@ module _ (d m : ℕ) (modulus : IsModulus d m) (wide : 8 ≤ d) where
       product_unique d m modulus.some modulus.degree a b c (times d m a b) is
       (times_is d m modulus.some modulus.degree a b h g)
 
-  pub double_plain : (a : ℕ) → a * 2 < 2 ^ d → a * 2 ≡ times d m a 2
+  double_plain : (a : ℕ) → a * 2 < 2 ^ d → a * 2 ≡ times d m a 2
   double_plain a g =
       product a 2 (a * 2) (omega (arith, g)) (omega (arith, room))
       (record { below = g; congruent = rw (twice_of a) (Same-refl m (a * 2)) })
@@ -49,14 +51,24 @@ module _ (d m : ℕ) (modulus : IsModulus d m) (wide : 8 ≤ d) where
         congruent = (1, rw (twice_of a) (xor_cancel (a * 2) m) ∙ sym (carryless-one_l m));
       })
 
-  -- the bit that is shifted out goes with that of the modulus
-  pub double_over : (a rest low : ℕ) → a < 2 ^ d → a * 2 ≡ 1 * 2 ^ d + rest → rest < 2 ^ d → m ≡ 1 * 2 ^ d + low
-      → low < 2 ^ d → bit_xor rest low ≡ times d m a 2
-  double_over a rest low h top few is small =
-      let same : bit_xor (1 * 2 ^ d + rest) (1 * 2 ^ d + low) ≡ 0 * 2 ^ d + bit_xor rest low =
-      xor_block d 1 1 rest low few small in
-      let none : 0 * 2 ^ d + bit_xor rest low ≡ bit_xor rest low = omega arith in
-      sym none ∙ sym same ∙ ap₂ bit_xor (sym top) (sym is) ∙ double_long a h (omega (arith, top))
+  -- what is shifted, and where it does not fit, with the modulus
+
+  pub double_under : (a t : ℕ) → t ≡ a → t * 2 / 2 ^ d ≡ 0 → t * 2 ≡ times d m a 2
+  double_under a t e none =
+      let under : t * 2 / 2 ^ d < 1 = omega (arith, none) in
+      let small : t * 2 < 1 * 2 ^ d = (div-lt_iff_lt-mul {k = 2 ^ d} {x = t * 2} {y = 1} (omega (arith, room))).0 under in
+      ap (λ n. n * 2) e ∙ double_plain a (omega (arith, small, e))
+
+  pub double_over : (a t : ℕ) → t ≡ a → a < 2 ^ d → (t * 2 / 2 ^ d ≡ 0 → ⊥)
+      → (bit_xor (t * 2) m < 2 ^ d) × (bit_xor (t * 2) m ≡ times d m a 2)
+  double_over a t e h ne =
+      elim (cases_lt (t * 2) (2 ^ d)) [
+        | inl l ↦ absurd (ne (div-eq_of_lt l))
+        | inr g ↦ (
+          same_degree_below d (t * 2) m (g, omega (arith, e, h, pow-suc 2 d)) modulus.degree,
+          ap (λ n. bit_xor (n * 2) m) e ∙ double_long a h (omega (arith, g, e)),
+        )
+      ]
 
   -- ---- a double more
 
@@ -66,7 +78,7 @@ module _ (d m : ℕ) (modulus : IsModulus d m) (wide : 8 ≤ d) where
       ∙ times_assoc d m modulus.some modulus.degree x i 2 h (omega (arith, g)) (omega (arith, room))
       ∙ ap (times d m x) (sym (double_plain i g))
 
-  pub doubles : (x x2 x4 x8 x16 : ℕ) → x < 2 ^ d → x2 ≡ times d m x 2 → x4 ≡ times d m x2 2 → x8 ≡ times d m x4 2
+  doubles : (x x2 x4 x8 x16 : ℕ) → x < 2 ^ d → x2 ≡ times d m x 2 → x4 ≡ times d m x2 2 → x8 ≡ times d m x4 2
       → x16 ≡ times d m x8 2 → (x4 ≡ times d m x 4) × (x8 ≡ times d m x 8) × (x16 ≡ times d m x 16)
   doubles x x2 x4 x8 x16 h e2 e4 e8 e16 =
       let p4 : x4 ≡ times d m x 4 = e4 ∙ double_more x x2 2 h (omega (arith, room)) e2 in
@@ -89,7 +101,7 @@ module _ (d m : ℕ) (modulus : IsModulus d m) (wide : 8 ≤ d) where
   digit x (suc zero) b h g = ap (times d m x) (one-mul b) ∙ sym (one-mul (times d m x b))
   digit x (suc (suc e)) b h g = absurd (omega arith)
 
-  pub nibble : (x x2 x4 x8 n : ℕ) → x < 2 ^ d → n < 16 → x2 ≡ times d m x 2 → x4 ≡ times d m x 4 → x8 ≡ times d m x 8
+  nibble : (x x2 x4 x8 n : ℕ) → x < 2 ^ d → n < 16 → x2 ≡ times d m x 2 → x4 ≡ times d m x 4 → x8 ≡ times d m x 8
       → bit_xor (bit_xor (bit_xor (n % 2 * x) (n / 2 % 2 * x2)) (n / 4 % 2 * x4)) (n / 8 % 2 * x8) ≡ times d m x n
   nibble x x2 x4 x8 n h g e2 e4 e8 =
       let n0 = n % 2 * 1 in
@@ -112,6 +124,19 @@ module _ (d m : ℕ) (modulus : IsModulus d m) (wide : 8 ≤ d) where
       (ap T (sym (four n g)) ∙ linear x (bit_xor (bit_xor n0 n1) n2) n3 h b012 b3
       ∙ ap₂ bit_xor
       (linear x (bit_xor n0 n1) n2 h b01 b2 ∙ ap₂ bit_xor (linear x n0 n1 h b0 b1 ∙ ap₂ bit_xor d0 d1) d2) d3)
+
+  -- ---- the sixteen products, from the doubles
+
+  module _ (x x2 x4 x8 : ℕ) (h : x < 2 ^ d) (e2 : x2 ≡ times d m x 2) (e4 : x4 ≡ times d m x2 2)
+      (e8 : x8 ≡ times d m x4 2) where
+    pub sixteen : (x16 : ℕ) → x16 ≡ times d m x8 2 → x16 ≡ times d m x 16
+    sixteen x16 e16 = (doubles x x2 x4 x8 x16 h e2 e4 e8 e16).2
+
+    pub picked : (n p0 p1 p2 p3 : ℕ) → n < 16 → p0 ≡ n % 2 * x → p1 ≡ n / 2 % 2 * x2 → p2 ≡ n / 4 % 2 * x4
+        → p3 ≡ n / 8 % 2 * x8 → bit_xor (bit_xor (bit_xor p0 p1) p2) p3 ≡ times d m x n
+    picked n p0 p1 p2 p3 g a0 a1 a2 a3 =
+        let all = doubles x x2 x4 x8 (times d m x8 2) h e2 e4 e8 refl in
+        ap₂ bit_xor (ap₂ bit_xor (ap₂ bit_xor a0 a1) a2) a3 ∙ nibble x x2 x4 x8 n h g e2 all.0 all.1
 
   -- ---- a place
 

@@ -1,4 +1,4 @@
-use Rattle.std.proofs.Common.{◌≡◌, get_or, map, ◌+◌, ◌∙◌, refl}
+use Rattle.std.proofs.Common.{get_or, ◌+◌, ◌∙◌, refl}
 use Rattle.field_vectors.specs.laws.LaneLaws.{added_lane, length_added}
 use Rattle.field_vectors.proofs.kernels.add_times.Goals as goal
 

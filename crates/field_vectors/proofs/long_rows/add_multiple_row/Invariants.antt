@@ -10,7 +10,8 @@ invariant-loop-at g l =
       inside : l.at ≤ length l.other;
       long : length l.into ≡ length l.other;
       done : (i : ℕ) → i < l.at
-          → slice_index_or l.into i o.nought ≡ o.plus (slice_index_or l.initial.into i o.nought) (o.times f (slice_index_or l.other i o.nought));
+          → slice_index_or l.into i o.nought ≡ o.plus (slice_index_or l.initial.into i o.nought)
+          (o.times f (slice_index_or l.other i o.nought));
       others : (i : ℕ) → l.at ≤ i → slice_index_or l.into i o.nought ≡ slice_index_or l.initial.into i o.nought;
     }
 

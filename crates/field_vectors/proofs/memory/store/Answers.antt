@@ -1,4 +1,4 @@
-use Rattle.std.proofs.Common.{◌∙◌, arith, ap, length, drop, ◌-◌, take}
+use Rattle.std.proofs.Common.{◌∙◌, arith, ap, length}
 use Rattle.std.proofs.lemmas.List.{take_rest, length-drop}
 use Rattle.field_vectors.proofs.Written.{written, vector_inside, vector_behind}
 use Rattle.field_vectors.proofs.memory.store.Goals as goal

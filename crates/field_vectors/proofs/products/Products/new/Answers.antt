@@ -4,10 +4,10 @@ use Rattle.field_vectors.proofs.products.Products.new.Goals as goal
 
 pub invariant_of-result : goal.invariant_of-result
 invariant_of-result c =
-    let a = c.nibble_products-x1 in
-    let b = c.nibble_products-x2 in
-    let d = c.nibble_products-x3 in
-    let e = c.nibble_products in
+    let a = c.word_products-x1 in
+    let b = c.word_products-x2 in
+    let d = c.word_products-x3 in
+    let e = c.word_products in
     record {
       right =
           are_products c.args.factor a.result.next b.result.next d.result.next a.result.low b.result.low d.result.low

@@ -1,3 +1,4 @@
+use Rattle.std.proofs.Common.{w16}
 use Rattle.field_vectors.specs.laws.WordLaws.{all_elements}
 use Rattle.pet_field.proofs.rows.Gf16TablesRows.add_products.Goals as goal
 
@@ -8,4 +9,4 @@ pub returns-clause-others : goal.returns-clause-others
 returns-clause-others g c = c.add_multiples.ensures.others
 
 pub returns-clause-elements : goal.returns-clause-elements
-returns-clause-elements g c = all_elements c.add_multiples.new.rows c.type_inv.rows
+returns-clause-elements g c = all_elements w16 c.add_multiples.new.rows c.type_inv.rows
