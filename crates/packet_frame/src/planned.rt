@@ -1,6 +1,7 @@
 //! A frame of a format by its plan's table, which is that of the layers whose words the plan cuts. So a caller goes by a `Table`
 //! whatever the format is; the bytes tell the lengths that the format asks for.
 ghost use Rattle.std.specs.Prelude.{◌≡◌, ℕ, ◌+◌, ◌*◌, ◌<◌, ◌≤◌, List, [], ◌++◌, length, map, drop, None, Some, MatchResult, IfOk, OnOk, OnErr, vec_len, vec_capacity};
+ghost use Rattle.pet_base.specs.declared.limits.TheConstants.{HEAD_LENGTH, LAYER_LENGTH};
 ghost use Rattle.stripe_plan.specs.Layers.{plan_ends};
 ghost use Rattle.stripe_plan.specs.Sizes.{ArePlanBounds};
 ghost use Rattle.packet_frame.specs.Format.{IsFormat};
@@ -65,6 +66,12 @@ pub fn begin_planned(
     ensures room { OnOk result (vec_len into.new
         + format.now.word * length (plan_ends header.now.table.layers) + format.now.tag
         ≤ vec_capacity into.new) }
+    ensures capacity { vec_capacity into.old ≤ vec_capacity into.new }
+
+    // It fails only where there is not the room of the whole text.
+    ensures full { OnErr result (vec_capacity into.old < vec_len into.old
+        + (HEAD_LENGTH + LAYER_LENGTH * length header.now.table.layers
+        + format.now.word * length (plan_ends header.now.table.layers) + format.now.tag)) }
 
     // With any payload of this length it is a frame of the format.
     ensures ranges { (payload : List ℕ)

@@ -71,6 +71,10 @@ pub fn begin_frame(header: &Header, number: u16, into: &mut Vec<u8>) -> Result<(
     ensures err { OnErr result (into.new.items ≡ into.old.items) }
     ensures room { OnOk result (vec_len into.new + payload_length_of header.now.table.layers
         + TAG_LENGTH ≤ vec_capacity into.new) }
+    ensures capacity { vec_capacity into.old ≤ vec_capacity into.new }
+
+    // It fails only where there is not the room of the longest frame.
+    ensures full { OnErr result (vec_capacity into.old < vec_len into.old + MAX_DATAGRAM) }
 
     // With any payload of this length it is a frame.
     ensures ranges { (payload : List ℕ)
@@ -127,6 +131,9 @@ pub(crate) fn begin_text(
     ensures err { OnErr result (into.new.items ≡ into.old.items) }
     ensures room { OnOk result (vec_len into.new + payload + format.now.tag
         ≤ vec_capacity into.new) }
+    ensures capacity { vec_capacity into.old ≤ vec_capacity into.new }
+    ensures full { OnErr result (vec_capacity into.old < vec_len into.old
+        + (HEAD_LENGTH + LAYER_LENGTH * length layers.now + payload + format.now.tag)) }
 {
     into.reserve(HEAD + LAYER * layers.len() + payload + format.tag)?;
     append_head(format, head, layers, into);

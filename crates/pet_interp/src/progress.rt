@@ -131,6 +131,14 @@ impl<'f, F: Rows> Progress<'f, F> {
         any_has_length(&self.blocks, self.met as usize)
     }
 
+    /// Whether no stripe is longer than the number of points that were met.
+    pub fn is_whole(&self) -> bool
+        ensures none { result ≡ true → (j : ℕ) → j < length self.now.stripes → length (stripe_of self.now j) ≤ self.now.met }
+        ensures some { result ≡ false → (j : ℕ) × (j < length self.now.stripes) × (self.now.met < length (stripe_of self.now j)) }
+    {
+        self.product.len() <= self.met as usize
+    }
+
     /// The only coefficients of a stripe through the points, where it is no longer than there are points. Where all the
     /// values that the stripe met lie on one list of its length, this is that list. It takes no memory.
     pub fn coefficients(&self, stripe: usize) -> &[F::Elem]
