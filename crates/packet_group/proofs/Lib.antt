@@ -5,3 +5,4 @@ pub mod Holding
 pub mod LayerBytes
 pub mod Agreement
 pub mod Tagging
+pub mod GivenBack

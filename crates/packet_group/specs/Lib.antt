@@ -1,4 +1,6 @@
 pub mod OpenGroup
 pub mod ShownBytes
+pub mod Stored
 pub mod Tags
+pub mod inside
 pub mod laws

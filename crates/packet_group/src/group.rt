@@ -9,8 +9,8 @@ ghost use Rattle.packet_group.specs.OpenGroup.{count_in, HoldsAfter, layers_of, 
 ghost use Rattle.packet_group.specs.ShownBytes.{IsShownIn, IsShownBytes, Agrees};
 ghost use Rattle.packet_group.specs.Tags.{IsTagOf, AreTagsOf};
 
+use crate::learn::learn;
 use crate::tags::{no_tags, tag_in};
-use crate::write::write_known;
 use field_rows::Rows;
 use packet_frame::Header;
 use packet_set::PacketSet;
@@ -29,8 +29,8 @@ pub struct OpenGroup<'f, F: Rows> {
     field: &'f F,
     /// The packets.
     packets: PacketSet,
-    /// What is known of each stripe of the plan.
-    progress: Progress<'f, F>,
+    /// What is known of each stripe of the plan, given back with the packet that makes the last one known.
+    progress: Option<Progress<'f, F>>,
     /// The field's width in bytes a word. A stripe's words stand here from the packet on that makes them known.
     message: Vec<u8>,
     /// For each number the tag of the kept packet's frame, where it was told.
@@ -39,13 +39,13 @@ pub struct OpenGroup<'f, F: Rows> {
 
 impl<'f, F: Rows> Model for OpenGroup<'f, F> {
     ghost use Rattle.packet_group.specs.OpenGroup.{GroupState};
-    ghost use Rattle.packet_group.specs.Tags.{AreTagsOf};
+    ghost use Rattle.packet_group.specs.Stored.{held_in, IsStored};
 
     ghost Value = { GroupState F.Elem };
 
-    ghost view = { λ g. record { packets = g.packets; message = g.message.items; held = g.progress } };
+    ghost view = { λ g. record { packets = g.packets; message = g.message.items; held = held_in F.coding g.packets g.message.items g.progress } };
 
-    ghost invariant = { λ g. AreTagsOf g.packets g.tags.items };
+    ghost invariant = { λ g. IsStored g.packets g.progress g.tags.items };
 }
 
 impl<'f, F: Rows> OpenGroup<'f, F> {
@@ -64,7 +64,7 @@ impl<'f, F: Rows> OpenGroup<'f, F> {
         Ok(OpenGroup {
             field,
             packets,
-            progress,
+            progress: Some(progress),
             message,
             tags,
         })
@@ -91,12 +91,15 @@ impl<'f, F: Rows> OpenGroup<'f, F> {
     {
         self.packets.put(number, payload);
         let x = self.field.point(u32::from(number));
-        self.progress.add(x, payload, steps);
-        write_known(
+        let progress = self.progress.take();
+        self.progress = learn(
             self.field,
             &self.packets.header().table,
-            &self.progress,
+            x,
+            payload,
+            progress,
             &mut self.message,
+            steps,
         );
     }
 
