@@ -49,8 +49,7 @@ FailedInTurn first second out old new =
     ⊎ (CanJoin first second old × Failed (writing out ∷ []) old new)
 
 -- What `merge` does, by its end. The files are judged in order: the first store, the second, and both together. OUT is
--- made once its
--- bytes are there, so want of memory changes no file.
+-- made once they are joined, so want of memory changes no file.
 abbrev pub Merges : List ℕ → List ℕ → List ℕ → Seen → Seen → MergeEnd → Type 0
 Merges first second out old new (Done packets) =
     (w : WritesUnion first second out old new) × (packets ≡ kept_in_all (union_of w.joins))

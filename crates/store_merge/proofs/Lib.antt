@@ -5,3 +5,4 @@ pub mod Text
 pub mod StoreFiles
 pub mod Joining
 pub mod Tagged
+pub mod Putting

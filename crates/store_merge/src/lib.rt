@@ -3,7 +3,7 @@
 //! A store is a function of the set of packets (`store_text`): two receivers that have kept the same packets write the same
 //! bytes, whatever the order in which these came. `read_store` reads the receiver of a store, or answers its first refusal;
 //! `write_store` appends the store of a receiver, or nothing where there is no memory; `read_store_file` and `write_store_file`
-//! do it with a file, which is made once its bytes are there.
+//! do it with a file, which is written entry by entry, and made once there is room for an entry.
 //!
 //! `merge_stores` reads the first, then the second, joins them and writes the store of both; `specs/Merged.antt` defines what
 //! two texts come to, or why there is no store of both. `specs/laws/` says for callers that the merged stores do not tell in
@@ -13,6 +13,7 @@
 
 mod fault;
 mod merge;
+mod put;
 mod read;
 mod read_files;
 mod write;

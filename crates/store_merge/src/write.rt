@@ -1,7 +1,8 @@
 //! Writing a store.
-ghost use Rattle.std.specs.Prelude.{◌≡◌, ◌≤◌, ◌+◌, ℕ, Ok, ◌++◌, [], length, take, drop, option_map, IfSome, OnOk, OnErr, Some, vec_len, vec_capacity};
+ghost use Rattle.std.specs.Prelude.{◌≡◌, ◌<◌, ◌≤◌, ◌+◌, ℕ, Ok, ◌++◌, [], length, take, drop, option_map, IfSome, OnOk, OnErr, Some, vec_len, vec_capacity};
 ghost use Rattle.std.specs.List.{cons_option};
 ghost use Rattle.std.specs.Int.{w32, to_be_bytes};
+ghost use Rattle.pet_base.specs.declared.limits.TheConstants.{MAX_DATAGRAM, MAX_ENTRY, TAG_LENGTH};
 ghost use Rattle.packet_frame.specs.Frame.{IsFrame, tag_of, text};
 ghost use Rattle.packet_frame.specs.View.{fields_with};
 ghost use Rattle.packet_set.specs.Packets.{Packets};
@@ -14,9 +15,10 @@ ghost use Rattle.packet_verdicts.specs.Union.{frames_in, frames_in_group};
 ghost use Rattle.packet_verdicts.specs.laws.FramesLaws.{frames_of, frame_at};
 ghost use Rattle.store_text.specs.Store.{store_text};
 ghost use Rattle.store_text.specs.Refusals.{read_text};
+ghost use Rattle.store_text.specs.declared.format.TheConstants.{HEAD_LENGTH, MARK};
 
 use field_rows::Rows;
-use packet_frame::{FORMAT, Header, begin_frame, frame_length, write_frame};
+use packet_frame::{FORMAT, Header, begin_frame, frame_length};
 use pet_base::NoMemory;
 use pet_receive::Receiver;
 use sha2::{Digest, Sha256};
@@ -105,10 +107,21 @@ fn append_head(session: &[u8; 8], kept: u32, into: &mut Vec<u8>) -> Result<(), N
         ≡ into.old.items ++ (MARK ++ session.now ++ to_be_bytes w32 kept)) }
     ensures front { take (length into.old.items) into.new.items ≡ into.old.items }
 {
-    into.extend_from_slice(&MARK)?;
-    into.extend_from_slice(session)?;
-    into.extend_from_slice(&kept.to_be_bytes())?;
+    into.reserve(HEAD_LENGTH)?;
+    write_head(session, kept, into);
     Ok(())
+}
+
+/// Appends all that is before the entries, for which there is room.
+pub(crate) fn write_head(session: &[u8; 8], kept: u32, into: &mut Vec<u8>)
+    requires room { vec_len into.old + HEAD_LENGTH ≤ vec_capacity into.old }
+    ensures items { into.new.items
+        ≡ into.old.items ++ (MARK ++ session.now ++ to_be_bytes w32 kept) }
+    ensures capacity { vec_capacity into.old ≤ vec_capacity into.new }
+{
+    append(&MARK, into);
+    append(session, into);
+    append(&kept.to_be_bytes(), into);
 }
 
 /// Appends the entries of all groups.
@@ -187,7 +200,7 @@ fn append_if_kept<F: Rows>(
 }
 
 /// Appends the entry of a packet, whose tag may be told.
-fn append_entry(
+pub(crate) fn append_entry(
     header: &Header,
     number: u16,
     payload: &[u8],
@@ -199,6 +212,8 @@ fn append_entry(
     ensures text { OnOk result (into.new.items
         ≡ into.old.items ++ entry_text (text (fields_with header.now number payload.now))) }
     ensures front { take (length into.old.items) into.new.items ≡ into.old.items }
+    ensures capacity { vec_capacity into.old ≤ vec_capacity into.new }
+    ensures full { OnErr result (vec_capacity into.old < vec_len into.old + MAX_ENTRY) }
 {
     let length = frame_length(header, payload) as u16;
     into.extend_from_slice(&length.to_be_bytes())?;
@@ -218,10 +233,12 @@ fn append_frame(
     ensures ok { OnOk result (into.new.items
         ≡ into.old.items ++ text (fields_with header.now number payload.now)) }
     ensures err { OnErr result (into.new.items ≡ into.old.items) }
+    ensures capacity { vec_capacity into.old ≤ vec_capacity into.new }
+    ensures full { OnErr result (vec_capacity into.old < vec_len into.old + MAX_DATAGRAM) }
 {
     match tag {
         Some(bytes) => append_tagged(header, number, payload, &bytes, into),
-        None => write_frame(header, number, payload, into),
+        None => append_hashed(header, number, payload, into),
     }
 }
 
@@ -238,10 +255,33 @@ fn append_tagged(
     ensures ok { OnOk result (into.new.items
         ≡ into.old.items ++ text (fields_with header.now number payload.now)) }
     ensures err { OnErr result (into.new.items ≡ into.old.items) }
+    ensures capacity { vec_capacity into.old ≤ vec_capacity into.new }
+    ensures full { OnErr result (vec_capacity into.old < vec_len into.old + MAX_DATAGRAM) }
 {
     begin_frame(header, number, into)?;
     append(payload, into);
     append(tag, into);
+    Ok(())
+}
+
+/// Appends the frame of a packet, whose tag is made anew. The room is taken before the first byte.
+fn append_hashed(
+    header: &Header,
+    number: u16,
+    payload: &[u8],
+    into: &mut Vec<u8>,
+) -> Result<(), NoMemory>
+    requires frame { IsFrame (fields_with header.now number payload.now) }
+    ensures ok { OnOk result (into.new.items
+        ≡ into.old.items ++ text (fields_with header.now number payload.now)) }
+    ensures err { OnErr result (into.new.items ≡ into.old.items) }
+    ensures capacity { vec_capacity into.old ≤ vec_capacity into.new }
+    ensures full { OnErr result (vec_capacity into.old < vec_len into.old + MAX_DATAGRAM) }
+{
+    let start = into.len();
+    begin_frame(header, number, into)?;
+    append(payload, into);
+    write_tag(start, into);
     Ok(())
 }
 
@@ -265,7 +305,19 @@ fn append_tag(start: usize, into: &mut Vec<u8>) -> Result<(), NoMemory>
         ≡ into.old.items ++ tag_of FORMAT (drop start into.old.items)) }
     ensures front { take (length into.old.items) into.new.items ≡ into.old.items }
 {
-    let digest = Sha256::digest(&into[start..]);
-    into.extend_from_slice(&digest[..FORMAT.tag])?;
+    into.reserve(FORMAT.tag)?;
+    write_tag(start, into);
     Ok(())
+}
+
+/// Appends the tag of the bytes from `start` on, for which there is room.
+fn write_tag(start: usize, into: &mut Vec<u8>)
+    requires start { start ≤ length into.old.items }
+    requires room { vec_len into.old + TAG_LENGTH ≤ vec_capacity into.old }
+    ensures items { into.new.items
+        ≡ into.old.items ++ tag_of FORMAT (drop start into.old.items) }
+    ensures capacity { vec_capacity into.old ≤ vec_capacity into.new }
+{
+    let digest = Sha256::digest(&into[start..]);
+    append(&digest[..FORMAT.tag], into);
 }

@@ -172,8 +172,22 @@ fn refuses_stores_that_are_bad_or_cannot_be_joined(rt: HostRuntime) {
 
 const PAIR: (Option<File>, Option<File>) = (Some(ONE_AND_TWO), Some(TWO_AND_FIVE));
 
+/// Fronts of their union.
+const HEAD: File = &[Piece::Head(SESSION, 3)];
+
+const OF_ONE: File = &[Piece::Head(SESSION, 3), Piece::Packet(1)];
+
+const OF_TWO: File = &[Piece::Head(SESSION, 3), Piece::Packet(1), Piece::Packet(2)];
+
+const OF_THREE: File = &[
+    Piece::Head(SESSION, 3),
+    Piece::Packet(1),
+    Piece::Packet(2),
+    Piece::Packet(5),
+];
+
 /// Calls that fail, and the store that is then there.
-static FAILING: [Case; 9] = [
+static FAILING: [Case; 13] = [
     // the first store is entered, taken whole, and ends
     (PAIR, [&[], &[0], &[]], FAULT, (None, None), ""),
     (PAIR, [&[], &[1], &[]], FAULT, (None, None), ""),
@@ -182,13 +196,17 @@ static FAILING: [Case; 9] = [
     (PAIR, [&[], &[3], &[]], FAULT, (None, None), ""),
     (PAIR, [&[], &[4], &[]], FAULT, (None, None), ""),
     (PAIR, [&[], &[5], &[]], FAULT, (None, None), ""),
-    // OUT is made, and put in one
+    // OUT is made, and its head, three packets and tag are put
     (PAIR, [&[], &[6], &[]], FAULT, (None, None), ""),
     (PAIR, [&[], &[7], &[]], FAULT, (Some(&[]), None), ""),
+    (PAIR, [&[], &[8], &[]], FAULT, (Some(HEAD), None), ""),
+    (PAIR, [&[], &[9], &[]], FAULT, (Some(OF_ONE), None), ""),
+    (PAIR, [&[], &[10], &[]], FAULT, (Some(OF_TWO), None), ""),
+    (PAIR, [&[], &[11], &[]], FAULT, (Some(OF_THREE), None), ""),
     // there are no more calls of the place
     (
         PAIR,
-        [&[], &[8], &[]],
+        [&[], &[12], &[]],
         Run::Merge(MergeEnd::Done(3)),
         (Some(THREE), None),
         "",

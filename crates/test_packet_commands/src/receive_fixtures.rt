@@ -102,6 +102,20 @@ pub(crate) const FIRST_STORE: File = &[
     Piece::Bytes(&FIRST_TAG),
 ];
 
+/// Fronts of the first: its head, and that with one packet and with both.
+pub(crate) const FIRST_STORE_HEAD: File = &[Piece::Head(OTHER_SESSION, 2)];
+
+pub(crate) const FIRST_STORE_OF_ONE: File = &[
+    Piece::Head(OTHER_SESSION, 2),
+    Piece::Bytes(&FIRST_0),
+];
+
+pub(crate) const FIRST_STORE_UNTAGGED: File = &[
+    Piece::Head(OTHER_SESSION, 2),
+    Piece::Bytes(&FIRST_0),
+    Piece::Bytes(&FIRST_1),
+];
+
 pub(crate) const WORDS_STORE: File = &[
     Piece::Head(OTHER_SESSION, 2),
     Piece::Bytes(&WORDS_1),

@@ -4,8 +4,8 @@ use crate::files::{File, OTHER_SESSION, WHOLE};
 use crate::links::feed_of;
 use crate::quiet_link::QuietLink;
 use crate::receive_fixtures::{
-    ALL, ALL_RECORDS, ALL_TOTALS, EMPTY, FIRST, FIRST_STORE, RECORD_HEAD, SHORT_TOTALS,
-    WHOLE_RECORD,
+    ALL, ALL_RECORDS, ALL_TOTALS, EMPTY, FIRST, FIRST_STORE, FIRST_STORE_HEAD, FIRST_STORE_OF_ONE,
+    FIRST_STORE_UNTAGGED, RECORD_HEAD, SHORT_TOTALS, WHOLE_RECORD,
 };
 use crate::untold::UntoldPlace;
 use command_receive::ReceiveEnd;
@@ -68,7 +68,7 @@ fn leaves_the_whole_text_where_a_call_of_the_link_fails(rt: HostRuntime) {
 }
 
 /// Calls of the place and of the output that fail.
-static FAILING: [Case; 8] = [
+static FAILING: [Case; 11] = [
     // LAYERS is made, behind the line of the port
     (ENTRIES, [&[], &[0], &[]], PLACE_FAULT, (None, None), BOUND),
     // the head of the record, and its bytes
@@ -86,7 +86,7 @@ static FAILING: [Case; 8] = [
         (Some(RECORD_HEAD), None),
         BOUND,
     ),
-    // STORE is made, and put in one
+    // STORE is made, and its head, two packets and tag are put
     (
         ENTRIES,
         [&[], &[3], &[]],
@@ -101,7 +101,28 @@ static FAILING: [Case; 8] = [
         (Some(WHOLE_RECORD), Some(EMPTY)),
         BOUND,
     ),
-    (ENTRIES, [&[], &[5], &[]], DONE, BOTH, BOUND),
+    (
+        ENTRIES,
+        [&[], &[5], &[]],
+        PLACE_FAULT,
+        (Some(WHOLE_RECORD), Some(FIRST_STORE_HEAD)),
+        BOUND,
+    ),
+    (
+        ENTRIES,
+        [&[], &[6], &[]],
+        PLACE_FAULT,
+        (Some(WHOLE_RECORD), Some(FIRST_STORE_OF_ONE)),
+        BOUND,
+    ),
+    (
+        ENTRIES,
+        [&[], &[7], &[]],
+        PLACE_FAULT,
+        (Some(WHOLE_RECORD), Some(FIRST_STORE_UNTAGGED)),
+        BOUND,
+    ),
+    (ENTRIES, [&[], &[8], &[]], DONE, BOTH, BOUND),
     // the line of the port, before LAYERS is made; nothing is printed behind it
     (ENTRIES, [&[], &[], &[0]], OUT_FAULT, (None, None), ""),
     (ENTRIES, [&[], &[], &[1]], DONE, BOTH, BOUND),

@@ -3,7 +3,8 @@ use crate::cases::{ALL_GO, Case, Run, first_wrong};
 use crate::files::{File, OTHER_NOTHING, OTHER_SESSION, Piece, TWO_AND_FIVE, WHOLE};
 use crate::receive_fixtures::{
     ALL, ALL_RECORDS, ALL_TOTALS, ANOTHERS_PACKET, DAMAGED, EMPTY, EXAMPLE_0, FIRST, FIRST_STORE,
-    RECORD_HEAD, SHORT_TOTALS, WHOLE_RECORD, WORDS_1, WORDS_3, WORDS_RECORD, WORDS_STORE,
+    FIRST_STORE_HEAD, FIRST_STORE_OF_ONE, FIRST_STORE_UNTAGGED, RECORD_HEAD, SHORT_TOTALS,
+    WHOLE_RECORD, WORDS_1, WORDS_3, WORDS_RECORD, WORDS_STORE,
 };
 use command_receive::{ReceiveEnd, Totals};
 use test_example::SESSION;
@@ -73,7 +74,7 @@ const FILE: (Option<File>, Option<File>) = (Some(FIRST), None);
 const BOTH: (Option<File>, Option<File>) = (Some(WHOLE_RECORD), Some(FIRST_STORE));
 
 /// Calls that fail, and the records and the store that are then there.
-static FAILING: [Case; 15] = [
+static FAILING: [Case; 18] = [
     // the file is entered, and LAYERS made
     (FILE, [&[], &[0], &[]], FAULT, (None, None), ""),
     (FILE, [&[], &[1], &[]], FAULT, (None, None), ""),
@@ -107,7 +108,7 @@ static FAILING: [Case; 15] = [
         (Some(WHOLE_RECORD), None),
         "",
     ),
-    // STORE is made, and put in one
+    // STORE is made, and its head, two packets and tag are put
     (
         FILE,
         [&[], &[11], &[]],
@@ -122,8 +123,29 @@ static FAILING: [Case; 15] = [
         (Some(WHOLE_RECORD), Some(EMPTY)),
         "",
     ),
+    (
+        FILE,
+        [&[], &[13], &[]],
+        FAULT,
+        (Some(WHOLE_RECORD), Some(FIRST_STORE_HEAD)),
+        "",
+    ),
+    (
+        FILE,
+        [&[], &[14], &[]],
+        FAULT,
+        (Some(WHOLE_RECORD), Some(FIRST_STORE_OF_ONE)),
+        "",
+    ),
+    (
+        FILE,
+        [&[], &[15], &[]],
+        FAULT,
+        (Some(WHOLE_RECORD), Some(FIRST_STORE_UNTAGGED)),
+        "",
+    ),
     // there are no more calls of the place, and none of the output
-    (FILE, [&[], &[13], &[]], DONE, BOTH, ""),
+    (FILE, [&[], &[16], &[]], DONE, BOTH, ""),
     (FILE, [&[], &[], &[0]], DONE, BOTH, ""),
 ];
 
