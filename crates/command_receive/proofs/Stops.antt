@@ -1,5 +1,5 @@
 -- What a command leaves that stops early, by where it stops.
-use Rattle.std.proofs.Common.{◌≡◌, ◌⊎◌, ◌<◌, ◌≤◌, ℕ, List, [], ◌∷◌, Some, arith, inl, inr, refl}
+use Rattle.std.proofs.Common.{◌≡◌, ◌⊎◌, ◌<◌, ◌≤◌, ℕ, List, [], ◌∷◌, Some, inl, inr, refl}
 use Rattle.std.specs.Prelude.{Result, IfErr, IsErrAnd}
 use Rattle.pet_base.specs.declared.faults.Stop.{Stop}
 use Rattle.pet_base.specs.declared.faults.Stop.TheVariants as place
@@ -68,4 +68,4 @@ pub stopped_first : {T : Type 0} (from : Way) (session layers store : List ℕ) 
     → IfErr result (λ s. EndsReceive from session layers store before before (end_of s))
 stopped_first from session layers store before result is =
     stop_is (λ s. EndsReceive from session layers store before before (end_of s)) result stop.NoMemory is
-    (inl (record { files = refl; feed = feed_same from before.link }, refl))
+    (inl (record { place = refl; feed = feed_same from before.link; written = refl }))

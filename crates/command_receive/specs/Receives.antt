@@ -18,7 +18,7 @@ use Rattle.packet_met.specs.Kept.{nothing_of, kept_of}
 use Rattle.packet_met.specs.Gf16.{IsLayersText}
 use Rattle.packet_met.specs.Steps.{steps_of_all}
 use Rattle.command_receive.specs.Failures.{end_of_output}
-use Rattle.command_receive.specs.Opened.{IsBoundTo, IsUntouched, KeepsLink, PortFailed, PrintedPort}
+use Rattle.command_receive.specs.Opened.{IsBoundTo, IsUntouched, IsUnused, KeepsLink, PortFailed, PrintedPort}
 use Rattle.packet_reading.specs.Begun.{OutStops}
 use Rattle.packet_reading.specs.Layers.{AreTotalsIn, ReadsFrontIn, ReadsUntilFaultIn, StopsAtFileIn}
 -- what was read of FROM, and LAYERS, are those of every reading
@@ -111,7 +111,7 @@ EndsReceive from session layers store before after (TurnsSpent totals) =
 EndsReceive from session layers store before after OutFault =
     IsUntouched from before after × PortFailed from before after
 EndsReceive from session layers store before after NoMemory =
-    (IsUntouched from before after × Unprinted before after)
+    IsUnused from before after
     ⊎ (LeavesLayersFront from session layers store before after × PrintedPort from before after)
 EndsReceive from session layers store before after PlaceFault =
     StopsAtFileOrStore from session layers store before after × PrintedPort from before after

@@ -2,7 +2,7 @@
 use Rattle.std.specs.Prelude.{ℕ, ◌≡◌, ◌≤◌, List, [], ◌∷◌, ◌++◌, take, true, Option, option_map, IfSome}
 use Rattle.pet_base.specs.declared.entry.Entry.{Entry}
 use Rattle.pet_base.specs.declared.entry.Entry.TheVariants.{Datagram, End}
-use Rattle.pet_base.specs.Entries.{datagrams}
+use Rattle.pet_base.specs.Entries.{datagrams, HasRead, HasLost, IsPartOfEntry}
 use Rattle.pet_base.specs.Seen.{Seen, OnlyReads}
 use Rattle.pet_base.specs.LinkSeen.{LinkSeen, OnlyReceives}
 use Rattle.outside_routes.specs.Way.{Way, OnFile, OnLink}
@@ -30,6 +30,21 @@ HasInput (OnLink address) place = Unit {0}
 abbrev pub KeepsFeed : Way → LinkSeen → LinkSeen → Type 0
 KeepsFeed (OnFile name) old new = Unit {0}
 KeepsFeed (OnLink address) old new = new.feed ≡ old.feed
+
+-- no more than a part of an entry has left the input, where datagrams are read of a file
+abbrev pub LosesPart : Way → Seen → Seen → Type 0
+LosesPart (OnFile name) old new = HasLost IsPartOfEntry old.rest new.rest
+LosesPart (OnLink address) old new = Unit {0}
+
+-- these datagrams have left the rest of a file, and no more than a part of the entry behind them
+abbrev pub HasReadUntil : List (List ℕ) → Option (List ℕ) → Option (List ℕ) → Type 0
+HasReadUntil ds old new =
+    (between : Option (List ℕ)) × HasRead ds old between × HasLost IsPartOfEntry between new
+
+-- these datagrams came on a way and no others, by what is left to come
+abbrev pub HaveComeUntil : Way → List (List ℕ) → Seen → LinkSeen → Seen → LinkSeen → Type 0
+HaveComeUntil (OnFile name) ds place_old link_old place_new link_new = HasReadUntil ds place_old.rest place_new.rest
+HaveComeUntil (OnLink address) ds place_old link_old place_new link_new = HaveCome ds link_old.feed link_new.feed
 
 -- the object that the way does not use is as before
 abbrev pub KeepsOther : Way → Seen → LinkSeen → Seen → LinkSeen → Type 0

@@ -1,7 +1,7 @@
 -- What was sent on a way: entries at the end of a datagram file, or datagrams of a link. This project's own.
 use Rattle.std.specs.Prelude.{ℕ, ◌≡◌, ◌≤◌, true, List, [], ◌++◌, option_map}
 use Rattle.pet_base.specs.Causes.{Blames}
-use Rattle.pet_base.specs.Seen.{Seen, Names, KeepsInput, OnlyWrites, with_file, HadFault}
+use Rattle.pet_base.specs.Seen.{Seen, Names, HasNoOutput, KeepsInput, OnlyWrites, with_file, HadFault}
 use Rattle.pet_base.specs.LinkSeen.{LinkSeen, OnlyAims, OnlySends, HadFault as LinkHadFault}
 use Rattle.pet_base.specs.declared.place.Place.{Ghosts as PlaceOf}
 use Rattle.pet_base.specs.declared.link.Link.{Ghosts as LinkOf}
@@ -90,9 +90,10 @@ pub record OnlyOpens (old new : Routes) : Type 0 where
   pub place_later : old.place.faults ≤ new.place.faults
   pub link_later : old.link.faults ≤ new.link.faults
 
--- it could not be made ready: the file was not made, or the link not aimed
+-- it could not be made ready: the file was not made, so that there is no output, or the link not aimed
 abbrev pub IsUnopened : Way → Routes → Routes → Type 0
-IsUnopened (OnFile name) old new = (new.place.files ≡ old.place.files) × (new.link ≡ old.link)
+IsUnopened (OnFile name) old new =
+    (new.place.files ≡ old.place.files) × (new.link ≡ old.link) × HasNoOutput new.place
 IsUnopened (OnLink address) old new = (new.place ≡ old.place) × (new.link.sent ≡ old.link.sent)
 
 -- and the place had a fault at this file

@@ -4,11 +4,11 @@ ghost use Rattle.pet_base.specs.declared.limits.TheConstants.{MAX_ENTRY};
 ghost use Rattle.pet_base.specs.declared.place.Side.TheVariants.{Read};
 ghost use Rattle.pet_base.specs.declared.link.LinkSide.TheVariants.{Bound};
 ghost use Rattle.pet_base.specs.Causes.{Blames, stops};
-ghost use Rattle.pet_base.specs.Entries.{IsShort, datagrams};
+ghost use Rattle.pet_base.specs.Entries.{IsShort, HasLost, IsPartOfEntry, datagrams};
 ghost use Rattle.pet_base.specs.LinkSeen.{OnlyReceives, HasBlame as HasLinkBlame, LinkStops};
 ghost use Rattle.pet_base.specs.Seen.{OnlyReads, HasBlame, PlaceStops};
 ghost use Rattle.outside_routes.specs.Way.{way_of};
-ghost use Rattle.outside_routes.specs.Coming.{coming, TakesDatagram, KeepsFeed, OnlyTakes, HasInput};
+ghost use Rattle.outside_routes.specs.Coming.{coming, TakesDatagram, KeepsFeed, LosesPart, OnlyTakes, HasInput};
 ghost use Rattle.outside_routes.specs.RouteFaults.{IsFailure, InputFailed, ReceivingFailed, of_place, of_link};
 
 use crate::fault::RouteFailed;
@@ -29,6 +29,7 @@ pub fn next_datagram<P: Place, K: Link>(
         (coming (way_of route.entry) (P.seen place.new) (K.seen link.new))) }
     ensures short { IfOk result IsShort }
     ensures feed { OnErr result (KeepsFeed (way_of route.entry) (K.seen link.old) (K.seen link.new)) }
+    ensures part { OnErr result (LosesPart (way_of route.entry) (P.seen place.old) (P.seen place.new)) }
     ensures others { OnlyTakes (way_of route.entry) (P.seen place.old) (K.seen link.old)
         (P.seen place.new) (K.seen link.new) }
     ensures cause { IfErr result (IsFailure
@@ -51,6 +52,7 @@ fn read_entry<P: Place>(place: &mut P, into: &mut [u8]) -> Result<Entry, Failed>
         (option_map datagrams (P.seen place.old).rest) e into.new
         (option_map datagrams (P.seen place.new).rest)) }
     ensures short { IfOk result IsShort }
+    ensures part { OnErr result (HasLost IsPartOfEntry (P.seen place.old).rest (P.seen place.new).rest) }
     ensures others { OnlyReads (P.seen place.old) (P.seen place.new) }
     ensures cause { HasBlame (P.seen place.old) (P.seen place.new) result
         (Blames Read (P.seen place.old).source) }

@@ -14,12 +14,12 @@ use Rattle.pet_base.specs.declared.place.Side.TheVariants.{Read, Written}
 use Rattle.pet_base.specs.declared.link.LinkSide.TheVariants.{Bound}
 use Rattle.packet_reading.specs.Begun.{LinkReceives}
 use Rattle.outside_routes.specs.Way.{Way, OnFile, OnLink}
-use Rattle.outside_routes.specs.Coming.{coming, HaveCome, KeepsFeed, TakesDatagram}
+use Rattle.outside_routes.specs.Coming.{coming, HaveCome, KeepsFeed, LosesPart, TakesDatagram}
 use Rattle.outside_routes.specs.Sending.{AreFirstDatagrams}
 use Rattle.outside_routes.specs.RouteFaults.{IsFailure, InputFailed, ReceivingFailed, stop_of_route, stop_of_place}
 use Rattle.outside_routes.specs.declared.fault.RouteFailed.{RouteFailed}
 use Rattle.outside_routes.specs.declared.fault.RouteFailed.TheVariants as failed
-use Rattle.outside_routes.specs.laws.ComingLaws.{come_nothing, come_more, come_both, come_front}
+use Rattle.outside_routes.specs.laws.ComingLaws.{come_nothing, come_more, come_both, come_front, come_until}
 use Rattle.pet_base.specs.declared.faults.Stop.{Stop}
 use Rattle.pet_base.specs.declared.faults.Stop.TheVariants as place
 use Rattle.packet_frame.specs.declared.format.Format.{Format}
@@ -32,7 +32,7 @@ use Rattle.packet_met.specs.LayersText.{order_after_in, order_after_all_in, IsAr
 use Rattle.packet_met.specs.Records.{IsTextAtIn}
 use Rattle.outside_files.specs.Inputs.{Licensed}
 use Rattle.outside_files.specs.Outputs.{Puts}
-use Rattle.packet_reading.specs.inside.SoFar.{SoFar, HasReceived, CameFirst, CameBefore, PartSoFar, WholeSoFar, StoppedSoFar}
+use Rattle.packet_reading.specs.inside.SoFar.{SoFar, HasReceived, CameFirst, PartSoFar, WholeSoFar, StoppedSoFar}
 use Rattle.packet_reading.specs.inside.SoFar.{PartOfOne}
 use Rattle.packet_met.specs.Steps.{steps_of_in, steps_of_all_in}
 use Rattle.outside_files.specs.laws.OutputLaws.{puts_nothing}
@@ -190,26 +190,17 @@ module _ (t : Format) {E : Type 0} (P : E → Type 0) (c : Coding E) where
     puts = subst (λ (f : Option Files). Grows first.target s.text first.files f) (sym same) s.puts;
   }
 
-  -- what came before FROM failed
-  came_before : (from : Way) (read : List (List ℕ)) (first before : Seen) (link_first link_before link_now : LinkSeen)
-      → HaveCome read (coming from first link_first) (coming from before link_before)
-      → KeepsFeed from link_before link_now → CameBefore from read first link_first link_now
-  came_before (OnFile name) read first before link_first link_before link_now come keeps =
-      first_of_told read first.rest
-      (come_front read (option_map datagrams first.rest) (option_map datagrams before.rest) come)
-  came_before (OnLink address) read first before link_first link_before link_now come keeps =
-      subst (λ (o : Option (List (List ℕ))). HaveCome read link_first.feed o) (sym keeps) come
-
+  -- FROM failed
   whole_so_far : (from : Way) (set : KeptSet) (n : ℕ) (first before now : Seen)
       (link_first link_before link_now : LinkSeen) (r : ReceiverState E) (a b : ℕ)
       → SoFar t P c set n first before (coming from first link_first) (coming from before link_before) r a b
-      → n < MAX_DATAGRAMS → KeepsFeed from link_before link_now → now.files ≡ before.files
-      → WholeSoFar t P c from set first now link_first link_now
-  whole_so_far from set n first before now link_first link_before link_now r a b s room keeps same = record {
+      → n < MAX_DATAGRAMS → KeepsFeed from link_before link_now → LosesPart from before now
+      → now.files ≡ before.files → WholeSoFar t P c from set first now link_first link_now
+  whole_so_far from set n first before now link_first link_before link_now r a b s room keeps lost same = record {
     read = s.read;
     text = s.text;
     few = omega (arith, s.many, room);
-    come = came_before from s.read first before link_first link_before link_now s.rest keeps;
+    come = come_until from s.read first before now link_first link_before link_now s.rest keeps lost;
     is_text = s.is_text;
     puts = subst (λ (f : Option Files). Grows first.target s.text first.files f) (sym same) s.puts;
   }
@@ -220,18 +211,18 @@ module _ (t : Format) {E : Type 0} (P : E → Type 0) (c : Coding E) where
       → SoFar t P c set n first before (coming from first link_first) (coming from before link_before) r a b
       → n < MAX_DATAGRAMS → KeepsNames first before → first.faults ≤ before.faults
       → LinkReceives from link_first link_before → link_first.faults ≤ link_before.faults
-      → KeepsFeed from link_before link_now → now.files ≡ before.files
+      → KeepsFeed from link_before link_now → LosesPart from before now → now.files ≡ before.files
       → IsFailure (InputFailed from before now) (ReceivingFailed from link_before link_now) failed
       → StoppedSoFar t P c from set first now link_first link_now (stop_of_route failed)
   stopped_so_far failed.Place from set n first before now link_first link_before link_now r a b s room names later
-      receives link_later keeps same cause = inl (
+      receives link_later keeps lost same cause = inl (
         input_since from first before now names later cause,
-        whole_so_far from set n first before now link_first link_before link_now r a b s room keeps same,
+        whole_so_far from set n first before now link_first link_before link_now r a b s room keeps lost same,
       )
   stopped_so_far failed.Link from set n first before now link_first link_before link_now r a b s room names later
-      receives link_later keeps same cause = (
+      receives link_later keeps lost same cause = (
         receiving_since from link_first link_before link_now receives link_later cause,
-        whole_so_far from set n first before now link_first link_before link_now r a b s room keeps same,
+        whole_so_far from set n first before now link_first link_before link_now r a b s room keeps lost same,
       )
 
   -- a call failed while the text of a datagram was put

@@ -8,12 +8,12 @@ use Rattle.pet_base.specs.declared.place.Side.TheVariants.{Read, Written}
 use Rattle.pet_base.specs.Entries.{datagrams}
 use Rattle.pet_base.specs.LinkSeen.{LinkSeen}
 use Rattle.pet_base.specs.OutsideSeen.{OutsideSeen}
-use Rattle.pet_base.specs.Seen.{Seen, Names}
+use Rattle.pet_base.specs.Seen.{Seen, HadFault, HasNoOutput, Names}
 use Rattle.pet_base.specs.laws.SeenLaws.{Blames-named, HadFault-since}
-use Rattle.outside_files.specs.Uses.{Failed}
+use Rattle.outside_files.specs.Uses.{writing}
 use Rattle.outside_files.specs.laws.PrintedLaws.{Rose-since}
 use Rattle.outside_routes.specs.Bound.{bound_text}
-use Rattle.outside_routes.specs.Coming.{coming, HasInput, HaveCome, KeepsFeed}
+use Rattle.outside_routes.specs.Coming.{coming, HasInput, HasReadUntil, HaveCome, KeepsFeed}
 use Rattle.outside_routes.specs.RouteFaults.{AimedFailed, InputFailed, IsFailure, stop_of_route}
 use Rattle.outside_routes.specs.Sending.{Routes, AreFirstDatagrams, IsOpened, IsUnopened, OnlyOpens, CreatingFailed}
 use Rattle.outside_routes.specs.Sending.{IsOpen, OutputFailed}
@@ -22,17 +22,18 @@ use Rattle.outside_routes.specs.declared.fault.RouteFailed.{RouteFailed}
 use Rattle.outside_routes.specs.declared.fault.RouteFailed.TheVariants as failed
 use Rattle.outside_routes.specs.declared.fault.RouteStop.{RouteStop}
 use Rattle.outside_routes.specs.declared.fault.RouteStop.TheVariants as stop
-use Rattle.packet_reading.specs.Begun.{Begun, Begins, EnteringFailed, IsBoundWhereStopped, OutStops, StopsBeginning}
+use Rattle.packet_reading.specs.Begun.{Begun, Begins, EnteringFailed, IsBoundWhereStopped, IsToCome, OpeningFailed, OutStops}
+use Rattle.packet_reading.specs.Begun.{StopsBeginning}
 use Rattle.packet_reading.specs.Opened.{IsBoundTo, KeepsLink, PrintedPort}
 use Rattle.packet_reading.specs.Layers.{HaveComeFirst, HaveLeft, IsReadFirst}
-use Rattle.packet_reading.specs.laws.BegunLaws.{is_read, link_failed, there}
+use Rattle.packet_reading.specs.laws.BegunLaws.{file_read_until, is_read, link_failed, there}
 use Rattle.pet_receive.specs.Arrivals.{ReceiverState, kept_set}
 use Rattle.pet_receive.specs.ShownBytes.{IsComplete}
 use Rattle.packet_met.specs.Kept.{nothing_of}
 use Rattle.packet_verdicts.specs.KeptSet.{kept_in_all}
 use Rattle.pet_repair.specs.Repaired.{on_end}
 use Rattle.pet_repair.specs.Relays.{Relays, RelaysFront, RelaysToUnlike, RelaysUntilFault, HasNotBegun, WritingFailed}
-use Rattle.pet_repair.specs.Relays.{relay_uses, routes_of, EndsRelay, IsBoundAtRelayEnd, DoesRelay}
+use Rattle.pet_repair.specs.Relays.{routes_of, EndsRelay, FailsBeforeTo, IsBoundAtRelayEnd, DoesRelay}
 use Rattle.pet_repair.specs.SentTo.{SentTo, SentFront}
 use Rattle.pet_repair.specs.declared.arriving.RelayStop.{RelayStop}
 use Rattle.pet_repair.specs.declared.arriving.RelayStop.TheVariants.{Route, Unlike}
@@ -45,7 +46,6 @@ use Rattle.pet_repair.specs.inside.Handed.{Handed, HandedPart}
 use Rattle.pet_repair.specs.inside.RelayEnds.{OnlyBegins, IsRelayingOf, IsEndOf, end_of_relay}
 use Rattle.pet_repair.specs.inside.RelaySoFar.{RelayedAll, CameFirst, CameTo, RelayedPart, RelayedTo, RelayedUntil}
 use Rattle.pet_repair.specs.inside.RelaySoFar.{KeepsAddresses, StopsRelaying}
-use Rattle.pet_repair.specs.laws.RelayUses.{entering_used}
 use Rattle.pet_repair.proofs.HandedOn.{sent_to, sent_front, sent_since, front_since, aimed_failed}
 use Rattle.pet_repair.proofs.RelayedMore.{receiving_since}
 
@@ -80,14 +80,11 @@ aimed_before (OnFile name) before mid new later failed = failed
 aimed_before (OnLink address) before mid new later failed =
     record { rose = Rose-since before.faults mid.faults new.faults later failed.rose; blame = failed.blame }
 
--- TO could not be made ready
-creating_used : (from to : Way) (before old new : Seen) → before.faults ≤ old.faults → CreatingFailed to old new
-    → Failed (relay_uses from to) before new
-creating_used (OnFile name) (OnFile other) before old new later failed =
-    HadFault-since before old new _ _ later (λ b is. inr is) failed
-creating_used (OnLink address) (OnFile other) before old new later failed =
-    HadFault-since before old new _ _ later (λ b is. is) failed
-creating_used from (OnLink address) before old new later failed = absurd failed
+-- FROM could not be opened
+opening_before : (from to : Way) (before after : OutsideSeen) → OpeningFailed from before.place after.place
+    → FailsBeforeTo from to before after
+opening_before from (OnFile name) before after opening = inl opening
+opening_before from (OnLink address) before after opening = opening
 
 module _ (from : Way) (session : List ℕ) (to : Way) (before mid : OutsideSeen) (only : OnlyBegins from before mid) where
   -- nothing has begun
@@ -96,17 +93,17 @@ module _ (from : Way) (session : List ℕ) (to : Way) (before mid : OutsideSeen)
 
   pub stops_beginning : (s : RouteStop) → StopsBeginning from before mid s
       → EndsRelay from session to before mid (end_of_relay (Route s))
-  stops_beginning stop.NoMemory stops = inl (not_begun, stops.1)
+  stops_beginning stop.NoMemory stops = inl (not_begun, stops)
   stops_beginning stop.Place stops = (
-    inl (entering_used from to before.place mid.place stops.2, not_begun),
-    printed_none from stops.1 stops.2,
+    inl (opening_before from to before mid stops.2, not_begun),
+    printed_none from stops.1 stops.2.0,
   )
     where
       printed_none : (w : Way) → mid.written ≡ before.written → EnteringFailed w before.place mid.place
           → PrintedPort w before mid
       printed_none (OnFile name) written failed = written
       printed_none (OnLink address) written failed = absurd failed
-  stops_beginning stop.Link stops = inl (inl stops.2, not_begun, inl stops.1)
+  stops_beginning stop.Link stops = inl (stops.2, not_begun, stops.1)
   stops_beginning stop.Out stops = (not_begun, stops.1)
 
   module _ (begins : Begins from before mid) (opened : Routes) (new : OutsideSeen)
@@ -139,24 +136,39 @@ module _ (from : Way) (session : List ℕ) (to : Way) (before mid : OutsideSeen)
           printed_later from before mid new written (ap (λ (l : LinkSeen). l.port) link ∙ opens.link.port)
           begins.printed
 
+      -- and none of FROM has come
+      to_come : (w : Way) → Begun w before mid → KeepsFeed w before.link mid.link → IsToCome w before new
+      to_come (OnFile name) begun feed = (
+        ap (λ (p : Seen). p.has_input) place ∙ opens.input.has_input ∙ begun.has_input,
+        ap (λ (p : Seen). p.rest) place ∙ opens.input.rest ∙ begun.rest,
+      )
+      to_come (OnLink address) begun feed = ap (λ (l : LinkSeen). l.feed) link ∙ opens.link.feed ∙ feed
+
+      creating_before : (w : Way) → IsUnopened w (routes_of mid) opened → CreatingFailed w mid.place opened.place
+          → FailsBeforeTo from w before new
+      creating_before (OnFile name) is failed =
+          inr (
+            (
+              subst (λ (p : Seen). HadFault before.place p (λ b. b ≡ writing name)) (sym place)
+                  (HadFault-since before.place mid.place opened.place _ _ only.others.place_later (λ b at. at) failed),
+              subst HasNoOutput (sym place) is.2,
+            ),
+            to_come from begins.begun only.untouched.feed,
+          )
+      creating_before (OnLink address) is failed = absurd failed
+
       pub stops_opening : (f : RouteFailed)
           → IsFailure (CreatingFailed to mid.place opened.place) (AimedFailed to mid.link opened.link) f
           → EndsRelay from session to before new (end_of_relay (Route (stop_of_route f)))
-      stops_opening failed.Place cause = (
-        inl (
-          creating_used from to before.place mid.place new.place only.others.place_later
-              (subst (λ (p : Seen). CreatingFailed to mid.place p) (sym place) cause),
-          unbegun,
-        ),
-        still_printed,
-      )
+      stops_opening failed.Place cause = (inl (creating_before to unopened cause, unbegun), still_printed)
       stops_opening failed.Link cause =
-          inl (
-            inr (aimed_before to before.link mid.link new.link only.others.link_later
-                (subst (λ (l : LinkSeen). AimedFailed to mid.link l) (sym link) cause)),
+          inr (inl (
+            aimed_before to before.link mid.link new.link only.others.link_later
+                (subst (λ (l : LinkSeen). AimedFailed to mid.link l) (sym link) cause),
+            to_come from begins.begun only.untouched.feed,
             unbegun,
-            inr still_printed,
-          )
+            still_printed,
+          ))
 
     module _ (is_opened : IsOpened to (routes_of mid) opened) (keeps : KeepsAddresses opened.link new.link)
         (start : ReceiverState ℕ) (empty : kept_set start ≡ nothing_of session) (stands : StandsIn start) where
@@ -229,9 +241,8 @@ module _ (from : Way) (session : List ℕ) (to : Way) (before mid : OutsideSeen)
       input_to : (w : Way) (read : List (List ℕ)) → Begun w before mid → KeepsFeed w before.link mid.link
           → CameTo w read opened (routes_of new) → HaveComeFirst w read before new
       input_to (OnFile name) read begun feed came =
-          there before.place.files name (λ bytes. AreFirstDatagrams read (datagrams bytes)) begun.found
-          (subst (λ (o : Option (List ℕ)). IfSome o (λ bytes. AreFirstDatagrams read (datagrams bytes)))
-          (opens.input.rest ∙ begun.rest) came)
+          file_read_until name read before mid new.place.rest begun
+          (subst (λ (o : Option (List ℕ)). HasReadUntil read o new.place.rest) opens.input.rest came)
       input_to (OnLink address) read begun feed came =
           subst (λ (o : Option (List (List ℕ))). HaveCome read o new.link.feed) (opens.link.feed ∙ feed) came
 
@@ -318,19 +329,19 @@ module _ (from : Way) (session : List ℕ) (to : Way) (before mid : OutsideSeen)
           (inr (inl (reading_failed from begins.begun is.0, until is.1)), printed)
       stops_relaying (Route stop.Place) (inr is) = (inr (inr (writing_failed to is_opened is.0, front is.1)), printed)
       stops_relaying (Route stop.Link) (inl is) =
-          inr (inl (
+          inr (inr (inl (
             link_failed from before mid new begins.begun only.others.link_later
                 (receiving_since from mid.link opened.link new.link opens.link.bound opens.link_later is.0),
             until is.1,
             printed,
-          ))
+          )))
       stops_relaying (Route stop.Link) (inr is) =
-          inr (inr (
+          inr (inr (inr (
             aimed_before to before.link mid.link new.link only.others.link_later
                 (aimed_failed to (routes_of mid) opened (routes_of new) is_opened opens.link_later is.0),
             front is.1,
             printed,
-          ))
+          )))
       stops_relaying (Route stop.Out) is = absurd is
 
 -- the end by the numbers

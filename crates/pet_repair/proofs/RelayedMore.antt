@@ -1,5 +1,5 @@
 -- One datagram more is relayed, and what stands after a failure.
-use Rattle.std.proofs.Common.{◌≡◌, ℕ, ◌+◌, ◌<◌, ◌≤◌, take, List, [], ◌∷◌, ◌++◌, length, length-append, Option, Some, None}
+use Rattle.std.proofs.Common.{◌≡◌, ℕ, ◌+◌, ◌<◌, ◌≤◌, take, List, [], ◌∷◌, ◌++◌, length, length-append, Option}
 use Rattle.std.proofs.Common.{refl, sym, ap, subst, ◌∙◌, arith, inl, inr}
 use Rattle.std.specs.Prelude.{option_map, IfSome}
 use Rattle.std.proofs.lemmas.List.{length_push, append-nil}
@@ -16,15 +16,15 @@ use Rattle.pet_base.specs.laws.SeenLaws.{OnlyWrites-KeepsNames}
 use Rattle.outside_files.specs.laws.PrintedLaws.{Rose-since}
 use Rattle.outside_files.specs.Outputs.{Puts}
 use Rattle.outside_routes.specs.Way.{Way, OnFile, OnLink}
-use Rattle.outside_routes.specs.Coming.{coming, HaveCome, KeepsFeed, OnlyTakes, TakesDatagram}
+use Rattle.outside_routes.specs.Coming.{coming, HaveCome, KeepsFeed, LosesPart, OnlyTakes, TakesDatagram}
 use Rattle.outside_routes.specs.RouteFaults.{IsFailure, IsStop, InputFailed, ReceivingFailed, stop_of_route}
 use Rattle.outside_routes.specs.declared.fault.RouteFailed.{RouteFailed}
 use Rattle.outside_routes.specs.declared.fault.RouteFailed.TheVariants as failed
 use Rattle.outside_routes.specs.declared.fault.RouteStop.{RouteStop}
 use Rattle.outside_routes.specs.declared.fault.RouteStop.TheVariants as stop
-use Rattle.outside_routes.specs.Sending.{Routes, AreFirstDatagrams, Sends, SendsPart, OnlyGrows, OutputFailed}
+use Rattle.outside_routes.specs.Sending.{Routes, Sends, SendsPart, OnlyGrows, OutputFailed}
 use Rattle.outside_routes.specs.Sending.{IsOpen, SendingFailed}
-use Rattle.outside_routes.specs.laws.ComingLaws.{come_nothing, come_more, come_front}
+use Rattle.outside_routes.specs.laws.ComingLaws.{come_nothing, come_more, come_until, come_whole, until_first}
 use Rattle.outside_routes.specs.laws.SendingLaws.{sends_nothing, sends_then, part_after}
 use Rattle.pet_receive.specs.Arrivals.{ReceiverState}
 use Rattle.pet_repair.specs.Repaired.{on_end}
@@ -107,24 +107,15 @@ so_far_start from to r now = record {
   handed = handed_nothing to now;
 }
 
-first_told : (read : List (List ℕ)) (rest : Option (List ℕ))
-    → IfSome (option_map datagrams rest) (λ all. (more : List (List ℕ)) × (all ≡ read ++ more))
-    → IfSome rest (λ bytes. AreFirstDatagrams read (datagrams bytes))
-first_told read None is = tt
-first_told read (Some bytes) is = is
-
 -- these came, and no other
 came_to : (from : Way) (read : List (List ℕ)) (first now : Routes)
     → HaveCome read (coming from first.place first.link) (coming from now.place now.link) → CameTo from read first now
-came_to (OnFile name) read first now come =
-    first_told read first.place.rest
-    (come_front read (option_map datagrams first.place.rest) (option_map datagrams now.place.rest) come)
-came_to (OnLink address) read first now come = come
+came_to from read first now come = come_whole from read first.place now.place first.link now.link come
 
 -- so they came first
 came_first : (from : Way) (read : List (List ℕ)) (first now : Routes) → length read ≤ MAX_DATAGRAMS
     → CameTo from read first now → CameFirst from read first now
-came_first (OnFile name) read first now few came = came
+came_first (OnFile name) read first now few came = until_first read first.place.rest now.place.rest came
 came_first (OnLink address) read first now few came = (
   [],
   omega arith,
@@ -305,27 +296,21 @@ pub open_taken : (from to : Way) (before between : Routes)
 open_taken from (OnFile name) before between t is = t.place.has_output ∙ is
 open_taken from (OnLink address) before between t is = tt
 
-no_more : (from : Way) (read : List (List ℕ)) (first before between : Routes) → KeepsFeed from before.link between.link
-    → HaveCome read (coming from first.place first.link) (coming from before.place before.link)
-    → CameTo from read first between
-no_more (OnFile name) read first before between feed come =
-    first_told read first.place.rest
-    (come_front read (option_map datagrams first.place.rest) (option_map datagrams before.place.rest) come)
-no_more (OnLink address) read first before between feed come =
-    subst (λ (o : Option (List (List ℕ))). HaveCome read first.link.feed o) (sym feed) come
-
 module _ (from to : Way) (start : ReceiverState ℕ) (n : ℕ) (first before between : Routes) (r : ReceiverState ℕ)
     (s : RelayedSoFar from to start n first before r) (later : IsLater first before)
     (takes : OnlyTakes from before.place before.link between.place between.link) (room : n < MAX_DATAGRAMS) where
   -- nothing could be received
-  until_taken : KeepsFeed from before.link between.link → RelayedUntil from to start first between
-  until_taken feed = record {
+  until_taken : KeepsFeed from before.link between.link → LosesPart from before.place between.place
+      → RelayedUntil from to start first between
+  until_taken feed lost = record {
     read = s.read;
     sent = s.sent;
     state = r;
     arrived = s.arrived;
     few = omega (arith, s.many, room);
-    came = no_more from s.read first before between feed s.rest;
+    came =
+        come_until from s.read first.place before.place between.place first.link before.link between.link s.rest feed
+        lost;
     handed =
         subst (λ (ds : List (List ℕ)). Handed to ds first between) (append-nil (on_end s.sent))
         (handed_then to (on_end s.sent) [] first before between between
@@ -334,12 +319,17 @@ module _ (from to : Way) (start : ReceiverState ℕ) (n : ℕ) (first before bet
   }
 
   pub stops_taking : (failed : RouteFailed) → KeepsFeed from before.link between.link
+      → LosesPart from before.place between.place
       → IsFailure (InputFailed from before.place between.place) (ReceivingFailed from before.link between.link) failed
       → StopsRelaying from to start first between (Route (stop_of_route failed))
-  stops_taking failed.Place feed cause =
-      inl (input_since from first.place before.place between.place later.names.source later.place cause, until_taken feed)
-  stops_taking failed.Link feed cause =
-      inl (receiving_since from first.link before.link between.link later.keeps.bound later.link cause, until_taken feed)
+  stops_taking failed.Place feed lost cause = inl (
+    input_since from first.place before.place between.place later.names.source later.place cause,
+    until_taken feed lost,
+  )
+  stops_taking failed.Link feed lost cause = inl (
+    receiving_since from first.link before.link between.link later.keeps.bound later.link cause,
+    until_taken feed lost,
+  )
 
   -- or not all be sent of what the datagram gives
   pub stops_at_one : (len : ℕ) (into : List ℕ)

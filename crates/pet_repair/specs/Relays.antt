@@ -5,13 +5,13 @@ use Rattle.pet_base.specs.LinkSeen.{LinkSeen}
 use Rattle.pet_base.specs.OutsideSeen.{OutsideSeen}
 use Rattle.pet_base.specs.Seen.{Seen, Blame, HadFault}
 use Rattle.outside_files.specs.Printed.{Unprinted}
-use Rattle.outside_files.specs.Uses.{reading, writing, Failed}
+use Rattle.outside_files.specs.Uses.{reading, writing}
 use Rattle.outside_routes.specs.Coming.{KeepsFeed}
 use Rattle.outside_routes.specs.RouteFaults.{AimedFailed, BoundFailed}
 use Rattle.outside_routes.specs.Sending.{Routes}
 use Rattle.outside_routes.specs.Way.{Way, OnFile, OnLink}
-use Rattle.packet_reading.specs.Opened.{IsBoundTo, IsUntouched, PortFailed, PrintedPort}
-use Rattle.packet_reading.specs.Begun.{EnteringFailed, OutStops}
+use Rattle.packet_reading.specs.Opened.{IsBoundTo, IsUntouched, IsUnused, PortFailed, PrintedPort}
+use Rattle.packet_reading.specs.Begun.{EnteringFailed, FailsBefore, IsToCome, OpeningFailed, OutStops}
 use Rattle.packet_reading.specs.Layers.{IsRead, IsReadFirst, HaveComeFirst}
 use Rattle.pet_repair.specs.Failures.{relay_end_of_output}
 use Rattle.field_elements.specs.Gf16.{gf16_coding}
@@ -106,20 +106,26 @@ abbrev pub WritingFailed : Way → Seen → Seen → Type 0
 WritingFailed (OnFile name) old new = HadFault old new (λ blame. blame ≡ writing name)
 WritingFailed (OnLink address) old new = ⊥
 
--- Where the place failed: before TO was ready; or at FROM, a file, behind that; or at TO, a file, which then has at most a
+-- the place failed before any of FROM came: FROM, a file, could not be opened; or it was, and TO, a file, not made
+abbrev pub FailsBeforeTo : Way → Way → OutsideSeen → OutsideSeen → Type 0
+FailsBeforeTo from (OnFile name) before after = FailsBefore from name before after
+FailsBeforeTo from (OnLink address) before after = OpeningFailed from before.place after.place
+
+-- Where the place failed: before any of FROM came; or at FROM, a file, behind that; or at TO, a file, which then has at most a
 -- front.
 abbrev pub StopsAtFile : Way → List ℕ → Way → OutsideSeen → OutsideSeen → Type 0
 StopsAtFile from session to before after =
-    (Failed (relay_uses from to) before.place after.place × HasNotBegun from before after)
+    (FailsBeforeTo from to before after × HasNotBegun from before after)
     ⊎ (EnteringFailed from before.place after.place × RelaysUntilFault from session to before after)
     ⊎ (WritingFailed to before.place after.place × RelaysFront from session to before after)
 
--- Where the link failed: before TO was ready; or while it received at FROM, behind that; or while it sent to TO, which then has
--- at most a front.
+-- Where the link failed: before it received at FROM; or before it sent to TO, when none of FROM had come; or while it received at
+-- FROM, behind that; or while it sent to TO, which then has at most a front.
 abbrev pub StopsAtLink : Way → List ℕ → Way → OutsideSeen → OutsideSeen → Type 0
 StopsAtLink from session to before after =
-    ((BoundFailed from before.link after.link ⊎ AimedFailed to before.link after.link)
-    × HasNotBegun from before after × (Unprinted before after ⊎ PrintedPort from before after))
+    (BoundFailed from before.link after.link × HasNotBegun from before after × Unprinted before after)
+    ⊎ (AimedFailed to before.link after.link × IsToCome from before after × HasNotBegun from before after
+    × PrintedPort from before after)
     ⊎ (BoundFailed from before.link after.link × RelaysUntilFault from session to before after
     × PrintedPort from before after)
     ⊎ (AimedFailed to before.link after.link × RelaysFront from session to before after × PrintedPort from before after)
@@ -141,7 +147,7 @@ EndsRelay from session to before after (Unlike group number) =
     RelaysToUnlike from session to group number before after × PrintedPort from before after
 EndsRelay from session to before after OutFault = HasNotBegun from before after × PortFailed from before after
 EndsRelay from session to before after NoMemory =
-    (HasNotBegun from before after × Unprinted before after)
+    (HasNotBegun from before after × IsUnused from before after)
     ⊎ (RelaysFront from session to before after × PrintedPort from before after)
 EndsRelay from session to before after PlaceFault =
     StopsAtFile from session to before after × PrintedPort from before after

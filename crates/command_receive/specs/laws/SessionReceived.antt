@@ -6,7 +6,7 @@ use Rattle.std.proofs.lemmas.Bool.{false_from_ne_true}
 use Rattle.pet_base.specs.declared.limits.TheConstants.{MAX_SESSION, MAX_DATAGRAMS}
 use Rattle.pet_base.specs.Causes.{Rose}
 use Rattle.outside_routes.specs.Way.{Way, OnFile, OnLink}
-use Rattle.command_receive.specs.Opened.{IsBoundTo, IsOpeningUse, PortFailed, PrintedPort}
+use Rattle.command_receive.specs.Opened.{IsBoundTo, PortFailed, PrintedPort}
 use Rattle.pet_base.specs.OutsideSeen.{OutsideSeen}
 use Rattle.pet_base.specs.Seen.{Blame, Files, Seen, with_file}
 use Rattle.pet_base.specs.laws.SeenLaws.{HadFault-since}
@@ -37,12 +37,6 @@ use Rattle.command_receive.specs.ReceivesSession.{HasPacketsOf, CanReceive, Rece
 use Rattle.command_receive.specs.ReceivesSession.{CompletesReceive, session_end, session_totals}
 
 -- what is blamed is one of the files that are used
-opening_used : (from : Way) (layers store : List ℕ) (b : Blame) → IsOpeningUse from layers b
-    → IsOneOf (uses_of from layers store) b
-opening_used (OnFile name) layers store b (inl is) = inl is
-opening_used (OnFile name) layers store b (inr is) = inr (inl is)
-opening_used (OnLink address) layers store b is = inl is
-
 layers_used : (from : Way) (layers store : List ℕ) (b : Blame) → b ≡ writing layers
     → IsOneOf (uses_of from layers store) b
 layers_used (OnFile name) layers store b is = inr (inl is)
@@ -62,8 +56,10 @@ from_used (OnLink address) layers store old new had = absurd had
 in_turn : (from : Way) (session layers store : List ℕ) (before after : OutsideSeen)
     → StopsAtFileOrStore from session layers store before after
     → Failed (uses_of from layers store) before.place after.place
-in_turn from session layers store before after (inl (inl (had, untouched))) =
-    HadFault-since before.place before.place after.place _ _ (omega arith) (opening_used from layers store) had
+in_turn from session layers store before after (inl (inl (inl opening, untouched))) =
+    from_used from layers store before.place after.place opening.0
+in_turn from session layers store before after (inl (inl (inr making, untouched))) =
+    HadFault-since before.place before.place after.place _ _ (omega arith) (layers_used from layers store) making.0.0
 in_turn from session layers store before after (inl (inr (inl (had, whole)))) =
     from_used from layers store before.place after.place had
 in_turn from session layers store before after (inl (inr (inr (had, front)))) =
@@ -164,7 +160,7 @@ nothing_received (OnFile name) session layers store before =
       bound = inl tt;
       later = omega arith;
       out = refl;
-      ends = inl (record { files = refl; feed = tt }, refl);
+      ends = inl (record { place = refl; feed = tt; written = refl });
     }
 nothing_received (OnLink address) session layers store before =
     record {
@@ -172,5 +168,5 @@ nothing_received (OnLink address) session layers store before =
       bound = inl refl;
       later = omega arith;
       out = refl;
-      ends = inl (record { files = refl; feed = refl }, refl);
+      ends = inl (record { place = refl; feed = refl; written = refl });
     }

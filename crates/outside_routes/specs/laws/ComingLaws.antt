@@ -1,12 +1,17 @@
 -- Laws of the datagrams that come on a way, for the proofs of callers.
-use Rattle.std.proofs.Common.{◌≡◌, ℕ, List, [], ◌∷◌, ◌++◌, take, Option, None, Some, refl, sym, ap, ◌∙◌, append_assoc}
+use Rattle.std.proofs.Common.{◌≡◌, ℕ, List, [], ◌∷◌, ◌++◌, take, Option, None, Some, refl, sym, ap, subst, ◌∙◌}
+use Rattle.std.proofs.Common.{append_assoc}
 use Rattle.std.proofs.lemmas.List.{append-nil}
 use Rattle.std.specs.Prelude.{option_map, IfSome, Result, Ok, Err, IfOk}
-use Rattle.pet_base.specs.Entries.{datagrams, first_entry, TakesEntry}
+use Rattle.std.specs.Io.KnownBytes.{prepend_known}
+use Rattle.pet_base.specs.Entries.{datagrams, first_entry, HasRead, TakesEntry}
 use Rattle.pet_base.specs.declared.entry.Entry.{Entry}
 use Rattle.pet_base.specs.declared.entry.Entry.TheVariants.{Datagram, End}
-use Rattle.pet_base.specs.laws.EntriesLaws.{datagrams_first, datagrams_none}
-use Rattle.outside_routes.specs.Coming.{HaveCome, TakesDatagram}
+use Rattle.pet_base.specs.LinkSeen.{LinkSeen}
+use Rattle.pet_base.specs.Seen.{Seen}
+use Rattle.pet_base.specs.laws.EntriesLaws.{HasRead-front, datagrams_first, datagrams_none}
+use Rattle.outside_routes.specs.Way.{Way, OnFile, OnLink}
+use Rattle.outside_routes.specs.Coming.{coming, HaveCome, HaveComeUntil, HasReadUntil, KeepsFeed, LosesPart, TakesDatagram}
 
 none_some : {A : Type 0} (x : A) → None ≡ Some x → ⊥
 none_some x e = cc
@@ -63,6 +68,38 @@ entry_comes (Datagram n) into (Some bytes) None takes = absurd (none_some _ (sym
 entry_comes (Datagram n) into (Some bytes) (Some rest) takes =
     ap (λ (l : List (List ℕ)). Some l) (datagrams_first bytes (take n into) rest (some_same _ _ takes))
 entry_comes End into old new takes = (ap (option_map datagrams) takes.0, none_left old takes.1)
+
+-- the datagrams that came of a file were read of it
+come_read : (ds : List (List ℕ)) (old new : Option (List ℕ))
+    → HaveCome ds (option_map datagrams old) (option_map datagrams new) → HasRead ds old new
+come_read ds old None come = come
+come_read ds old (Some rest) come = come
+
+-- and no others came, where then one could not be received
+pub come_until : (way : Way) (ds : List (List ℕ)) (first before now : Seen) (link_first link_before link_now : LinkSeen)
+    → HaveCome ds (coming way first link_first) (coming way before link_before) → KeepsFeed way link_before link_now
+    → LosesPart way before now → HaveComeUntil way ds first link_first now link_now
+come_until (OnFile name) ds first before now link_first link_before link_now come feed lost =
+    (before.rest, come_read ds first.rest before.rest come, lost)
+come_until (OnLink address) ds first before now link_first link_before link_now come feed lost =
+    subst (λ (o : Option (List (List ℕ))). HaveCome ds link_first.feed o) (sym feed) come
+
+prepend_nothing : (o : Option (List ℕ)) → o ≡ prepend_known [] o
+prepend_nothing None = refl
+prepend_nothing (Some bytes) = refl
+
+-- or none was to be
+pub come_whole : (way : Way) (ds : List (List ℕ)) (first now : Seen) (link_first link_now : LinkSeen)
+    → HaveCome ds (coming way first link_first) (coming way now link_now)
+    → HaveComeUntil way ds first link_first now link_now
+come_whole (OnFile name) ds first now link_first link_now come =
+    (now.rest, come_read ds first.rest now.rest come, ([], tt, prepend_nothing now.rest))
+come_whole (OnLink address) ds first now link_first link_now come = come
+
+-- they are the first of those that were to come
+pub until_first : (ds : List (List ℕ)) (first now : Option (List ℕ)) → HasReadUntil ds first now
+    → IfSome first (λ bytes. (more : List (List ℕ)) × (datagrams bytes ≡ ds ++ more))
+until_first ds first now until = HasRead-front ds first until.0 until.1
 
 -- also where there may be none
 pub entry_answers : {E : Type 0} (r : Result Entry E) (into : List ℕ) (old new : Option (List ℕ))

@@ -19,7 +19,7 @@ use Rattle.packet_met.specs.laws.FewestStripesLaws.{all_carry_fewest_in}
 use Rattle.outside_routes.specs.declared.fault.RouteStop.TheVariants as stop
 use Rattle.packet_reading.specs.Begun.{EnteringFailed}
 use Rattle.packet_reading.specs.Layers.{layers_file}
-use Rattle.packet_reading.specs.Opened.{IsBoundTo, IsOpeningUse, PortFailed, PrintedPort}
+use Rattle.packet_reading.specs.Opened.{IsBoundTo, PortFailed, PrintedPort}
 use Rattle.packet_reading.specs.SessionRead.{session_totals_in}
 use Rattle.packet_reading.specs.declared.reading.Totals.{Totals}
 use Rattle.packet_reading.specs.laws.SessionLaws.{read_is, shown_where, session_text, session_numbers}
@@ -33,10 +33,6 @@ use Rattle.pet_byte.specs.declared.breceive.ByteEnd.TheVariants.{Done, NoMemory,
 use Rattle.pet_byte.specs.declared.breceive.ByteEnd.TheVariants.{OutFault, Incomplete, TurnsSpent}
 
 -- what may be blamed is one of the files that are used
-is_used : (from : Way) (layers : List ℕ) (b : Blame) → IsOpeningUse from layers b → IsOneOf (byte_uses_of from layers) b
-is_used (OnFile name) layers b is = is
-is_used (OnLink address) layers b is = is
-
 from_used : (from : Way) (layers : List ℕ) (old new : Seen) → EnteringFailed from old new
     → Failed (byte_uses_of from layers) old new
 from_used (OnFile name) layers old new had = HadFault-since old old new _ _ (omega arith) (λ b is. inl is) had
@@ -49,8 +45,10 @@ layers_used (OnLink address) layers b is = is
 blamed : (from : Way) (session layers : List ℕ) (before after : OutsideSeen)
     → StopsReadingBytes from session layers before after stop.Place
     → Failed (byte_uses_of from layers) before.place after.place
-blamed from session layers before after (inl (had, untouched), port) =
-    HadFault-since before.place before.place after.place _ _ (omega arith) (is_used from layers) had
+blamed from session layers before after (inl (inl opening, untouched), port) =
+    from_used from layers before.place after.place opening.0
+blamed from session layers before after (inl (inr making, untouched), port) =
+    HadFault-since before.place before.place after.place _ _ (omega arith) (layers_used from layers) making.0.0
 blamed from session layers before after (inr (inl (had, whole)), port) =
     from_used from layers before.place after.place had
 blamed from session layers before after (inr (inr (had, front)), port) =
@@ -138,7 +136,7 @@ no_bytes_received (OnFile name) session layers before =
       bound = inl tt;
       later = omega arith;
       out = refl;
-      ends = inl (record { files = refl; feed = tt }, refl);
+      ends = inl (record { place = refl; feed = tt; written = refl });
     }
 no_bytes_received (OnLink address) session layers before =
     record {
@@ -146,5 +144,5 @@ no_bytes_received (OnLink address) session layers before =
       bound = inl refl;
       later = omega arith;
       out = refl;
-      ends = inl (record { files = refl; feed = refl }, refl);
+      ends = inl (record { place = refl; feed = refl; written = refl });
     }

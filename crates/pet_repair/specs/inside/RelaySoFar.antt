@@ -5,7 +5,7 @@ use Rattle.pet_base.specs.Entries.{datagrams}
 use Rattle.pet_base.specs.Seen.{KeepsNames}
 use Rattle.pet_base.specs.LinkSeen.{LinkSeen}
 use Rattle.outside_routes.specs.Way.{Way, OnFile, OnLink}
-use Rattle.outside_routes.specs.Coming.{coming, HaveCome}
+use Rattle.outside_routes.specs.Coming.{coming, HaveCome, HaveComeUntil}
 use Rattle.outside_routes.specs.RouteFaults.{InputFailed, ReceivingFailed}
 use Rattle.outside_routes.specs.declared.fault.RouteStop.TheVariants as stop
 use Rattle.outside_routes.specs.Sending.{Routes, AreFirstDatagrams, OutputFailed, SendingFailed}
@@ -42,10 +42,9 @@ abbrev pub CameFirst : Way → List (List ℕ) → Routes → Routes → Type 0
 CameFirst (OnFile name) read first now = IfSome first.place.rest (λ bytes. AreFirstDatagrams read (datagrams bytes))
 CameFirst (OnLink address) read first now = HaveLeft read first.link.feed now.link.feed
 
--- or exactly these have left it
+-- or these came, and no others
 abbrev pub CameTo : Way → List (List ℕ) → Routes → Routes → Type 0
-CameTo (OnFile name) read first now = IfSome first.place.rest (λ bytes. AreFirstDatagrams read (datagrams bytes))
-CameTo (OnLink address) read first now = HaveCome read first.link.feed now.link.feed
+CameTo from read first now = HaveComeUntil from read first.place first.link now.place now.link
 
 -- what some datagrams that came sent, and no other came
 pub record RelayedUntil (from to : Way) (start : ReceiverState ℕ) (first now : Routes) : Type 0 where

@@ -1,5 +1,5 @@
 -- A session's datagrams are relayed by the rule, from what each end tells.
-use Rattle.std.proofs.Common.{◌≡◌, ◌⊎◌, ℕ, suc, ◌+◌, ◌<◌, Bool, true, false, cond, List, [], ◌∷◌, ◌++◌, length, map, All}
+use Rattle.std.proofs.Common.{◌≡◌, ℕ, suc, ◌+◌, ◌<◌, Bool, true, false, cond, List, [], ◌∷◌, ◌++◌, length, map, All}
 use Rattle.std.proofs.Common.{Option, None, Some, refl, sym, ap, ap₂, subst, ◌∙◌, arith, inl, inr, append_assoc}
 use Rattle.std.specs.Prelude.{◌&&◌, slice_get}
 use Rattle.std.specs.List.{list_all, enumerate_from}
@@ -8,13 +8,11 @@ use Rattle.std.proofs.lemmas.List.{map-append}
 use Rattle.std.proofs.lemmas.List.Elements.{All-nil, All-cons, All-head, All-tail, filter_map-append}
 use Rattle.pet_base.specs.Causes.{Rose}
 use Rattle.pet_base.specs.declared.limits.TheConstants.{MAX_SESSION, MAX_DATAGRAMS}
-use Rattle.pet_base.specs.Entries.{datagrams}
+use Rattle.outside_routes.specs.laws.ComingLaws.{until_first}
 use Rattle.pet_base.specs.OutsideSeen.{OutsideSeen}
 use Rattle.pet_base.specs.Seen.{Files}
 use Rattle.outside_routes.specs.Way.{Way, OnFile, OnLink}
-use Rattle.outside_routes.specs.Coming.{HaveCome}
-use Rattle.outside_routes.specs.RouteFaults.{AimedFailed, BoundFailed}
-use Rattle.outside_routes.specs.Sending.{AreFirstDatagrams}
+use Rattle.outside_routes.specs.Coming.{HasReadUntil, HaveCome}
 use Rattle.store_text.specs.Files.{HasFile}
 use Rattle.packet_reading.specs.Layers.{HaveComeFirst}
 use Rattle.packet_reading.specs.Opened.{PortFailed}
@@ -39,7 +37,7 @@ use Rattle.pet_repair.specs.Arrival.{HaveArrived}
 use Rattle.pet_repair.specs.Repaired.{on_end}
 use Rattle.pet_repair.specs.Relays.{Relayed, Relays, RelaysToUnlike, AreCounts, EndsRelay, StopsAtFile, StopsAtLink}
 use Rattle.pet_repair.specs.Relays.{routes_of}
-use Rattle.pet_repair.specs.laws.RelayUses.{entering_used, writing_used}
+use Rattle.pet_repair.specs.laws.RelayUses.{before_used, entering_used, writing_used}
 use Rattle.pet_repair.specs.Relays.{IsBoundAtRelayEnd, DoesRelay}
 use Rattle.pet_repair.specs.RelaysSession.{CanRelay, RelaysSession, CompletesRelay, relayed_pairs, relayed_datagrams}
 use Rattle.pet_repair.specs.RelaysSession.{relayed_end}
@@ -128,10 +126,11 @@ first_of : (from : Way) (read ds : List (List ℕ)) (files : Files) (before afte
     → before.place.files ≡ Some files → HasDatagrams from files ds before → HaveComeFirst from read before after
     → (more : List (List ℕ)) × (ds ≡ read ++ more)
 first_of (OnFile name) read ds files before after told found input =
-    let at = subst (λ (o : Option Files). HasFile o name (λ bytes. AreFirstDatagrams read (datagrams bytes))) told
+    let at = subst (λ (o : Option Files). HasFile o name (λ bytes. HasReadUntil read (Some bytes) after.place.rest)) told
     input in
-    let is = subst (λ (b : List ℕ). AreFirstDatagrams read (datagrams b))
+    let until = subst (λ (b : List ℕ). HasReadUntil read (Some b) after.place.rest)
     (some_same at.0 found.0 (sym at.1 ∙ found.1)) at.2 in
+    let is = until_first read (Some found.0) after.place.rest until in
     (is.0, sym found.2 ∙ is.1)
 first_of (OnLink address) read ds files before after told found input =
     come_of read ds before.link.feed after.link.feed found input
@@ -231,19 +230,16 @@ module _ (s : Session) (from to : Way) (files : Files) (ds : List (List ℕ)) (b
   relayed_so PlaceFault is bound ends = absurd (place ends.0)
     where
       place : StopsAtFile from s.number to before after → ⊥
-      place (inl stops) = can.well.place stops.0
+      place (inl stops) = can.well.place (before_used from to before after stops.0)
       place (inr (inl stops)) = can.well.place (entering_used from to before.place after.place stops.0)
       place (inr (inr stops)) = can.well.place (writing_used from to before.place after.place stops.0)
   relayed_so LinkFault is bound ends = absurd (link ends)
     where
-      either : BoundFailed from before.link after.link ⊎ AimedFailed to before.link after.link → ⊥
-      either (inl failed) = can.bound failed
-      either (inr failed) = can.aimed failed
-
       link : StopsAtLink from s.number to before after → ⊥
-      link (inl stops) = either stops.0
-      link (inr (inl stops)) = can.bound stops.0
-      link (inr (inr stops)) = can.aimed stops.0
+      link (inl stops) = can.bound stops.0
+      link (inr (inl stops)) = can.aimed stops.0
+      link (inr (inr (inl stops))) = can.bound stops.0
+      link (inr (inr (inr stops))) = can.aimed stops.0
 
 pub completes_relay : (from : Way) (session : List ℕ) (to : Way) (before after : OutsideSeen) (end : RelayEnd)
     → DoesRelay from session to before after end → CompletesRelay from session to before after end
@@ -259,19 +255,31 @@ nothing_relayed (OnFile name) session (OnFile other) now = record {
   kept = refl;
   later = omega arith;
   out = refl;
-  ends = inl (record { untouched = record { files = refl; feed = tt }; sent = refl }, refl);
+  ends =
+      inl (
+        record { untouched = record { files = refl; feed = tt }; sent = refl },
+        record { place = refl; feed = tt; written = refl },
+      );
 }
 nothing_relayed (OnFile name) session (OnLink address) now = record {
   bound = inl tt;
   kept = refl;
   later = omega arith;
   out = refl;
-  ends = inl (record { untouched = record { files = refl; feed = tt }; sent = refl }, refl);
+  ends =
+      inl (
+        record { untouched = record { files = refl; feed = tt }; sent = refl },
+        record { place = refl; feed = tt; written = refl },
+      );
 }
 nothing_relayed (OnLink address) session to now = record {
   bound = inl refl;
   kept = tt;
   later = omega arith;
   out = refl;
-  ends = inl (record { untouched = record { files = refl; feed = refl }; sent = refl }, refl);
+  ends =
+      inl (
+        record { untouched = record { files = refl; feed = refl }; sent = refl },
+        record { place = refl; feed = refl; written = refl },
+      );
 }

@@ -24,4 +24,5 @@ returns-clause-stop g c =
     outside.steps.now in
     mapped_err (StopsBeginning (OnFile c.args.name.now) (seen outside) after) _
     c.enter.result c.map_err.result stop.Place (λ e x is. search rules) c.map_err.ensures.cases
-    (not_entered c.args.name.now (seen outside) after c.enter.result c.enter.ensures.others c.enter.ensures.cause refl)
+    (not_entered c.args.name.now (seen outside) after c.enter.result c.enter.ensures.others c.enter.ensures.cause
+    c.enter.ensures.left refl)

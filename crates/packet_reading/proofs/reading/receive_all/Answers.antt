@@ -53,7 +53,7 @@ returns-in_err-next_datagram-clause-stopped g c =
     (stopped_so_far t P coding failed from set c.loop-turn.turn first before now link_first link_before link_now
     c.loop-turn.receiver c.args.steps.now c.loop-turn.steps c.loop-turn.invariant.so_far
     (omega arith) c.loop-turn.invariant.names c.loop-turn.invariant.place_later c.loop-turn.invariant.receives
-    c.loop-turn.invariant.link_later c.in_err-next_datagram.ensures.feed
+    c.loop-turn.invariant.link_later c.in_err-next_datagram.ensures.feed c.in_err-next_datagram.ensures.part
     c.next_datagram.ensures.others.place.files c.in_err-next_datagram.ensures.cause)
 
 pub returns-in_err-next_datagram-clause-link : goal.returns-in_err-next_datagram-clause-link

@@ -39,7 +39,7 @@ returns-in_err-next_datagram-clause-stopped g c =
     c.from_residual.ensures.1
     (stops_taking from to c.args.receiver.now c.loop-turn.turn first before now c.loop-turn.receiver
     c.loop-turn.invariant.so_far c.loop-turn.invariant.later c.next_datagram.ensures.others (omega arith) failed
-    c.in_err-next_datagram.ensures.feed c.in_err-next_datagram.ensures.cause)
+    c.in_err-next_datagram.ensures.feed c.in_err-next_datagram.ensures.part c.in_err-next_datagram.ensures.cause)
 
 pub returns-in-End-clause-done : goal.returns-in-End-clause-done
 returns-in-End-clause-done g c =
