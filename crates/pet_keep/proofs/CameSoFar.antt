@@ -5,12 +5,11 @@ use Rattle.std.specs.Prelude.{IfErr, IfSome, IsErrAnd, Result, Ok, Err}
 use Rattle.std.proofs.lemmas.List.{length_push}
 use Rattle.outside_disk.specs.Disk.{DiskSeen, Between, LeavesOnly}
 use Rattle.outside_disk.specs.laws.DiskLaws.{between_same, between_then, only_same, only_then, only_weaker}
-use Rattle.outside_routes.specs.Coming.{coming, HaveCome, KeepsFeed, TakesDatagram}
-use Rattle.outside_routes.specs.RouteFaults.{IsFailure, InputFailed, ReceivingFailed}
+use Rattle.outside_routes.specs.Coming.{coming, HaveCome, KeepsFeed, LosesPart, TakesDatagram}
 use Rattle.outside_routes.specs.Way.{Way, OnFile, OnLink}
 use Rattle.outside_routes.specs.declared.fault.RouteFailed.{RouteFailed}
 use Rattle.outside_routes.specs.declared.fault.RouteFailed.TheVariants as failed
-use Rattle.outside_routes.specs.laws.ComingLaws.{come_front, come_more, come_nothing}
+use Rattle.outside_routes.specs.laws.ComingLaws.{come_front, come_more, come_nothing, come_until}
 use Rattle.packet_verdicts.specs.KeptSet.{KeptSet}
 use Rattle.packet_verdicts.specs.Verdicts.{after, after_all, after_all_in}
 use Rattle.packet_verdicts.specs.laws.KeptSetLaws.{after_more}
@@ -26,7 +25,7 @@ use Rattle.store_keeper.specs.laws.KeepLaws.{after_limit, after_session}
 use Rattle.pet_keep.specs.Journaled.{AreFirst}
 use Rattle.pet_keep.specs.declared.stop.KeepStop.{KeepStop}
 use Rattle.pet_keep.specs.declared.stop.KeepStop.TheVariants as stop
-use Rattle.pet_keep.specs.inside.SoFar.{AllStand, CameAll, CameTo, IsKeepStop, StandsAfterFirst, StopsKeeping}
+use Rattle.pet_keep.specs.inside.SoFar.{AllStand, CameAll, CameTo, CameUntil, IsKeepStop, StandsAfterFirst, StopsKeeping}
 use Rattle.pet_keep.specs.inside.SoFar.{IsEndOf, end_of, of_an_output, of_failed, of_fault, of_route, of_stop}
 use Rattle.outside_routes.specs.declared.fault.RouteStop.{RouteStop}
 use Rattle.outside_routes.specs.declared.fault.RouteStop.TheVariants as route
@@ -78,28 +77,6 @@ module _ (first : KeptSet) (n : ℕ) (all left : Option (List (List ℕ))) (now 
       subst (λ m. CameAll first m all left now) is
       (record { so_far = came; few = omega (arith, is); ended = λ lt. absurd (omega (arith, is, lt)) })
 
-  -- nothing could be received
-  pub came_until : (failed : RouteFailed) (from : Way) (disk : DiskSeen) (place_before place_now : Seen)
-      (link_before link_now : LinkSeen) → n < MAX_DATAGRAMS → left ≡ coming from place_before link_before
-      → KeepsFeed from link_before link_now
-      → IsFailure (InputFailed from place_before place_now) (ReceivingFailed from link_before link_now) failed
-      → AllStand now disk → StopsKeeping first all (coming from place_now link_now) now disk (of_failed failed)
-  came_until failed.Place from disk place_before place_now link_before link_now few is feed cause stands = tt
-  came_until failed.Link (OnFile name) disk place_before place_now link_before link_now few is feed cause stands =
-      absurd cause
-  came_until failed.Link (OnLink address) disk place_before place_now link_before link_now few is feed cause stands =
-      record {
-        count = n;
-        so_far = record {
-          read = came.read;
-          many = came.many;
-          rest = subst (λ (o : Option (List (List ℕ))). HaveCome came.read all o) (is ∙ sym feed) came.rest;
-          kept = came.kept;
-        };
-        few = omega (arith, few);
-        stands = stands;
-      }
-
   -- the datagrams that have come are the first ones
   first_read : AreFirst came.read all
   first_read = come_front came.read all left came.rest
@@ -136,6 +113,27 @@ module _ (first : KeptSet) (n : ℕ) (all left : Option (List (List ℕ))) (now 
       (λ x y z p q. only_then P x y z p (only_weaker Q P y z (λ t. with_one (take len into) t next_left step) q))
       a b c so_far more
 
+-- nothing could be received
+module _ (first : KeptSet) (n : ℕ) (from : Way) (place_first place_before place_now : Seen)
+    (link_first link_before link_now : LinkSeen) (now : KeptSet)
+    (came : CameTo first n (coming from place_first link_first) (coming from place_before link_before) now)
+    (few : n < MAX_DATAGRAMS) (feed : KeepsFeed from link_before link_now) (lost : LosesPart from place_before place_now)
+    (disk : DiskSeen) (stands : AllStand now disk) where
+  until : CameUntil first from place_first link_first place_now link_now now disk
+  until = record {
+    read = came.read;
+    few = omega (arith, came.many, few);
+    come =
+        come_until from came.read place_first place_before place_now link_first link_before link_now came.rest feed lost;
+    kept = came.kept;
+    stands = stands;
+  }
+
+  pub came_until : (failed : RouteFailed)
+      → StopsKeeping first from place_first link_first place_now link_now now disk (of_failed failed)
+  came_until failed.Place = until
+  came_until failed.Link = until
+
 -- nothing was done
 pub leaves_none : (P : List ℕ → Type 0) (a : DiskSeen) → Between (LeavesOnly P) a a
 leaves_none P a = between_same (LeavesOnly P) (only_same P) a
@@ -156,14 +154,15 @@ fault_cause keep.DiskFault rose going told = told refl
 pub true_false : (b : Bool) → b ≡ true → b ≡ false → ⊥
 true_false b p q = cc
 
--- no failure of a keeper is one of the link
-pub keeps_no_link : (why : KeepStop) (rose : Type 0) (first : KeptSet) (all left : Option (List (List ℕ))) (now : KeptSet)
-    (disk : DiskSeen) → IsKeepStop ⊥ ⊥ ⊥ rose why → StopsKeeping first all left now disk why
-keeps_no_link stop.NoMemory rose first all left now disk cause = tt
-keeps_no_link stop.Place rose first all left now disk cause = absurd cause
-keeps_no_link stop.Link rose first all left now disk cause = absurd cause
-keeps_no_link stop.Out rose first all left now disk cause = absurd cause
-keeps_no_link stop.Disk rose first all left now disk cause = tt
+-- no failure of a keeper is one of FROM
+pub keeps_no_link : (why : KeepStop) (rose : Type 0) (first : KeptSet) (from : Way) (place_old : Seen)
+    (link_old : LinkSeen) (place_new : Seen) (link_new : LinkSeen) (now : KeptSet) (disk : DiskSeen)
+    → IsKeepStop ⊥ ⊥ ⊥ rose why → StopsKeeping first from place_old link_old place_new link_new now disk why
+keeps_no_link stop.NoMemory rose first from place_old link_old place_new link_new now disk cause = tt
+keeps_no_link stop.Place rose first from place_old link_old place_new link_new now disk cause = absurd cause
+keeps_no_link stop.Link rose first from place_old link_old place_new link_new now disk cause = absurd cause
+keeps_no_link stop.Out rose first from place_old link_old place_new link_new now disk cause = absurd cause
+keeps_no_link stop.Disk rose first from place_old link_old place_new link_new now disk cause = tt
 
 -- only reading was done
 pub reads_same : (s : Seen) → OnlyReads s s

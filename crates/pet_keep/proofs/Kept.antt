@@ -4,15 +4,16 @@ use Rattle.std.proofs.Common.{ap, subst, ◌∙◌, arith, inl, inr}
 use Rattle.std.specs.Prelude.{IfSome, IsSome, option_map}
 use Rattle.packet_reading.specs.Begun.{Begins, Begun, LinkReceives, StopsBeginning, EnteringFailed}
 use Rattle.packet_reading.specs.Opened.{IsBoundTo, IsUntouched, PrintedPort}
-use Rattle.packet_reading.specs.Layers.{IsRead}
+use Rattle.packet_reading.specs.Layers.{HaveComeFirst, IsRead}
 use Rattle.packet_reading.specs.declared.reading.Totals.{Totals}
-use Rattle.packet_reading.specs.laws.BegunLaws.{begun_bound, is_read, link_failed, port_printed, still_bound}
+use Rattle.packet_reading.specs.laws.BegunLaws.{begun_bound, file_read_until, is_read, link_failed, port_printed}
+use Rattle.packet_reading.specs.laws.BegunLaws.{still_bound}
 use Rattle.outside_disk.specs.Disk.{Between, DiskSeen, LeavesOnly}
 use Rattle.outside_files.specs.Inputs.{Licensed}
 use Rattle.outside_files.specs.Printed.{Unprinted}
-use Rattle.outside_files.specs.Uses.{IsOneOf, Failed, reading, writing}
+use Rattle.outside_files.specs.Uses.{Failed, reading, writing}
 use Rattle.outside_files.specs.Wrote.{File, Wrote, with_files}
-use Rattle.outside_routes.specs.Coming.{coming, HaveCome, KeepsFeed}
+use Rattle.outside_routes.specs.Coming.{coming, HaveCome, HaveComeUntil, KeepsFeed}
 use Rattle.outside_routes.specs.RouteFaults.{BoundFailed, InputFailed, ReceivingFailed}
 use Rattle.outside_routes.specs.Way.{Way, OnFile, OnLink}
 use Rattle.outside_routes.specs.laws.ComingLaws.{come_nothing}
@@ -27,12 +28,13 @@ use Rattle.pet_base.specs.declared.limits.TheConstants.{MAX_DATAGRAMS}
 use Rattle.pet_base.specs.declared.place.Side.TheVariants.{Read}
 use Rattle.pet_base.specs.Entries.{datagrams}
 use Rattle.pet_base.specs.OutsideSeen.{OutsideSeen}
-use Rattle.pet_base.specs.Seen.{Blame, Files, HadFault, Seen, bytes_at}
+use Rattle.pet_base.specs.Seen.{Files, Seen, bytes_at}
 use Rattle.pet_base.specs.laws.SeenLaws.{Blames-named, HadFault-since}
 use Rattle.pet_receive.specs.ShownBytes.{IsComplete, shown_in_all}
 use Rattle.store_text.specs.Files.{store_file}
 use Rattle.pet_keep.specs.Journaled.{DiskNow, datagrams_in, offered}
-use Rattle.pet_keep.specs.Keeps.{AreTotals, EndsFrom, IsUseInTurn, KeepsAll, KeepsFiles, KeepsUntilFault, LeavesFront}
+use Rattle.pet_keep.specs.Keeps.{AreTotals, EndsFrom, KeepsAll, KeepsFiles, KeepsUntilFault, LeavesFront}
+use Rattle.pet_keep.specs.Keeps.{StoresPart}
 use Rattle.pet_keep.specs.declared.end.KeepEnd.{KeepEnd}
 use Rattle.pet_keep.specs.declared.end.KeepEnd.TheVariants as end
 use Rattle.pet_keep.specs.declared.stop.KeepStop.{KeepStop}
@@ -157,35 +159,46 @@ module _ (first : KeptSet) (from : Way) (store : List ℕ) (n : ℕ) (before ope
             (subst (λ (set : KeptSet). Wrote [] (Some (store_file store set)) new.place stored.place) kept wrote);
       })
 
-  store_used : (w : Way) → IsRead w came.so_far.read before stored → (b : Blame) → IsOneOf (writing store ∷ []) b
-      → IsUseInTurn w store before stored b
-  store_used (OnFile name) input b is = inr (is, (came.so_far.read, input))
-  store_used (OnLink address) input b is = (is, (came.so_far.read, input))
+  stores_part : (stored.place.files ≡ new.place.files) ⊎ Wrote [] (Some (store_file store now)) new.place stored.place
+      → AllStand now disk.seen → StoresPart first from store before stored disk.seen
+  stores_part front stands = record {
+    read = came.so_far.read;
+    few = few_read;
+    input = input_read;
+    files = by front;
+    stands = subst (λ (set : KeptSet). AllStand set disk.seen) kept stands;
+  }
+    where
+      by : (stored.place.files ≡ new.place.files) ⊎ Wrote [] (Some (store_file store now)) new.place stored.place
+          → KeepsFiles before stored
+          ⊎ Wrote [] (Some (store_file store (after_all first came.so_far.read))) before.place stored.place
+      by (inl same) = inl (same ∙ files ∙ untouched.files)
+      by (inr wrote) =
+          inr (wrote_since [] (Some (store_file store (after_all first came.so_far.read))) before.place opened.place
+          new.place stored.place untouched.files files
+          (subst (λ (set : KeptSet). Wrote [] (Some (store_file store set)) new.place stored.place) kept wrote))
 
   -- the end, where it was not
   pub ends_storing : (why : Stop) → (stored.place.files ≡ new.place.files)
       ⊎ Wrote [] (Some (store_file store now)) new.place stored.place → before.place.faults ≤ new.place.faults
-      → Licensed (Failed (writing store ∷ []) new.place stored.place) why
+      → Licensed (Failed (writing store ∷ []) new.place stored.place) why → AllStand now disk.seen
       → EndsFrom first from store before stored old disk (end_of (of_stop why))
-  ends_storing place.NoMemory front later cause = (leaves_front front, inr port)
-  ends_storing place.Failed front later cause = (
-    HadFault-since before.place new.place stored.place _ _ later (store_used from input_read) cause,
-    leaves_front front,
+  ends_storing place.NoMemory front later cause stands = (leaves_front front, inr port)
+  ends_storing place.Failed front later cause stands = (
+    inr (inr (
+      HadFault-since before.place new.place stored.place _ _ later (λ b is. is) cause,
+      stores_part front stands,
+    )),
     port,
   )
 
-entering : (from : Way) (store : List ℕ) (before after : OutsideSeen) → EnteringFailed from before.place after.place
-    → Unprinted before after
-    → HadFault before.place after.place (IsUseInTurn from store before after) × PrintedPort from before after
-entering (OnFile name) store before after had written = (
-  HadFault-since before.place before.place after.place (λ b. b ≡ reading name)
-      (IsUseInTurn (OnFile name) store before after) (omega arith) (λ b is. inl is) had,
-  written,
-)
-entering (OnLink address) store before after had written = absurd had
+entering : (from : Way) (before after : OutsideSeen) → EnteringFailed from before.place after.place
+    → Unprinted before after → PrintedPort from before after
+entering (OnFile name) before after had written = written
+entering (OnLink address) before after had written = absurd had
 
 nothing_come : (from : Way) (before after : OutsideSeen) → BoundFailed from before.link after.link
-    → KeepsFeed from before.link after.link → HaveCome [] before.link.feed after.link.feed
+    → KeepsFeed from before.link after.link → HaveComeFirst from [] before after
 nothing_come (OnFile name) before after failed feed = absurd failed
 nothing_come (OnLink address) before after failed feed =
     subst (λ (o : Option (List (List ℕ))). HaveCome [] before.link.feed o) (sym feed) (come_nothing before.link.feed)
@@ -195,9 +208,10 @@ pub ends_beginning : (why : RouteStop) (first : KeptSet) (from : Way) (store : L
     (old disk : DiskNow) → StopsBeginning from before after why → AllStand first disk.seen
     → EndsFrom first from store before after old disk (end_of (of_route why))
 unfolding after_all_in
-ends_beginning route.NoMemory first from store before after old disk stops stands = (inl stops.0.files, inl stops.1)
+ends_beginning route.NoMemory first from store before after old disk stops stands =
+    (inl (ap (λ (s : Seen). s.files) stops.place), inl stops.written)
 ends_beginning route.Place first from store before after old disk stops stands =
-    let had = entering from store before after stops.2 stops.1 in (had.0, inl stops.0.files, had.1)
+    (inl (stops.2, stops.0.files, stands), entering from before after stops.2.0 stops.1)
 ends_beginning route.Link first from store before after old disk stops stands = (
   stops.2,
   record {
@@ -211,29 +225,32 @@ ends_beginning route.Link first from store before after old disk stops stands = 
 )
 ends_beginning route.Out first from store before after old disk stops stands = stops
 
--- the input is blamed in its turn
-input_used : (from : Way) (store : List ℕ) (before opened new : OutsideSeen) → Begun from before opened
+-- the input is blamed
+input_failed : (from : Way) (before opened new : OutsideSeen) → Begun from before opened
     → before.place.faults ≤ opened.place.faults → InputFailed from opened.place new.place
-    → HadFault before.place new.place (IsUseInTurn from store before new)
-input_used (OnFile name) store before opened new begun later had =
-    HadFault-since before.place opened.place new.place (Blames Read opened.place.source)
-    (IsUseInTurn (OnFile name) store before new) later
-    (λ b is. inl (Blames-named before.place.files opened.place.source name Read b begun.source is)) had
-input_used (OnLink address) store before opened new begun later had = absurd had
+    → EnteringFailed from before.place new.place
+input_failed (OnFile name) before opened new begun later had =
+    HadFault-since before.place opened.place new.place (Blames Read opened.place.source) (λ b. b ≡ reading name) later
+    (λ b is. Blames-named before.place.files opened.place.source name Read b begun.source is) had
+input_failed (OnLink address) before opened new begun later had = absurd had
+
+come_first : (from : Way) (read : List (List ℕ)) (before opened new : OutsideSeen) → Begun from before opened
+    → HaveComeUntil from read opened.place opened.link new.place new.link → HaveComeFirst from read before new
+come_first (OnFile name) read before opened new begun came =
+    file_read_until name read before opened new.place.rest begun came
+come_first (OnLink address) read before opened new begun came =
+    subst (λ (o : Option (List (List ℕ))). HaveCome read o new.link.feed) begun.others.feed came
 
 came_since : (from : Way) (first now : KeptSet) (before opened new : OutsideSeen) (disk : DiskSeen)
-    → Begun from before opened → KeepsFiles before new → ReceivingFailed from opened.link new.link
-    → CameUntil first (coming from opened.place opened.link) (coming from new.place new.link) now disk
-    → KeepsUntilFault first before new disk
-came_since (OnFile name) first now before opened new disk begun files failed came = absurd failed
-came_since (OnLink address) first now before opened new disk begun files failed came = record {
-  read = came.so_far.read;
-  few = omega (arith, came.so_far.many, came.few);
-  come =
-      subst (λ (o : Option (List (List ℕ))). HaveCome came.so_far.read o new.link.feed) begun.others.feed
-      came.so_far.rest;
+    → Begun from before opened → KeepsFiles before new
+    → CameUntil first from opened.place opened.link new.place new.link now disk
+    → KeepsUntilFault first from before new disk
+came_since from first now before opened new disk begun files came = record {
+  read = came.read;
+  few = came.few;
+  come = come_first from came.read before opened new begun came.come;
   files = files;
-  stands = subst (λ (set : KeptSet). AllStand set disk) came.so_far.kept came.stands;
+  stands = subst (λ (set : KeptSet). AllStand set disk) came.kept came.stands;
 }
 
 -- while datagrams came
@@ -241,7 +258,7 @@ pub ends_keeping : (why : KeepStop) (first : KeptSet) (from : Way) (store : List
     (now : KeptSet) (old disk : DiskNow) → Begins from before opened → IsUntouched from before opened
     → before.place.faults ≤ opened.place.faults → before.link.faults ≤ opened.link.faults
     → LinkReceives from opened.link new.link → new.place.files ≡ opened.place.files → new.written ≡ opened.written
-    → StopsKeeping first (coming from opened.place opened.link) (coming from new.place new.link) now disk.seen why
+    → StopsKeeping first from opened.place opened.link new.place new.link now disk.seen why
     → IsKeepStop (InputFailed from opened.place new.place) (ReceivingFailed from opened.link new.link) ⊥
     (Rose old.faults disk.faults) why → EndsFrom first from store before new old disk (end_of why)
 ends_keeping stop.NoMemory first from store before opened new now old disk begins untouched place_later link_later
@@ -249,14 +266,16 @@ ends_keeping stop.NoMemory first from store before opened new now old disk begin
     (inl (files ∙ untouched.files), inr (port_printed from before opened new receives printed begins.printed))
 ends_keeping stop.Place first from store before opened new now old disk begins untouched place_later link_later
     receives files printed stops cause = (
-      input_used from store before opened new begins.begun place_later cause,
-      inl (files ∙ untouched.files),
+      inr (inl (
+        input_failed from before opened new begins.begun place_later cause,
+        came_since from first now before opened new disk.seen begins.begun (files ∙ untouched.files) stops,
+      )),
       port_printed from before opened new receives printed begins.printed,
     )
 ends_keeping stop.Link first from store before opened new now old disk begins untouched place_later link_later
     receives files printed stops cause = (
       link_failed from before opened new begins.begun link_later cause,
-      came_since from first now before opened new disk.seen begins.begun (files ∙ untouched.files) cause stops,
+      came_since from first now before opened new disk.seen begins.begun (files ∙ untouched.files) stops,
       inr (port_printed from before opened new receives printed begins.printed),
     )
 ends_keeping stop.Out first from store before opened new now old disk begins untouched place_later link_later

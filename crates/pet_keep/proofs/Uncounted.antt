@@ -47,7 +47,8 @@ port_failed (OnLink address) before after is = front _ before after is
 
 pub stops_beginning : (why : RouteStop) (from : Way) (before after : OutsideSeen) → StopsBeginning from before after why
     → StopsBeginning from (uncounted before) (uncounted after) why
-stops_beginning route.NoMemory from before after is = (untouched from before after is.0, is.1)
+stops_beginning route.NoMemory from before after is =
+    record { place = is.place; feed = is.feed; written = is.written }
 stops_beginning route.Place from before after is = (untouched from before after is.0, is.1, is.2)
 stops_beginning route.Link from before after is = (untouched from before after is.0, is.1, is.2)
 stops_beginning route.Out from before after is =

@@ -1,12 +1,12 @@
 -- What `keep` leaves at each of its ends. This project's own.
 use Rattle.std.specs.Prelude.{Bool, true, false, ℕ, ◌≡◌, ◌⊎◌, ◌<◌, ◌≤◌, List, [], ◌∷◌, length, None, Some, Err}
-use Rattle.packet_reading.specs.Begun.{OutStops}
+use Rattle.packet_reading.specs.Begun.{EnteringFailed, OpeningFailed, OutStops}
 use Rattle.packet_reading.specs.Opened.{IsBoundTo, IsUntouched, KeepsLink, PortFailed, PrintedPort}
-use Rattle.packet_reading.specs.Layers.{IsRead}
+use Rattle.packet_reading.specs.Layers.{HaveComeFirst, IsRead}
 use Rattle.packet_reading.specs.declared.reading.Totals.{Totals}
 use Rattle.outside_disk.specs.Disk.{Between, DiskSeen, IfTold, Reads}
 use Rattle.outside_files.specs.Printed.{Unprinted}
-use Rattle.outside_files.specs.Uses.{reading, writing}
+use Rattle.outside_files.specs.Uses.{writing}
 use Rattle.outside_files.specs.Wrote.{Wrote}
 use Rattle.outside_routes.specs.Coming.{HaveCome}
 use Rattle.outside_routes.specs.RouteFaults.{BoundFailed}
@@ -17,7 +17,7 @@ use Rattle.pet_base.specs.Causes.{Rose}
 use Rattle.pet_base.specs.declared.limits.TheConstants.{MAX_DATAGRAMS}
 use Rattle.pet_base.specs.LinkSeen.{LinkSeen}
 use Rattle.pet_base.specs.OutsideSeen.{OutsideSeen}
-use Rattle.pet_base.specs.Seen.{Blame, HadFault}
+use Rattle.pet_base.specs.Seen.{HadFault}
 use Rattle.pet_receive.specs.ShownBytes.{IsComplete, shown_in_all}
 use Rattle.store_journal.specs.declared.fault.StartFault.{StartFault}
 use Rattle.store_journal.specs.declared.fault.StartFault.TheVariants as start
@@ -56,22 +56,34 @@ KeepsFiles before after = after.place.files ≡ before.place.files
 abbrev pub LeavesFront : KeptSet → Way → List ℕ → OutsideSeen → OutsideSeen → Type 0
 LeavesFront first from store before after = KeepsFiles before after ⊎ StoresFront first from store before after
 
--- The link failed while datagrams were to come: whatever a crash leaves of the journal stands for what it had with those
--- handed to it that have left the link. No file has changed.
-pub record KeepsUntilFault (first : KeptSet) (before after : OutsideSeen) (disk : DiskSeen) : Type 0 where
+-- FROM failed, a file or the link, while datagrams were to come: whatever a crash leaves of the journal stands for what it
+-- had with those handed to it that came. No file has changed.
+pub record KeepsUntilFault (first : KeptSet) (from : Way) (before after : OutsideSeen) (disk : DiskSeen) : Type 0 where
   pub read : List (List ℕ)
   pub few : length read ≤ MAX_DATAGRAMS
-  pub come : HaveCome read before.link.feed after.link.feed
+  pub come : HaveComeFirst from read before after
   pub files : KeepsFiles before after
   pub stands : IfTold disk (EachNow (StandsFor (after_all first read)))
 
--- what may be blamed in its turn: FROM, where it is a file, and STORE where the datagrams of FROM were read
-abbrev pub IsUseInTurn : Way → List ℕ → OutsideSeen → OutsideSeen → Blame → Type 0
-IsUseInTurn (OnFile name) store before after blame =
-    (blame ≡ reading name)
-    ⊎ ((blame ≡ writing store) × ((read : List (List ℕ)) × IsRead (OnFile name) read before after))
-IsUseInTurn (OnLink address) store before after blame =
-    (blame ≡ writing store) × ((read : List (List ℕ)) × IsRead (OnLink address) read before after)
+-- The datagrams of FROM were read, and whatever a crash leaves of the journal stands for what it had with these handed to
+-- it. STORE was not made, or has a front of that store.
+pub record StoresPart (first : KeptSet) (from : Way) (store : List ℕ) (before after : OutsideSeen)
+    (disk : DiskSeen) : Type 0 where
+  pub read : List (List ℕ)
+  pub few : length read ≤ MAX_DATAGRAMS
+  pub input : IsRead from read before after
+  pub files : KeepsFiles before after
+      ⊎ Wrote [] (Some (store_file store (after_all first read))) before.place after.place
+  pub stands : IfTold disk (EachNow (StandsFor (after_all first read)))
+
+-- Where the place failed: FROM, a file, could not be opened, and the journal stands for what it did; or FROM failed behind
+-- that; or STORE failed, once the datagrams of FROM were read.
+abbrev pub StopsAtFile : KeptSet → Way → List ℕ → OutsideSeen → OutsideSeen → DiskSeen → Type 0
+StopsAtFile first from store before after disk =
+    (OpeningFailed from before.place after.place × KeepsFiles before after × IfTold disk (EachNow (StandsFor first)))
+    ⊎ (EnteringFailed from before.place after.place × KeepsUntilFault first from before after disk)
+    ⊎ (HadFault before.place after.place (λ blame. blame ≡ writing store)
+    × StoresPart first from store before after disk)
 
 -- no more than 16,777,216 datagrams have left the link
 abbrev pub FewHaveLeft : Way → LinkSeen → LinkSeen → Type 0
@@ -123,11 +135,10 @@ EndsFrom first from store before after old new (TurnsSpent totals) =
 EndsFrom first from store before after old new NoMemory =
     LeavesFront first from store before after × MayPrintPort from before after
 EndsFrom first from store before after old new PlaceFault =
-    HadFault before.place after.place (IsUseInTurn from store before after)
-    × LeavesFront first from store before after × PrintedPort from before after
+    StopsAtFile first from store before after new.seen × PrintedPort from before after
 EndsFrom first from store before after old new LinkFault =
     BoundFailed from before.link after.link
-    × KeepsUntilFault first before after new.seen × MayPrintPort from before after
+    × KeepsUntilFault first from before after new.seen × MayPrintPort from before after
 EndsFrom first from store before after old new OutFault =
     IsUntouched from before after × PortFailed from before after
 EndsFrom first from store before after old new DiskFault =

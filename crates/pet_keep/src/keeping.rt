@@ -144,10 +144,9 @@ fn keep_all<D: Disk, P: Place, K: Link, L: Ledger>(
         (coming (way_of from.entry) (P.seen place.old) (K.seen link.old))
         (coming (way_of from.entry) (P.seen place.new) (K.seen link.new)) (kept_set keeper.new.receiver)) }
     ensures stands { OnOk result (AllStand (kept_set keeper.new.receiver) (D.seen keeper.new.disk)) }
-    ensures stopped { IfErr result (StopsKeeping (kept_set keeper.old.receiver)
-        (coming (way_of from.entry) (P.seen place.old) (K.seen link.old))
-        (coming (way_of from.entry) (P.seen place.new) (K.seen link.new)) (kept_set keeper.new.receiver)
-        (D.seen keeper.new.disk)) }
+    ensures stopped { IfErr result (StopsKeeping (kept_set keeper.old.receiver) (way_of from.entry)
+        (P.seen place.old) (K.seen link.old) (P.seen place.new) (K.seen link.new)
+        (kept_set keeper.new.receiver) (D.seen keeper.new.disk)) }
     ensures images { Between (LeavesOnly (StandsAfterFirst (kept_set keeper.old.receiver)
         (coming (way_of from.entry) (P.seen place.old) (K.seen link.old)))) (D.seen keeper.old.disk)
         (D.seen keeper.new.disk) }

@@ -2,11 +2,14 @@
 -- datagrams is stored.
 use Rattle.std.specs.Prelude.{ℕ, ◌≡◌, ◌≢◌, ◌<◌, ◌≤◌, Bool, true, false, List, [], length, Option, IfSome}
 use Rattle.outside_disk.specs.Disk.{DiskSeen, IfTold}
-use Rattle.outside_routes.specs.Coming.{HaveCome}
+use Rattle.outside_routes.specs.Coming.{HaveCome, HaveComeUntil}
+use Rattle.outside_routes.specs.Way.{Way}
 use Rattle.packet_reading.specs.declared.reading.Totals.{Totals}
 use Rattle.packet_verdicts.specs.KeptSet.{KeptSet, kept_in_all}
 use Rattle.pet_receive.specs.ShownBytes.{IsComplete, shown_in_all}
 use Rattle.packet_verdicts.specs.Verdicts.{after_all}
+use Rattle.pet_base.specs.LinkSeen.{LinkSeen}
+use Rattle.pet_base.specs.Seen.{Seen}
 use Rattle.pet_base.specs.declared.limits.TheConstants.{MAX_DATAGRAMS}
 use Rattle.store_keeper.specs.Journal.{StandsFor}
 use Rattle.store_keeper.specs.Keeper.{EachNow}
@@ -104,21 +107,23 @@ pub record CameAll (first : KeptSet) (n : ℕ) (all left : Option (List (List �
   pub few : n ≤ MAX_DATAGRAMS
   pub ended : n < MAX_DATAGRAMS → IfSome left (λ more. more ≡ [])
 
--- where the link failed, the receiver has all that has come, and so has what a crash leaves
-pub record CameUntil (first : KeptSet) (all left : Option (List (List ℕ))) (now : KeptSet)
-    (disk : DiskSeen) : Type 0 where
-  pub count : ℕ
-  pub so_far : CameTo first count all left now
-  pub few : count ≤ MAX_DATAGRAMS
+-- where FROM failed, the receiver has all that has come, and so has what a crash leaves
+pub record CameUntil (first : KeptSet) (from : Way) (place_old : Seen) (link_old : LinkSeen) (place_new : Seen)
+    (link_new : LinkSeen) (now : KeptSet) (disk : DiskSeen) : Type 0 where
+  pub read : List (List ℕ)
+  pub few : length read ≤ MAX_DATAGRAMS
+  pub come : HaveComeUntil from read place_old link_old place_new link_new
+  pub kept : now ≡ after_all first read
   pub stands : AllStand now disk
 
-abbrev pub StopsKeeping : KeptSet → Option (List (List ℕ)) → Option (List (List ℕ)) → KeptSet → DiskSeen → KeepStop
-    → Type 0
-StopsKeeping first all left now disk stop.NoMemory = Unit {0}
-StopsKeeping first all left now disk stop.Place = Unit {0}
-StopsKeeping first all left now disk stop.Link = CameUntil first all left now disk
-StopsKeeping first all left now disk stop.Out = Unit {0}
-StopsKeeping first all left now disk stop.Disk = Unit {0}
+abbrev pub StopsKeeping : KeptSet → Way → Seen → LinkSeen → Seen → LinkSeen → KeptSet → DiskSeen → KeepStop → Type 0
+StopsKeeping first from place_old link_old place_new link_new now disk stop.NoMemory = Unit {0}
+StopsKeeping first from place_old link_old place_new link_new now disk stop.Place =
+    CameUntil first from place_old link_old place_new link_new now disk
+StopsKeeping first from place_old link_old place_new link_new now disk stop.Link =
+    CameUntil first from place_old link_old place_new link_new now disk
+StopsKeeping first from place_old link_old place_new link_new now disk stop.Out = Unit {0}
+StopsKeeping first from place_old link_old place_new link_new now disk stop.Disk = Unit {0}
 
 -- the end of a reading of so many datagrams, by what is kept then
 abbrev pub HasTotals : KeptSet → ℕ → Totals → Type 0

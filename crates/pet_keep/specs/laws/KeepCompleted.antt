@@ -3,12 +3,13 @@ use Rattle.std.proofs.Common.{◌≡◌, ◌⊎◌, ℕ, ◌≤◌, List, [], �
 use Rattle.std.proofs.Common.{subst, ◌∙◌, arith, inl, inr}
 use Rattle.std.specs.Prelude.{Result, Ok, Err, option_map}
 use Rattle.std.specs.Io.KnownBytes.{append_known}
+use Rattle.packet_reading.specs.Begun.{EnteringFailed}
 use Rattle.packet_reading.specs.Opened.{IsBoundTo, PortFailed, PrintedPort}
 use Rattle.packet_reading.specs.Layers.{port_line}
 use Rattle.packet_reading.specs.declared.reading.Totals.{Totals}
 use Rattle.packet_reading.specs.laws.ReadLaws.{all_read}
 use Rattle.outside_disk.specs.Disk.{DiskSeen, IfTold, Untold, Tells as TellsDisk}
-use Rattle.outside_files.specs.Uses.{Failed, IsOneOf}
+use Rattle.outside_files.specs.Uses.{Failed, IsOneOf, writing}
 use Rattle.outside_files.specs.Wrote.{with_files}
 use Rattle.outside_files.specs.laws.PrintedLaws.{append_known-twice}
 use Rattle.outside_routes.specs.RouteFaults.{BoundFailed}
@@ -27,7 +28,7 @@ use Rattle.store_journal.specs.declared.fault.StartFault.{StartFault}
 use Rattle.store_text.specs.Files.{store_file}
 use Rattle.store_text.specs.Store.{store_text}
 use Rattle.pet_keep.specs.Journaled.{DiskNow, HasJournal, journal_in}
-use Rattle.pet_keep.specs.Keeps.{AreTotals, EndsKeep, IsUseInTurn, KeepsAll}
+use Rattle.pet_keep.specs.Keeps.{AreTotals, EndsKeep, KeepsAll, StopsAtFile}
 use Rattle.pet_keep.specs.Runs.{CanKeep, CompletesKeep, DoesKeep, EndsBy, KeepsGiven, PrintedShort, PrintedWhole}
 use Rattle.pet_keep.specs.Runs.{Tells, TellsJournal, numbers_text, uses_of}
 use Rattle.pet_keep.specs.Statuses.{fault_text, line_of, status_of, totals_text}
@@ -91,11 +92,22 @@ not_refused session Untold first fault told refused = told
 not_refused session (TellsDisk d) first fault told refused =
     ok_err first fault (journal_in session d.bytes) told refused
 
-is_used : (from : Way) (store : List ℕ) (before after : OutsideSeen) (b : Blame) → IsUseInTurn from store before after b
-    → IsOneOf (uses_of from store) b
-is_used (OnFile name) store before after b (inl is) = inl is
-is_used (OnFile name) store before after b (inr is) = inr is.0
-is_used (OnLink address) store before after b is = is.0
+-- what is blamed is one of the files that are used
+from_used : (from : Way) (store : List ℕ) (old new : Seen) → EnteringFailed from old new
+    → Failed (uses_of from store) old new
+from_used (OnFile name) store old new had = HadFault-since old old new _ _ (omega arith) (λ b is. inl is) had
+from_used (OnLink address) store old new had = absurd had
+
+store_used : (from : Way) (store : List ℕ) (b : Blame) → b ≡ writing store → IsOneOf (uses_of from store) b
+store_used (OnFile name) store b is = inr is
+store_used (OnLink address) store b is = is
+
+is_used : (first : KeptSet) (from : Way) (store : List ℕ) (before after : OutsideSeen) (disk : DiskSeen)
+    → StopsAtFile first from store before after disk → Failed (uses_of from store) before.place after.place
+is_used first from store before after disk (inl opening) = from_used from store before.place after.place opening.0.0
+is_used first from store before after disk (inr (inl until)) = from_used from store before.place after.place until.0
+is_used first from store before after disk (inr (inr part)) =
+    HadFault-since before.place before.place after.place _ _ (omega arith) (store_used from store) part.0
 
 port_well : (from : Way) (before after : OutsideSeen) → PortFailed from before after
     → Rose before.out_faults after.out_faults
@@ -184,8 +196,7 @@ module _ (words : KeepWords) (files : Files) (ds : List (List ℕ)) (first : Kep
     by end.PlaceFault ends tells =
         absurd (can.well.place (subst (λ (s : Seen). Failed (uses_of from words.store) before.place s)
         (sym (ends_told end.PlaceFault tells).place)
-        (HadFault-since before.place before.place between.place _ _ (omega arith)
-        (is_used from words.store before between) ends.left.0)))
+        (is_used ends.first from words.store before between new.seen ends.left.0)))
     by end.LinkFault ends tells =
         absurd (can.link (subst (λ (l : LinkSeen). BoundFailed from before.link l)
         (sym (ends_told end.LinkFault tells).link) ends.left.0))

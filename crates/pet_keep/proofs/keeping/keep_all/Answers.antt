@@ -39,13 +39,12 @@ returns-in_err-next_datagram-clause-stopped g c =
     let link_now = g.K.Link.seen c.next_datagram.new.link in
     let keeper = c.loop-turn.keeper in
     let failed = c.in_err-next_datagram.field-0.0 in
-    stop_is (StopsKeeping (kept_set c.args.keeper.now.receiver) (coming from first link_first)
-    (coming from now link_now) (kept_set keeper.receiver) (g.D.Disk.seen keeper.disk)) c.from_residual.result
-    (of_failed failed) c.from_residual.ensures.1
-    (came_until (kept_set c.args.keeper.now.receiver) c.loop-turn.turn (coming from first link_first)
-    (coming from before link_before) (kept_set keeper.receiver) c.loop-turn.invariant.so_far failed from
-    (g.D.Disk.seen keeper.disk) before now link_before link_now (omega arith) refl
-    c.in_err-next_datagram.ensures.feed c.in_err-next_datagram.ensures.cause c.loop-turn.invariant.stands)
+    stop_is (StopsKeeping (kept_set c.args.keeper.now.receiver) from first link_first now link_now
+    (kept_set keeper.receiver) (g.D.Disk.seen keeper.disk)) c.from_residual.result (of_failed failed)
+    c.from_residual.ensures.1
+    (came_until (kept_set c.args.keeper.now.receiver) c.loop-turn.turn from first before now link_first link_before
+    link_now (kept_set keeper.receiver) c.loop-turn.invariant.so_far (omega arith) c.in_err-next_datagram.ensures.feed
+    c.in_err-next_datagram.ensures.part (g.D.Disk.seen keeper.disk) c.loop-turn.invariant.stands failed)
 
 pub returns-in_err-next_datagram-clause-place : goal.returns-in_err-next_datagram-clause-place
 returns-in_err-next_datagram-clause-place g c =

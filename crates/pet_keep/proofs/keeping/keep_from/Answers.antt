@@ -102,7 +102,7 @@ returns-in_err-write_store_file-clause-stop g c =
     (untouched from before opened c.begin.ensures.untouched) c.in_ok-read.ensures.done c.keep_all.ensures.link
     c.keep_all.ensures.place.files refl refl why front
     (let a = c.begin.ensures.others.place_later in let b = c.keep_all.ensures.place_later in omega (arith, a, b))
-    c.in_err-write_store_file.ensures.cause)
+    c.in_err-write_store_file.ensures.cause c.in_ok-read.ensures.stands)
 
 pub returns-in_err-write_store_file-clause-images : goal.returns-in_err-write_store_file-clause-images
 returns-in_err-write_store_file-clause-images g c =
