@@ -1,4 +1,5 @@
-//! `receive` from a file of a place that tells nothing and fails behind some whole entries: LAYERS has the layers of these.
+//! The commands that receive, from a file of a place that tells nothing and fails behind some whole entries: what they write has all
+//! that these give.
 ghost use Rattle.std.specs.Prelude.{◌≡◌, ◌<◌};
 
 use crate::example::{Text, bytes_of};
@@ -7,14 +8,15 @@ use pet_tool::run;
 use std::alloc::Global;
 use std::marker::Brand;
 use std::sync::ledger::{Blank, Ledger};
-use test_example::ENTRY_LENGTH;
+use test_example::{BYTE_ENTRY_LENGTH, ENTRY_LENGTH};
 use text_status::Status;
 
-/// A place that tells nothing. Each input has these bytes, and fails behind them; it keeps what is put to `l`.
+/// A place that tells nothing. Each input has these bytes, and fails behind them; it keeps what is put to `l`, the file that the
+/// commands write first.
 #[derive(Drop)]
 struct Untold<'a> {
     left: &'a [u8],
-    layers: Vec<u8>,
+    written: Vec<u8>,
     /// Whether there is an input.
     input: bool,
     /// Whether there is an output, and whether it is `l`.
@@ -67,7 +69,7 @@ impl Place for Untold<'_> {
     fn put(&mut self, bytes: &[u8]) -> Result<(), Failed> {
         self.failing = false;
         if self.output == Some(true) {
-            if let Err(_) = self.layers.extend_from_slice(bytes) {
+            if let Err(_) = self.written.extend_from_slice(bytes) {
                 self.faults = self.faults.saturating_add(1);
                 self.failing = true;
                 return Err(Failed);
@@ -77,9 +79,39 @@ impl Place for Untold<'_> {
     }
 }
 
-/// How `receive` ends whose file fails behind these bytes, and what LAYERS then has.
-fn layers_behind<L: Ledger>(
+/// Words; the datagram file, and how long its entries are; what the command writes of all of it, and how many bytes of that the first
+/// so many packets give, 0 to 6 of them.
+type Row = (&'static [&'static str], Text, usize, Text, [usize; 7]);
+
+static ROWS: [Row; 3] = [
+    (
+        &["receive", "file:q", "a5ac9461b03bcf36", "l", "t"],
+        Text::Datagrams,
+        ENTRY_LENGTH,
+        Text::Layers,
+        [0, 0, 59, 79, 79, 107, 107],
+    ),
+    (
+        &["breceive", "file:y", "a5ac9461b03bcf36", "l"],
+        Text::ByteDatagrams,
+        BYTE_ENTRY_LENGTH,
+        Text::Layers,
+        [0, 0, 59, 79, 79, 107, 107],
+    ),
+    // the fifth packet shows the last layer, and the sixth is sent with it
+    (
+        &["relay", "file:q", "a5ac9461b03bcf36", "file:l"],
+        Text::Datagrams,
+        ENTRY_LENGTH,
+        Text::Datagrams,
+        [0, 91, 182, 273, 364, 546, 546],
+    ),
+];
+
+/// How a command ends whose file fails behind these bytes, and what it then has written.
+fn written_behind<L: Ledger>(
     alloc: Global,
+    texts: &[&str],
     bytes: &[u8],
     blank: Blank,
 ) -> Result<(Status, Vec<u8>), NoMemory>
@@ -88,12 +120,12 @@ fn layers_behind<L: Ledger>(
     requires some { 0 < blank.parts }
 {
     let mut words = Vec::new(alloc);
-    for text in ["receive", "file:q", "a5ac9461b03bcf36", "l", "t"] {
-        words.push(String::from_str(alloc, text)?)?;
+    for text in texts {
+        words.push(String::from_str(alloc, *text)?)?;
     }
     let mut place = Untold {
         left: bytes,
-        layers: Vec::new(alloc),
+        written: Vec::new(alloc),
         input: false,
         output: None,
         faults: 0,
@@ -103,20 +135,18 @@ fn layers_behind<L: Ledger>(
     let mut out = MemorySink::new(alloc, Vec::new(alloc));
     let mut steps = Steps::<L>::new(blank);
     let status = run(alloc, &words, &mut place, &mut link, &mut out, &mut steps);
-    Ok((status, place.layers))
+    Ok((status, place.written))
 }
 
-/// How many bytes the records have of what the first so many packets show: 0 to 6 of them.
-const LENGTHS: [usize; 7] = [0, 0, 59, 79, 79, 107, 107];
-
-/// After how many entries the layers are first otherwise.
-fn first_otherwise(alloc: Global) -> Result<Option<usize>, NoMemory> {
-    let entries = bytes_of(alloc, Text::Datagrams)?;
-    let layers = bytes_of(alloc, Text::Layers)?;
-    for count in 0..LENGTHS.len() {
-        let bytes = &entries[..entries.len().min(count * ENTRY_LENGTH)];
-        let (status, left) = layers_behind::<Brand>(alloc, bytes, Blank::new(1))?;
-        if status != Status::PlaceFault || layers.get(..LENGTHS[count]) != Some(left.as_slice()) {
+/// After how many entries a command has first written otherwise.
+fn first_otherwise(alloc: Global, row: &Row) -> Result<Option<usize>, NoMemory> {
+    let (words, file, length, text, lengths) = *row;
+    let entries = bytes_of(alloc, file)?;
+    let whole = bytes_of(alloc, text)?;
+    for count in 0..lengths.len() {
+        let bytes = &entries[..entries.len().min(count.saturating_mul(length))];
+        let (status, left) = written_behind::<Brand>(alloc, words, bytes, Blank::new(1))?;
+        if status != Status::PlaceFault || whole.get(..lengths[count]) != Some(left.as_slice()) {
             return Ok(Some(count));
         }
     }
@@ -124,7 +154,9 @@ fn first_otherwise(alloc: Global) -> Result<Option<usize>, NoMemory> {
 }
 
 #[test]
-fn leaves_the_layers_of_the_entries_before_a_failure(rt: HostRuntime) -> Result<(), NoMemory> {
-    assert_eq!(rt; first_otherwise(rt.alloc())?, None);
+fn has_written_what_the_entries_before_a_failure_give(rt: HostRuntime) -> Result<(), NoMemory> {
+    for number in 0..ROWS.len() {
+        assert_eq!(rt; first_otherwise(rt.alloc(), &ROWS[number])?, None);
+    }
     Ok(())
 }

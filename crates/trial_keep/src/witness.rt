@@ -1,6 +1,5 @@
 //! A keeper over a real file whose user tells what was acknowledged.
-ghost use Rattle.std.specs.Prelude.{◌≡◌, ◌<◌, ◌≤◌, IfOk, length, vec_len};
-ghost use Rattle.pet_base.specs.declared.limits.TheConstants.{MAX_ENTRY};
+ghost use Rattle.std.specs.Prelude.{◌≡◌, ◌<◌};
 
 use packet_frame::read_frame;
 use pet_base::{Got, Link, MAX_DATAGRAMS, MAX_ENTRY, MAX_PACKETS, MAX_SESSION, Steps};
