@@ -31,6 +31,9 @@ module _ (d m : ℕ) (some : 1 ≤ d) (degree : HasDegree m d) where
       same_below d m c c' degree
       (Same-trans m c (carryless a b) c' (Same-sym m (carryless a b) c x.congruent) y.congruent) x.below y.below
 
+  pub is_times : (a b c : ℕ) → a < 2 ^ d → b < 2 ^ d → IsProduct d m a b c → c ≡ times d m a b
+  is_times a b c h g product = product_unique a b c (times d m a b) product (times_is a b h g)
+
   pub times_below : (a b : ℕ) → a < 2 ^ d → b < 2 ^ d → times d m a b < 2 ^ d
   times_below a b h g = (times_is a b h g).below
 
