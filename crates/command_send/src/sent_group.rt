@@ -181,7 +181,16 @@ fn message_of(alloc: Global, format: &Format, group: &Group) -> Result<Vec<u8>, 
     ensures { IfOk result (λ bytes. bytes.items ≡ layers.message_by format.now.word group.now.bytes
         group.now.cut.runs (length group.now.cut.lengths)) }
 {
-    let mut bytes = Vec::new(alloc);
+    let mut bytes = Vec::with_capacity(alloc, message_room(&group.cut))?;
     message_by(&group.bytes, &group.cut, format.word as u32, &mut bytes)?;
     Ok(bytes)
+}
+
+/// How many bytes the message of a group has at most, whose layers may each end with one byte more. It is asked for speed alone.
+fn message_room(cut: &GroupCut) -> usize {
+    let mut room = cut.lengths.len();
+    for length in cut.lengths.as_slice() {
+        room = room.saturating_add(*length as usize);
+    }
+    room
 }

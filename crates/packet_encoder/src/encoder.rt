@@ -16,7 +16,7 @@ use crate::values::{append_elements, elements, stripe_values};
 use field_elements::Field;
 use field_rows::{Block, Rows};
 use field_values::AllValues;
-use packet_frame::{Format, Header, begin_planned, end_planned};
+use packet_frame::{Format, Header, append, begin_planned, end_planned};
 use pet_base::{MAX_DATAGRAM, MAX_GROUPS, NoMemory, Steps};
 use std::alloc::Global;
 use std::marker::Model;
@@ -126,7 +126,7 @@ impl<'f, F: Field> PacketEncoder<'f, F> {
     {
         let start = into.len();
         begin_planned(&self.format, &self.header, number, into)?;
-        append_payload(payload, into);
+        append(payload, into);
         end_planned(&self.format, start, into);
         Ok(())
     }
@@ -359,18 +359,5 @@ impl<'f, F: AllValues> PacketEncoder<'f, F> {
             at = end;
         }
         Ok(())
-    }
-}
-
-/// Appends the bytes of a payload, for which there is room.
-fn append_payload(payload: &[u8], into: &mut Vec<u8>)
-    requires room { vec_len into.old + length payload.now ≤ vec_capacity into.old }
-    ensures items { into.new.items ≡ into.old.items ++ payload.now }
-    ensures len { vec_len into.new ≡ vec_len into.old + length payload.now }
-    ensures room { vec_capacity into.old ≤ vec_capacity into.new }
-{
-    match into.extend_from_slice(payload) {
-        Ok(()) => {}
-        Err(_) => unreachable!(),
     }
 }

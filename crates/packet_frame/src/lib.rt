@@ -32,4 +32,6 @@ pub use parts::{Head, Parts};
 pub use planned::{begin_planned, read_planned};
 pub use read::read_frame;
 pub use text::read_text;
-pub use write::{begin_frame, end_frame, end_planned, frame_length, write_frame, write_text};
+pub use write::{
+    append, begin_frame, end_frame, end_planned, frame_length, write_frame, write_text,
+};

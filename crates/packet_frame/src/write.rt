@@ -185,7 +185,7 @@ pub fn end_planned(format: &Format, start: usize, into: &mut Vec<u8>)
 }
 
 /// Appends bytes for which there is room.
-fn append(bytes: &[u8], into: &mut Vec<u8>)
+pub fn append(bytes: &[u8], into: &mut Vec<u8>)
     requires room { vec_len into.old + length bytes.now ≤ vec_capacity into.old }
     ensures items { into.new.items ≡ into.old.items ++ bytes.now }
     ensures len { vec_len into.new ≡ vec_len into.old + length bytes.now }

@@ -6,8 +6,8 @@
 //! soon as as many packets are kept as its count says, with no more work.
 //! `specs/OpenGroup.antt` says what is held after packets of some numbers in their order, and `specs/ShownBytes.antt`
 //! which bytes a shown layer has: those of the only words that have the kept payloads as their values, and a message's
-//! where the kept packets are that message's. All of this holds over any lawful field whose elements have two bytes or
-//! more, and that has a point for each packet.
+//! where the kept packets are that message's. All of this holds over any lawful field whose elements have at most two bytes
+//! and that has a point for each packet.
 #![tactic(auto)]
 
 mod group;

@@ -83,11 +83,15 @@ fn keep_in<'f, F: Rows, L: Ledger>(
 }
 
 /// Keeps the tag of a packet's frame, where it is told, beside the packet, which its group has kept. It takes no memory.
-pub(crate) fn tag_open<'f, F: Rows>(open: &mut OpenGroup<'f, F>, number: u16, tag: Option<[u8; 16]>)
-    requires { IfSome tag (IsTagOf open.old.packets number) }
-    ensures { open.new ≡ open.old }
+pub(crate) fn tag_open<'f, F: Rows>(
+    group: &mut OpenGroup<'f, F>,
+    number: u16,
+    tag: Option<[u8; 16]>,
+)
+    requires { IfSome tag (IsTagOf group.old.packets number) }
+    ensures { group.new ≡ group.old }
 {
     if let Some(tag) = tag {
-        open.keep_tag(number, tag);
+        group.keep_tag(number, tag);
     }
 }

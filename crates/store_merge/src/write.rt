@@ -18,7 +18,7 @@ ghost use Rattle.store_text.specs.Refusals.{read_text};
 ghost use Rattle.store_text.specs.declared.format.TheConstants.{HEAD_LENGTH, MARK};
 
 use field_rows::Rows;
-use packet_frame::{FORMAT, Header, begin_frame, frame_length};
+use packet_frame::{FORMAT, Header, append, begin_frame, frame_length};
 use pet_base::NoMemory;
 use pet_receive::Receiver;
 use sha2::{Digest, Sha256};
@@ -283,19 +283,6 @@ fn append_hashed(
     append(payload, into);
     write_tag(start, into);
     Ok(())
-}
-
-/// Appends bytes for which there is room.
-fn append(bytes: &[u8], into: &mut Vec<u8>)
-    requires room { vec_len into.old + length bytes.now ≤ vec_capacity into.old }
-    ensures items { into.new.items ≡ into.old.items ++ bytes.now }
-    ensures len { vec_len into.new ≡ vec_len into.old + length bytes.now }
-    ensures room { vec_capacity into.old ≤ vec_capacity into.new }
-{
-    match into.extend_from_slice(bytes) {
-        Ok(()) => {}
-        Err(_) => unreachable!(),
-    }
 }
 
 /// Appends the tag of the bytes from `start` on.

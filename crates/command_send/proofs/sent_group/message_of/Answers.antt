@@ -19,6 +19,6 @@ returns c =
     let runs = c.group.inside.cut.runs in
     let n = length c.group.inside.cut.lengths in
     c.in_ok-message_by.ensures.ok
-    ∙ ap (λ l. l ++ message_by word c.deref.result.now runs n) c.new-bytes.ensures.items
+    ∙ ap (λ l. l ++ message_by word c.deref.result.now runs n) c.in_ok-bytes.ensures.items
     ∙ ap (λ b. message_by word b runs n) c.deref.ensures.value
     ∙ ap (λ (x : CutGroup). message_by word x.bytes x.cut.runs (length x.cut.lengths)) c.group.view_is

@@ -51,13 +51,13 @@ returns-in-Some-clause-kept g c state is =
     let F = g.F.Field in
     let found : Some c.in-Some.open.now ≡ Some state = c.in-Some.ensures.value ∙ is in
     let same : c.in-Some.open.now ≡ state = same_Some c.in-Some.open.now state found in (
-      c.tag_open.new.open,
+      c.tag_open.new.group,
       search rules,
       ap (λ (s : GroupState g.row.F-Elem.Denot). s.packets) c.tag_open.ensures ∙ c.keep.ensures.packets
           ∙ ap (λ (s : GroupState g.row.F-Elem.Denot). with_packet s.packets c.args.frame.now.number
           c.args.frame.now.payload.now) same,
       subst (λ (s : GroupState g.row.F-Elem.Denot). (numbers : List ℕ) → HoldsAfter F.is_element F.coding s numbers
-          → HoldsAfter F.is_element F.coding c.tag_open.new.open (numbers ++ (c.args.frame.now.number ∷ []))) same
+          → HoldsAfter F.is_element F.coding c.tag_open.new.group (numbers ++ (c.args.frame.now.number ∷ []))) same
           (subst (λ (t : GroupState g.row.F-Elem.Denot). (numbers : List ℕ)
           → HoldsAfter F.is_element F.coding c.in-Some.open.now numbers
           → HoldsAfter F.is_element F.coding t (numbers ++ (c.args.frame.now.number ∷ [])))

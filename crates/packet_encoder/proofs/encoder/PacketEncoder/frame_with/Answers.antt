@@ -11,8 +11,8 @@ use Rattle.packet_encoder.proofs.Made.{appended}
 use Rattle.packet_encoder.proofs.Payloads.{payload_long, frame_with_is}
 use Rattle.packet_encoder.proofs.encoder.PacketEncoder.frame_with.Goals as goal
 
-pub append_payload-requires : goal.append_payload-requires
-append_payload-requires g c =
+pub append-requires : goal.append-requires
+append-requires g c =
     let F = g.F.Field in
     let s = c.self.inside in
     let long = ap length c.requires.payload
@@ -32,8 +32,8 @@ end_planned-requires-clause-room g c =
     omega (
       arith,
       c.in_ok-begin_planned.ensures.room,
-      c.append_payload.ensures.len,
-      c.append_payload.ensures.room,
+      c.append.ensures.len,
+      c.append.ensures.room,
       long,
       word,
     )
@@ -47,7 +47,7 @@ returns-clause-ok g c =
     let same = ap (λ (v : CodedGroup). v.format) c.self.view_is in
     let spelt = written_in t (by_text t made) c.args.into.now.items _ _ _ _ c.len-start.result (search rules)
     (search rules)
-    c.in_ok-begin_planned.ensures.ok c.append_payload.ensures.items c.end_planned.ensures in
+    c.in_ok-begin_planned.ensures.ok c.append.ensures.items c.end_planned.ensures in
     let own = appended t c.args.into.now.items c.end_planned.new.into.items _ _
     (frame_with_is F.is_element F.COUNT F.coding g.met.F.Field.lawful s.header s.blocks.items s.laid.items c.self.invariant.0
     c.args.self.now.encoding (ap (λ (v : CodedGroup). v.encoding) c.self.view_is) c.args.number c.requires.number
