@@ -1,5 +1,5 @@
 -- What the second pass has read of the input.
-use Rattle.std.proofs.Common.{◌≡◌, ℕ, ◌+◌, ◌≤◌, List, [], ◌++◌, length, take, Option, Some, None, refl, sym, ◌∙◌, ap}
+use Rattle.std.proofs.Common.{◌≡◌, ℕ, List, [], ◌++◌, length, Option, Some, None, refl, sym, ◌∙◌, ap}
 use Rattle.std.proofs.Common.{subst, arith, inl, inr}
 use Rattle.std.specs.Prelude.{IfSome, MatchOption}
 use Rattle.std.specs.Io.KnownBytes.{prepend_known, IsAtEnd}
@@ -16,6 +16,8 @@ use Rattle.command_send.specs.inside.Job.{Job}
 use Rattle.command_send.specs.declared.sent_group.Change.{Change}
 use Rattle.command_send.specs.declared.second.SentGroups.{SentGroups}
 use Rattle.outside_files.specs.Outputs.{IsPrefix}
+use Rattle.outside_files.specs.Portions.{IsReadOf, IsNoPortion}
+use Rattle.outside_files.specs.laws.InputLaws.{read_few, read_whole}
 use Rattle.command_send.specs.Sending.{sent_datagrams, IsFront, AreFound}
 use Rattle.command_send.specs.inside.Sending.{HasSentSome, IsPart, IsTaken, SentPart, HasSentAll, HasSentToChange}
 use Rattle.command_send.specs.inside.Second.{HasGone, HasReached, Ends}
@@ -136,23 +138,15 @@ part_fed j stream portion change pass first before after now rest taken reads li
     (rest_more stream portion first.place.rest before.place.rest after.place.rest rest taken)
     (part (stands_read j stream change pass first before after reads link h))
 
-prepend_none : (known : Option (List ℕ)) → prepend_known [] known ≡ known
-prepend_none None = refl
-prepend_none (Some bytes) = refl
-
--- nothing more could be taken
-pub taken_end : (stream portion : List ℕ) (n : ℕ) (first before after : Seen)
-    → first.rest ≡ prepend_known stream before.rest → length stream ≤ MAX_STREAM + 1
-    → before.rest ≡ prepend_known (take n portion) after.rest → n ≡ 0 → (n ≡ 0 → IsAtEnd before.rest)
-    → IsTaken stream first after
-taken_end stream portion n first before after rest few step none end =
-    let same : before.rest ≡ after.rest = step ∙ ap (λ k. prepend_known (take k portion) after.rest) none
-    ∙ prepend_none after.rest in
-    record {
-      rest = rest ∙ ap (prepend_known stream) same;
-      few = few;
-      whole = λ le. subst IsAtEnd same (end none);
-    }
+-- where no portion came
+pub taken_end : (stream : List ℕ) (left : Option ℕ) (first before after : Seen)
+    → first.rest ≡ prepend_known stream before.rest → IsReadOf MAX_STREAM left (length stream)
+    → IsNoPortion left before after → IsTaken stream first after
+taken_end stream left first before after rest read none = record {
+  rest = rest ∙ ap (prepend_known stream) none.same;
+  few = read_few MAX_STREAM left (length stream) read;
+  whole = read_whole MAX_STREAM stream left before after read none;
+}
 
 -- what is written changes nothing of that
 pub taken_write : (stream : List ℕ) (first before after : Seen) → after.rest ≡ before.rest

@@ -1,7 +1,7 @@
 //! The second pass over a stream whose session is sent.
 ghost use Rattle.std.specs.Prelude.{◌≡◌, ℕ, ◌+◌, ◌≤◌, List, [], All, ◌++◌, length, true, Some, OnOk, OnErr, IfOk, IfErr, IfSome, IfNone, MatchOption, MatchResult};
 ghost use Rattle.std.specs.List.{sum_by};
-ghost use Rattle.outside_files.specs.declared.input.TheConstants.{MAX_PORTION};
+ghost use Rattle.outside_files.specs.declared.portions.TheConstants.{MAX_PORTION};
 ghost use Rattle.stream_groups.specs.CutGroups.{CutGroup};
 ghost use Rattle.stream_groups.specs.Cutting.{HaveEnded, AreAll, pieces_left};
 ghost use Rattle.stream_groups.specs.laws.FilledLaws.{IsFilled};
@@ -26,7 +26,7 @@ use crate::fault::SendFault;
 use crate::job::Job;
 use crate::sent_group::{Change, first_mark, send_group};
 use field_values::AllValues;
-use outside_files::{portion_room, take_portion};
+use outside_files::{Portions, portion_room};
 use outside_routes::RouteStop;
 use pet_base::{Link, MAX_STREAM, Outside, Place, Sink};
 use std::alloc::Global;
@@ -153,14 +153,9 @@ fn read_again<P: Place, K: Link, S: Sink, L: Ledger, F: AllValues>(
     ensures same { AreSame outside.old outside.new }
     ensures out { outside.new.out.now ≡ outside.old.out.now }
 {
-    let mut read = 0u64;
-    while read <= MAX_STREAM {
-        let count = take_portion(outside.place, MAX_STREAM - read, buffer)?;
-        if count == 0 {
-            return Ok(());
-        }
+    let mut portions = Portions::up_to(MAX_STREAM);
+    while let Some(count) = portions.next(outside.place, buffer)? {
         pass.feed(alloc, job, &buffer[..count], outside)?;
-        read += count as u64;
     }
     Ok(())
 }

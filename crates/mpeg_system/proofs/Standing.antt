@@ -1,20 +1,18 @@
 -- What was taken and put so far, and a portion more.
-use Rattle.std.proofs.Common.{◌≡◌, ℕ, ◌≤◌, true, List, [], ◌++◌, take, length, refl, sym, ◌∙◌, ap, subst, arith}
-use Rattle.std.specs.Prelude.{Option, None, Some}
-use Rattle.std.specs.Io.KnownBytes.{prepend_known, IsAtEnd}
+use Rattle.std.proofs.Common.{◌≡◌, ℕ, ◌≤◌, true, List, [], ◌++◌, take, length, sym, ◌∙◌, ap, subst, arith}
+use Rattle.std.specs.Prelude.{Option}
+use Rattle.std.specs.Io.KnownBytes.{prepend_known}
 use Rattle.std.proofs.lemmas.List.{append-nil, length-append}
 use Rattle.pet_base.proofs.Filled.{prepend-prepend}
 use Rattle.pet_base.specs.Seen.{Seen, Grows, KeepsInput, OnlyReads}
 use Rattle.pet_base.specs.laws.SeenLaws.{Grows-nil, KeepsNames-same, KeepsNames-then, OnlyReads-KeepsNames}
+use Rattle.outside_files.specs.Portions.{IsNoPortion}
+use Rattle.outside_files.specs.laws.InputLaws.{prepend_none}
 use Rattle.outside_files.specs.laws.OutputLaws.{puts_then, part_of_back}
 use Rattle.outside_files.specs.laws.PartLaws.{part_whole}
 use Rattle.mpeg_system.specs.Unwrapping.{IsFrontOf}
 use Rattle.mpeg_system.specs.inside.Feeding.{Stands, HasBegun}
 use Rattle.mpeg_system.specs.laws.VideoLaws.{video_short}
-
-prepend_none : (known : Option (List ℕ)) → known ≡ prepend_known [] known
-prepend_none None = refl
-prepend_none (Some bytes) = refl
 
 pub stands_first : (s : Seen) → Stands s s [] []
 stands_first s =
@@ -48,18 +46,13 @@ stands_put first before after stream given more s grows input target out was lat
   later = (let l = s.later in omega arith);
 }
 
--- at the end of the input
-pub stands_end : (first before after : Seen) (stream given buffer : List ℕ) (n : ℕ) → Stands first before stream given
-    → before.rest ≡ prepend_known (take n buffer) after.rest → n ≡ 0 → OnlyReads before after
-    → before.faults ≤ after.faults → Stands first after stream given
-stands_end first before after stream given buffer n s step none others later =
-    subst (λ l. Stands first after l given) (ap (λ k. stream ++ take k buffer) none ∙ append-nil stream)
-    (stands_read first before after stream given (take n buffer) s step others later)
-
-pub at_end : (before after : Seen) (buffer : List ℕ) (n : ℕ) → before.rest ≡ prepend_known (take n buffer) after.rest
-    → n ≡ 0 → IsAtEnd before.rest → IsAtEnd after.rest
-at_end before after buffer n step none end =
-    subst IsAtEnd (step ∙ (ap (λ k. prepend_known (take k buffer) after.rest) none ∙ sym (prepend_none after.rest))) end
+-- where no portion came
+pub stands_end : (first before after : Seen) (stream given : List ℕ) (left : Option ℕ) → Stands first before stream given
+    → IsNoPortion left before after → OnlyReads before after → before.faults ≤ after.faults
+    → Stands first after stream given
+stands_end first before after stream given left s none others later =
+    subst (λ l. Stands first after l given) (append-nil stream)
+    (stands_read first before after stream given [] s (none.same ∙ prepend_none after.rest) others later)
 
 -- where a call failed
 pub begun_reading : (id : ℕ) (first before after : Seen) (stream given : List ℕ) → Stands first before stream given

@@ -6,7 +6,7 @@ ghost use Rattle.pet_base.specs.Seen.{HadFault, PlaceStops};
 ghost use Rattle.outside_files.specs.Failures.{has_failed};
 ghost use Rattle.outside_files.specs.Inputs.{Licensed};
 ghost use Rattle.outside_files.specs.Uses.{Failed, reading, writing};
-ghost use Rattle.outside_files.specs.declared.input.TheConstants.{MAX_PORTION};
+ghost use Rattle.outside_files.specs.declared.portions.TheConstants.{MAX_PORTION};
 ghost use Rattle.mpeg_system.specs.Completes.{CompletesUnwrap};
 ghost use Rattle.mpeg_system.specs.Ends.{unwrap_failed};
 ghost use Rattle.mpeg_system.specs.inside.Feeding.{WasFed, EndsSo, HasUnwrapped, HasBegun, IsOfEither};
@@ -14,7 +14,7 @@ ghost use Rattle.mpeg_system.specs.Unwraps.{LeavesFront, Unwraps};
 
 use crate::refusal::System;
 use crate::state::Unwrap;
-use outside_files::{portion_room, take_portion};
+use outside_files::{Portions, portion_room};
 use pet_base::{MAX_STREAM, Place, Stop};
 use std::alloc::Global;
 
@@ -100,14 +100,9 @@ fn unwrap_opened<P: Place>(
 {
     let mut unwrap = Unwrap::new(id);
     let mut video = Vec::new(alloc);
-    let mut read = 0u64;
+    let mut portions = Portions::up_to(MAX_STREAM);
     let mut put = 0u64;
-    while read <= MAX_STREAM {
-        let count = take_portion(place, MAX_STREAM - read, buffer)?;
-        if count == 0 {
-            return Ok(end_of(&mut unwrap, put));
-        }
-        read += count as u64;
+    while let Some(count) = portions.next(place, buffer)? {
         video.clear();
         pass_on(&mut unwrap, &buffer[..count], &mut video);
         place.put(video.as_slice())?;

@@ -6,14 +6,14 @@ ghost use Rattle.pet_base.specs.Causes.{Blames, stops};
 ghost use Rattle.pet_base.specs.Seen.{Seen, KeepsOutput, OnlyReads, HadFault, PlaceStops};
 ghost use Rattle.priority_file.specs.Priority.{Priorities};
 ghost use Rattle.priority_file.specs.Refusals.{priorities_of};
-ghost use Rattle.outside_files.specs.declared.input.TheConstants.{MAX_PORTION};
+ghost use Rattle.outside_files.specs.declared.portions.TheConstants.{MAX_PORTION};
 ghost use Rattle.outside_files.specs.Failures.{has_failed as stop_failed};
 ghost use Rattle.outside_files.specs.Inputs.{IsFrontOf, IsRead, Licensed, HasTakenAll};
 ghost use Rattle.stream_session.specs.Tables.{IsSessionFormat};
 ghost use Rattle.session_source.specs.Sources.{BothFiles, IsSourceFaultIn, has_failed};
 
 use crate::source::SourceFault;
-use outside_files::{portion_room, read_file, take_portion};
+use outside_files::{Portions, portion_room, read_file};
 use packet_frame::Format;
 use pet_base::{MAX_PRIORITY_FILE, MAX_STREAM, Place, Stop};
 use priority_file::{Priority, read_priority};
@@ -86,14 +86,9 @@ fn pass_over<P: Place, R: StreamReader>(
         (Blames Read (P.seen place.old).source))) }
     ensures once { PlaceStops (stops stop_failed result) (P.seen place.old) (P.seen place.new) }
 {
-    let mut read = 0u64;
-    while read <= MAX_STREAM {
-        let count = take_portion(place, MAX_STREAM - read, buffer)?;
-        if count == 0 {
-            return Ok(());
-        }
+    let mut portions = Portions::up_to(MAX_STREAM);
+    while let Some(count) = portions.next(place, buffer)? {
         reader.read(&buffer[..count])?;
-        read += count as u64;
     }
     Ok(())
 }

@@ -1,8 +1,8 @@
 -- What is taken from an input portion by portion, and what it is of the file.
-use Rattle.std.proofs.Common.{◌≡◌, ℕ, ◌+◌, ◌-◌, ◌≤◌, List, [], ◌++◌, length, take, Option, None, Some, refl, sym, ap}
+use Rattle.std.proofs.Common.{◌≡◌, ℕ, ◌+◌, ◌≤◌, List, [], ◌++◌, length, take, Option, None, Some, refl, sym, ap}
 use Rattle.std.proofs.Common.{subst, ◌∙◌, arith}
-use Rattle.std.proofs.lemmas.List.{append-nil, length-append}
-use Rattle.std.specs.Prelude.{IfSome, IsSome, Result, Ok, Err, IfOk}
+use Rattle.std.proofs.lemmas.List.{append-nil, length-append, length-take-le}
+use Rattle.std.specs.Prelude.{◌<◌, ◌≢◌, IfSome, MatchOption, IsSome, Result, Ok, Err, IfOk}
 use Rattle.std.specs.Io.KnownBytes.{prepend_known, IsAtEnd}
 use Rattle.pet_base.proofs.Filled.{prepend-prepend}
 use Rattle.pet_base.specs.declared.faults.Stop.{Stop}
@@ -12,8 +12,10 @@ use Rattle.pet_base.specs.Causes.{Blames}
 use Rattle.pet_base.specs.Seen.{Seen, Files, Names, OnlyReads, HadFault, bytes_at}
 use Rattle.pet_base.specs.laws.SeenLaws.{Blames-named, HadFault-since}
 use Rattle.outside_files.specs.Inputs.{IsFrontOf, IsRead, Licensed, HasTaken, HasTakenAll}
+use Rattle.outside_files.specs.Portions.{IsReadOf, IsPortion, IsNoPortion, room_left}
 
-prepend_none : (known : Option (List ℕ)) → known ≡ prepend_known [] known
+-- no byte before what is known
+pub prepend_none : (known : Option (List ℕ)) → known ≡ prepend_known [] known
 prepend_none None = refl
 prepend_none (Some bytes) = refl
 
@@ -98,24 +100,73 @@ failed_at name NoMemory old entered new is later failed = tt
 failed_at name Failed old entered new is later failed =
     HadFault-since old entered new _ _ later (λ b. Blames-named old.files entered.source name Read b is) failed
 
--- a portion without a byte, which comes only at the end
-pub taken_end : (limit n : ℕ) (bytes buffer : List ℕ) (first before after : Seen) → HasTaken limit bytes first before
-    → before.rest ≡ prepend_known (take n buffer) after.rest → n ≡ 0 → IsAtEnd before.rest → OnlyReads before after
-    → before.faults ≤ after.faults
+-- at most one byte past the limit is read
+pub read_few : (limit : ℕ) (left : Option ℕ) (read : ℕ) → IsReadOf limit left read → read ≤ limit + 1
+read_few limit None read is = omega (arith, is)
+read_few limit (Some left) read is = omega (arith, is)
+
+-- with one more portion
+pub read_more : (limit count : ℕ) (bytes buffer : List ℕ) (left later : Option ℕ) (before after : Seen)
+    → IsReadOf limit left (length bytes) → IsPortion count buffer left later before after
+    → IsReadOf limit later (length (bytes ++ take count buffer))
+read_more limit count bytes buffer left later before after is portion =
+    rw (length-append bytes (take count buffer)) (rw (length-take-le count buffer portion.bound)
+    (portion.read limit (length bytes) is))
+
+fewer_from : (left later : Option ℕ) (count : ℕ) → 0 < count
+    → ((limit read : ℕ) → IsReadOf limit left read → IsReadOf limit later (read + count))
+    → room_left later < room_left left
+fewer_from None None count some read = absurd (let one = read 0 1 refl in omega (arith, one, some))
+fewer_from None (Some more) count some read = absurd (let one = read 0 1 refl in omega (arith, one))
+fewer_from (Some left) None count some read = omega arith
+fewer_from (Some left) (Some more) count some read = let all = read left 0 (omega arith) in omega (arith, all, some)
+
+-- then less is left
+pub fewer_left : (count : ℕ) (buffer : List ℕ) (left later : Option ℕ) (before after : Seen)
+    → IsPortion count buffer left later before after → room_left later < room_left left
+fewer_left count buffer left later before after portion = fewer_from left later count portion.some portion.read
+
+-- what is taken with one more portion
+pub taken_next : (limit count : ℕ) (bytes buffer : List ℕ) (left later : Option ℕ) (first before after : Seen)
+    → HasTaken limit bytes first before → IsReadOf limit left (length bytes)
+    → IsPortion count buffer left later before after → OnlyReads before after → before.faults ≤ after.faults
+    → HasTaken limit (bytes ++ take count buffer) first after
+taken_next limit count bytes buffer left later first before after taken is portion others more =
+    let few = read_few limit later (length (bytes ++ take count buffer))
+    (read_more limit count bytes buffer left later before after is portion) in
+    taken_more limit bytes (take count buffer) first before after taken portion.taken
+    (omega (arith, few, length-append bytes (take count buffer))) others more
+
+is_at_end : (limit : ℕ) (left : Option ℕ) (read : ℕ) (end : Type 0) → IsReadOf limit left read → (left ≢ None → end)
+    → read ≤ limit → end
+is_at_end limit None read end is at few = absurd (omega (arith, is, few))
+is_at_end limit (Some left) read end is at few = at (λ e. cc)
+
+-- where no portion came, the input is at its end, or it is read past the limit
+pub read_whole : (limit : ℕ) (bytes : List ℕ) (left : Option ℕ) (before after : Seen)
+    → IsReadOf limit left (length bytes) → IsNoPortion left before after → length bytes ≤ limit → IsAtEnd after.rest
+read_whole limit bytes left before after is none = is_at_end limit left (length bytes) (IsAtEnd after.rest) is none.end
+
+-- and all is taken
+pub taken_all : (limit : ℕ) (bytes : List ℕ) (left : Option ℕ) (first before after : Seen)
+    → HasTaken limit bytes first before → IsReadOf limit left (length bytes) → IsNoPortion left before after
+    → OnlyReads before after → before.faults ≤ after.faults
     → HasTakenAll limit bytes first after
-taken_end limit n bytes buffer first before after taken step none end others later =
-    let nothing : take n buffer ≡ [] = ap (λ (k : ℕ). take k buffer) none in
-    let more = taken_more limit bytes [] first before after taken
-    (step ∙ ap (λ (p : List ℕ). prepend_known p after.rest) nothing)
-    (let f = taken.few in omega (arith, f)) others later in
-    let same : before.rest ≡ after.rest = step ∙ ap (λ (p : List ℕ). prepend_known p after.rest) nothing
-    ∙ sym (prepend_none after.rest) in
+taken_all limit bytes left first before after taken is none others later =
+    let few = taken.few in
     record {
-      taken = subst (λ (b : List ℕ). HasTaken limit b first after) (append-nil bytes) more;
-      whole = λ _. subst IsAtEnd same end;
+      taken = subst (λ (b : List ℕ). HasTaken limit b first after) (append-nil bytes)
+          (taken_more limit bytes [] first before after taken (none.same ∙ prepend_none after.rest) (omega (arith, few)) others
+          later);
+      whole = read_whole limit bytes left before after is none;
     }
 
--- there is room for the portion
-pub few_more : (limit read n bytes portion : ℕ) → read ≡ bytes → portion ≡ n → read ≤ limit → n ≤ limit - read + 1
-    → bytes + portion ≤ limit + 1
-few_more limit read n bytes portion count len within few = omega (arith, count, len, within, few)
+-- the portion of an answer, and where there is none
+pub is_portion : {A : Type 0} (answer : Option A) (none : Type 0) (some : A → Type 0) (x : A) → answer ≡ Some x
+    → MatchOption answer none some → some x
+is_portion {A = A} answer none some x is given = subst (λ (o : Option A). MatchOption o none some) is given
+
+pub is_none : {A : Type 0} (answer : Option A) (none : Type 0) (some : A → Type 0)
+    → ((x : A) → answer ≡ Some x → ⊥) → MatchOption answer none some → none
+is_none None none some not given = given
+is_none (Some x) none some not given = absurd (not x refl)

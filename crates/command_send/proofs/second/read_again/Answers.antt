@@ -1,5 +1,6 @@
-use Rattle.std.proofs.Common.{refl, ◌∙◌, ◌≡◌, ◌++◌, length, take, arith}
-use Rattle.std.proofs.lemmas.List.{length-append, length-take-le}
+use Rattle.std.proofs.Common.{refl, ◌∙◌, ◌++◌, take, arith}
+use Rattle.pet_base.specs.declared.limits.TheConstants.{MAX_STREAM}
+use Rattle.outside_files.specs.laws.InputLaws.{is_portion, is_none, read_more}
 use Rattle.pet_base.specs.laws.Through.{on_any_err}
 use Rattle.command_send.specs.inside.Job.{job_of, lent}
 use Rattle.command_send.proofs.GroupsSoFar.{stands_known}
@@ -11,84 +12,83 @@ use Rattle.command_send.proofs.second.read_again.Goals as goal
 
 pub returns-in_err-count-clause-part : goal.returns-in_err-count-clause-part
 returns-in_err-count-clause-part g c =
-    let i = c.loop-read.invariant in
+    let i = c.loop-count.invariant in
     on_any_err c.from_residual.result
     (part_taken (job_of g.F.Field.coding c.args.job.now) i.stream
-    c.loop-read.pass.change c.loop-read.pass.groups (lent c.args.outside.now)
-    (lent c.loop-read.outside)
-    (routes g.P.Place g.K.Link c.take_portion.new.place c.loop-read.outside.link.now)
-    i.rest c.take_portion.ensures.others refl i.stands)
+    c.loop-count.pass.change c.loop-count.pass.groups (lent c.args.outside.now)
+    (lent c.loop-count.outside)
+    (routes g.P.Place g.K.Link c.next.new.place c.loop-count.outside.link.now)
+    i.rest c.next.ensures.others refl i.stands)
 
-pub returns-then-count-eq0-clause-stands : goal.returns-then-count-eq0-clause-stands
-returns-then-count-eq0-clause-stands g c =
+pub returns-clause-stands : goal.returns-clause-stands
+returns-clause-stands g c =
     let seen = g.P.Place.seen in
-    let i = c.loop-read.invariant in (
+    let i = c.loop-count.invariant in (
       i.stream,
-      taken_end i.stream c.take_portion.new.buffer c.in_ok-count.count (seen c.args.outside.now.place.now) (seen c.loop-read.outside.place.now)
-          (seen c.take_portion.new.place) i.rest i.few c.in_ok-count.ensures.taken c.if-count-eq0.true
-          c.in_ok-count.ensures.end,
+      taken_end i.stream c.loop-count.portions (seen c.args.outside.now.place.now) (seen c.loop-count.outside.place.now)
+          (seen c.next.new.place) i.rest i.read
+          (is_none c.in_ok-count.field-0 _ _ c.in_default.not-Some c.in_ok-count.ensures.next),
       stands_read (job_of g.F.Field.coding c.args.job.now) i.stream
-          c.loop-read.pass.change c.loop-read.pass.groups (lent c.args.outside.now)
-          (lent c.loop-read.outside)
-          (routes g.P.Place g.K.Link c.take_portion.new.place c.loop-read.outside.link.now) c.take_portion.ensures.others refl
+          c.loop-count.pass.change c.loop-count.pass.groups (lent c.args.outside.now)
+          (lent c.loop-count.outside)
+          (routes g.P.Place g.K.Link c.next.new.place c.loop-count.outside.link.now) c.next.ensures.others refl
           i.stands,
     )
 
 pub feed-requires-clause-open : goal.feed-requires-clause-open
 feed-requires-clause-open g c =
     let first = lent c.args.outside.now in
-    let before = lent c.loop-read.outside in
-    let after = routes g.P.Place g.K.Link c.take_portion.new.place c.loop-read.outside.link.now in
+    let before = lent c.loop-count.outside in
+    let after = routes g.P.Place g.K.Link c.next.new.place c.loop-count.outside.link.now in
     passes_open (way_of c.args.job.now.to) first after
-    (passes_then first before after c.loop-read.invariant.others
-    (passes_reads before after c.take_portion.ensures.others refl c.take_portion.ensures.cause.later)) c.requires.open
+    (passes_then first before after c.loop-count.invariant.others
+    (passes_reads before after c.next.ensures.others refl c.next.ensures.cause.later)) c.requires.open
 
 pub feed-requires-clause-known : goal.feed-requires-clause-known
 feed-requires-clause-known g c =
     stands_known (job_of g.F.Field.coding c.args.job.now)
-    c.loop-read.invariant.stream c.loop-read.pass.change c.loop-read.pass.groups
+    c.loop-count.invariant.stream c.loop-count.pass.change c.loop-count.pass.groups
     (lent c.args.outside.now)
-    (lent c.loop-read.outside) c.loop-read.invariant.stands
+    (lent c.loop-count.outside) c.loop-count.invariant.stands
 
 pub returns-in_err-feed-clause-part : goal.returns-in_err-feed-clause-part
 returns-in_err-feed-clause-part g c =
-    let i = c.loop-read.invariant in
+    let i = c.loop-count.invariant in
     let first = lent c.args.outside.now in
+    let next = is_portion c.in_ok-count.field-0 _ _ c.in-Some.count c.in-Some.is c.in_ok-count.ensures.next in
     on_any_err c.from_residual-in_err-feed.result
     (part_fed (job_of g.F.Field.coding c.args.job.now) i.stream
-    (take c.in_ok-count.count c.take_portion.new.buffer) c.loop-read.pass.change c.loop-read.pass.groups first
-    (lent c.loop-read.outside)
-    (routes g.P.Place g.K.Link c.take_portion.new.place c.loop-read.outside.link.now)
+    (take c.in-Some.count c.next.new.buffer) c.loop-count.pass.change c.loop-count.pass.groups first
+    (lent c.loop-count.outside)
+    (routes g.P.Place g.K.Link c.next.new.place c.loop-count.outside.link.now)
     (lent c.feed.new.outside)
-    i.rest c.in_ok-count.ensures.taken c.take_portion.ensures.others refl i.stands
+    i.rest next.taken c.next.ensures.others refl i.stands
     (c.in_err-feed.ensures.part i.stream first))
 
-pub loop-read-preserved : goal.loop-read-preserved
-loop-read-preserved g c =
-    let i = c.loop-read.invariant in
+pub loop-count-preserved : goal.loop-count-preserved
+loop-count-preserved g c =
+    let i = c.loop-count.invariant in
     let first = lent c.args.outside.now in
-    let before = lent c.loop-read.outside in
-    let after = routes g.P.Place g.K.Link c.take_portion.new.place c.loop-read.outside.link.now in
+    let before = lent c.loop-count.outside in
+    let after = routes g.P.Place g.K.Link c.next.new.place c.loop-count.outside.link.now in
     let now = lent c.feed.new.outside in
-    let n = c.in_ok-count.count in
-    let portion = take n c.take_portion.new.buffer in
-    let len : length portion
-    ≡ n = length-take-le n c.take_portion.new.buffer (omega (arith, c.in_ok-count.ensures.bound)) in
+    let portion = take c.in-Some.count c.next.new.buffer in
+    let next = is_portion c.in_ok-count.field-0 _ _ c.in-Some.count c.in-Some.is c.in_ok-count.ensures.next in
     record {
       stream = i.stream ++ portion;
-      count = omega (arith, length-append i.stream portion, len, i.count);
+      read =
+          read_more MAX_STREAM c.in-Some.count i.stream c.next.new.buffer c.loop-count.portions c.next.new.self before.place
+          after.place i.read next;
       rest =
           rest_more i.stream portion first.place.rest before.place.rest now.place.rest i.rest
-          (rw c.feed.ensures.others.place.rest c.in_ok-count.ensures.taken);
-      few =
-          omega (arith, length-append i.stream portion, len, i.count, c.loop-read-test.true, c.in_ok-count.ensures.few);
+          (rw c.feed.ensures.others.place.rest next.taken);
       stands =
           c.in_ok-feed.ensures.stands i.stream first
-          (stands_read (job_of g.F.Field.coding c.args.job.now) i.stream c.loop-read.pass.change
-          c.loop-read.pass.groups first before after c.take_portion.ensures.others refl i.stands);
+          (stands_read (job_of g.F.Field.coding c.args.job.now) i.stream c.loop-count.pass.change
+          c.loop-count.pass.groups first before after c.next.ensures.others refl i.stands);
       others =
           passes_then first after now (passes_then first before after i.others
-          (passes_reads before after c.take_portion.ensures.others refl c.take_portion.ensures.cause.later))
+          (passes_reads before after c.next.ensures.others refl c.next.ensures.cause.later))
           (passes_grows after now c.feed.ensures.others);
       calm_place = c.in_ok-feed.ensures.once_place ∙ c.in_ok-count.ensures.once ∙ i.calm_place;
       calm_link = c.in_ok-feed.ensures.once_link ∙ i.calm_link;
