@@ -13,7 +13,7 @@ use Rattle.field_elements.specs.laws.Xor.{xor_cancel}
 use Rattle.field_elements.specs.laws.CarrylessLaws.{carryless-one_l, carryless-zero_l, carryless_xor_l}
 use Rattle.field_elements.specs.laws.Degrees.{pow_order, step_below, shifted_degree, same_degree_below}
 use Rattle.field_elements.specs.laws.Division.{horner, carryless_power, Same-refl}
-use Rattle.field_elements.specs.laws.ResidueLaws.{times_is, product_unique, times_assoc}
+use Rattle.field_elements.specs.laws.ResidueLaws.{times_is, is_times, times_assoc}
 use Rattle.field_elements.specs.laws.Inverses.{times_quotient}
 
 -- ---- doubling
@@ -123,8 +123,7 @@ pub inverse_step : (d m a f rest q r f' : ℕ) → IsModulus d m → a < 2 ^ d �
     → r < 2 ^ d
     → times d m a f ≡ rest → bit_xor m r ≡ carryless q rest → IsProduct d m f q f' → times d m a f' ≡ r
 inverse_step d m a f rest q r f' modulus ha hf hrest hq hr so_far divided product =
-    let e : f' ≡ times d m f q = product_unique d m modulus.some modulus.degree f q f' (times d m f q) product
-    (times_is d m modulus.some modulus.degree f q hf hq) in
+    let e : f' ≡ times d m f q = is_times d m modulus.some modulus.degree f q f' hf hq product in
     ap (times d m a) e ∙ sym (times_assoc d m modulus.some modulus.degree a f q ha hf hq)
     ∙ ap (λ x. times d m x q) so_far
     ∙ times_quotient d m modulus.some modulus.degree rest q r hrest hq hr divided

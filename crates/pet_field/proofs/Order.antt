@@ -12,7 +12,7 @@ use Rattle.field_elements.specs.laws.Xor.{xor_cancel}
 use Rattle.field_elements.specs.laws.CarrylessLaws.{carryless-one_l}
 use Rattle.field_elements.specs.laws.Degrees.{same_degree_below}
 use Rattle.field_elements.specs.laws.Division.{carryless_power, Same-refl}
-use Rattle.field_elements.specs.laws.ResidueLaws.{times_is, product_unique}
+use Rattle.field_elements.specs.laws.ResidueLaws.{is_times}
 use Rattle.field_elements.specs.laws.FieldLaws.{times-zero}
 use Rattle.field_elements.specs.laws.Gf16Laws.{gf16_modulus, gf16_field}
 use Rattle.field_elements.specs.Gf16.{gf16}
@@ -46,9 +46,7 @@ twice_is a h =
 
 -- what is a product is the field's product
 pub product_is : (a b c : ℕ) → a < 65536 → b < 65536 → IsProduct 16 0x1100B a b c → c ≡ gf16.times a b
-product_is a b c h g x =
-    product_unique 16 0x1100B gf16_modulus.some gf16_modulus.degree a b c (times 16 0x1100B a b) x
-    (times_is 16 0x1100B gf16_modulus.some gf16_modulus.degree a b h g)
+product_is = is_times 16 0x1100B gf16_modulus.some gf16_modulus.degree
 
 twice_times : (a : ℕ) → a < 65536 → twice a ≡ gf16.times 2 a
 twice_times a h = product_is 2 a (twice a) (omega arith) h (twice_is a h)

@@ -1,5 +1,5 @@
 -- Polynomials over GF(2) modulo an irreducible one are a lawful field.
-use Rattle.std.proofs.Common.{◌≡◌, ◌≢◌, ℕ, ◌^◌, ◌<◌, ◌≤◌, refl, ap, subst, ◌∙◌, arith}
+use Rattle.std.proofs.Common.{◌≡◌, ◌≢◌, ℕ, ◌^◌, ◌<◌, ◌≤◌, refl, sym, ap, subst, ◌∙◌, arith}
 use lib.Bits.{bit_xor, xor_lt, xor_comm, xor_assoc, xor_self, xor_zero_r}
 use lib.Pow.{pow_pos}
 use Rattle.field_elements.specs.Field.{IsField}
@@ -45,7 +45,7 @@ module _ (d m : ℕ) (some : 1 ≤ d) (degree : HasDegree m d) where
         difference = λ a b. refl;
         product = λ a b c h g. (
           λ e. subst (IsProduct d m a b) e (R.times_is d m some degree a b h g),
-          λ x. R.product_unique d m some degree a b (times d m a b) c (R.times_is d m some degree a b h g) x,
+          λ x. sym (R.is_times d m some degree a b c h g x),
         );
         points = λ i h. refl;
       }

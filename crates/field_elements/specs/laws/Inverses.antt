@@ -26,8 +26,9 @@ module _ (d m : ℕ) (some : 1 ≤ d) (degree : HasDegree m d) where
       let p : bit_xor (carryless a q) r ≡ m =
       ap (λ x. bit_xor x r) (carryless_comm a q ∙ sym e) ∙ xor_comm (bit_xor m r) r ∙ ap (bit_xor r) (xor_comm m r)
       ∙ xor_cancel r m in
-      R.product_unique d m some degree a q (times d m a q) r (R.times_is d m some degree a q ha hq)
-      (record { below = hr; congruent = (1, p ∙ sym (carryless-one_l m)) })
+      sym
+      (R.is_times d m some degree a q r ha hq
+      (record { below = hr; congruent = (1, p ∙ sym (carryless-one_l m)) }))
 
   pub quotient_below : (a q r : ℕ) → 2 ≤ a → r < 2 ^ suc d → bit_xor m r ≡ carryless q a → q < 2 ^ d
   quotient_below a q r lo hr e =

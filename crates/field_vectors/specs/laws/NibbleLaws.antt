@@ -12,7 +12,7 @@ use Rattle.field_elements.specs.laws.Degrees.{same_degree_below}
 use Rattle.field_elements.specs.laws.Division.{carryless_power, Same-refl}
 use Rattle.field_elements.specs.BinaryField.{IsModulus, IsProduct, times}
 use Rattle.field_elements.specs.laws.Xor.{xor_cancel}
-use Rattle.field_elements.specs.laws.ResidueLaws.{times_xor, times_is, times_assoc, times-one, product_unique}
+use Rattle.field_elements.specs.laws.ResidueLaws.{times_xor, is_times, times_assoc, times-one}
 
 -- two parts that share no bit
 pub apart : (k hi lo : ℕ) → lo < 2 ^ k → bit_xor lo (hi * 2 ^ k) ≡ hi * 2 ^ k + lo
@@ -34,9 +34,7 @@ module _ (d m : ℕ) (modulus : IsModulus d m) (wide : 8 ≤ d) where
   room = pow_mono {i = 8} {j = d} wide
 
   product : (a b c : ℕ) → a < 2 ^ d → b < 2 ^ d → IsProduct d m a b c → c ≡ times d m a b
-  product a b c h g is =
-      product_unique d m modulus.some modulus.degree a b c (times d m a b) is
-      (times_is d m modulus.some modulus.degree a b h g)
+  product = is_times d m modulus.some modulus.degree
 
   double_plain : (a : ℕ) → a * 2 < 2 ^ d → a * 2 ≡ times d m a 2
   double_plain a g =
