@@ -1,10 +1,10 @@
 //! The file of a journal.
-ghost use Rattle.std.specs.Prelude.{◌≡◌};
+ghost use Rattle.std.specs.Prelude.{◌≡◌, None};
 
-use crate::fault_count::FaultCount;
 use crate::lazy_file::LazyFile;
 use outside_disk::Disk;
 use pet_base::Failed;
+use pet_ends::FaultCount;
 use std::rt::Files;
 
 /// A file of the machine, by its name. As a `Disk` it tells nothing but its faults.
@@ -20,7 +20,9 @@ pub struct FileDisk<'a, R: Files> {
 impl<'a, R: Files> FileDisk<'a, R> {
     /// The file of this name, which is not opened yet. There was no failure.
     pub fn new(rt: &'a R, name: &'a str) -> FileDisk<'a, R>
-        ensures { result.faults.count ≡ 0 }
+        ensures name { result.file.name.now ≡ name.now }
+        ensures unopened { result.file.file ≡ None }
+        ensures faults { result.faults.count ≡ 0 }
     {
         FileDisk {
             file: LazyFile::new(rt, name),

@@ -1,4 +1,6 @@
 //! A file of the machine that is opened, or made, where it is first used.
+ghost use Rattle.std.specs.Prelude.{◌≡◌, None};
+
 use std::fs::{self, OpenFile, OpenOptions};
 use std::io::{self, ErrorKind, Read, Seek, SeekFrom, Write};
 use std::rt::Files;
@@ -13,7 +15,10 @@ pub struct LazyFile<'a, R: Files> {
 
 impl<'a, R: Files> LazyFile<'a, R> {
     /// The file is not opened yet.
-    pub fn new(rt: &'a R, name: &'a str) -> LazyFile<'a, R> {
+    pub fn new(rt: &'a R, name: &'a str) -> LazyFile<'a, R>
+        ensures name { result.name.now ≡ name.now }
+        ensures unopened { result.file ≡ None }
+    {
         LazyFile {
             rt,
             name,

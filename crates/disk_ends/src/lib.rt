@@ -5,7 +5,6 @@
 //! trusts the operating system.
 #![tactic(auto)]
 
-mod fault_count;
 mod file_disk;
 mod lazy_file;
 mod sparing_place;

@@ -1,10 +1,9 @@
 //! The files of the machine, but for one that no name of it makes.
 ghost use Rattle.std.specs.Prelude.{◌≡◌, true, false};
-ghost use Rattle.pet_ends.specs.Untold.{Opened, nothing_open, untold};
+ghost use Rattle.pet_ends.specs.Untold.{nothing_open, untold};
 
-use crate::fault_count::FaultCount;
 use pet_base::{Failed, Place};
-use pet_ends::FilePlace;
+use pet_ends::{FaultCount, FilePlace};
 use std::fs;
 use std::marker::Model;
 use std::os::unix::fs::MetadataExt;
@@ -22,12 +21,14 @@ pub struct SparingPlace<'a, R: Files, E: Eprint> {
 }
 
 impl<'a, R: Files, E: Eprint> Model for SparingPlace<'a, R, E> {
-    ghost Value = { Opened };
+    ghost use Rattle.std.specs.Prelude.{◌≡◌, true};
+    ghost use Rattle.disk_ends.specs.Sparing.{Sparing};
 
-    ghost view = { λ p. record p.files {
-      has_output = p.output;
-      faults = p.faults.count;
-      failing = p.faults.last;
+    ghost Value = { Sparing };
+
+    ghost view = { λ p. record {
+      files = record p.files { has_output = p.output; faults = p.faults.count; failing = p.faults.last };
+      spared = p.spared.now;
     } };
 
     ghost invariant = { λ p. p.output ≡ true → p.files.has_output ≡ true };
@@ -36,7 +37,7 @@ impl<'a, R: Files, E: Eprint> Model for SparingPlace<'a, R, E> {
 impl<'a, R: Files, E: Eprint> SparingPlace<'a, R, E> {
     /// No input and no output, and no failure yet; `notices` is told why a file fails. The file of the name `spared` is not made.
     pub fn new(rt: &'a R, notices: E, spared: &'a str) -> SparingPlace<'a, R, E>
-        ensures { result ≡ nothing_open }
+        ensures { result ≡ record { files = nothing_open; spared = spared.now } }
     {
         SparingPlace {
             rt,
@@ -57,7 +58,7 @@ fn are_one<R: Files>(rt: &R, one: &str, other: &str) -> bool {
 }
 
 impl<R: Files, E: Eprint> Place for SparingPlace<'_, R, E> {
-    ghost seen = { untold };
+    ghost seen = { λ p. untold p.files };
 
     fn enter(&mut self, name: &str) -> Result<(), Failed> {
         let answer = self.files.enter(name);
@@ -67,7 +68,7 @@ impl<R: Files, E: Eprint> Place for SparingPlace<'_, R, E> {
     fn take(&mut self, into: &mut [u8]) -> Result<usize, Failed> {
         match self.files.take(into) {
             Ok(count) => {
-                self.faults.pass();
+                self.faults.begin();
                 Ok(count)
             }
             Err(_) => Err(self.faults.rise()),

@@ -1,6 +1,6 @@
 //! How often an end failed.
-ghost use Rattle.std.specs.Prelude.{◌≡◌, ◌≤◌, true, false};
-ghost use Rattle.pet_base.specs.Causes.{Rose, one_more};
+ghost use Rattle.std.specs.Prelude.{◌≡◌, ◌≤◌, true, false, is_err};
+ghost use Rattle.pet_base.specs.Causes.{HasCause, Rose, one_more};
 
 use pet_base::Failed;
 
@@ -41,5 +41,20 @@ impl FaultCount {
         self.count = self.count.saturating_add(1);
         self.last = true;
         Failed
+    }
+
+    /// What a call answered, which is counted where it failed.
+    pub fn count<T, E: Drop>(&mut self, answer: Result<T, E>) -> Result<T, Failed>
+        ensures cause { HasCause self.old.count self.new.count result }
+        ensures failing { self.new.last ≡ is_err result }
+        ensures same { is_err result ≡ is_err answer }
+    {
+        match answer {
+            Ok(value) => {
+                self.begin();
+                Ok(value)
+            }
+            Err(_) => Err(self.rise()),
+        }
     }
 }

@@ -20,6 +20,7 @@ mod transfer;
 mod udp_link;
 mod waiting;
 
+pub use fault_count::FaultCount;
 pub use file_place::FilePlace;
 pub use printer::Printer;
 pub use standard_out::StandardOut;
