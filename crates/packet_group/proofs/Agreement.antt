@@ -3,7 +3,7 @@ use Rattle.std.specs.Prelude.{flat_map, map, unwrap_or, IsSome, Contains, min}
 use Rattle.std.proofs.Common.{◌≡◌, ℕ, suc, ◌+◌, ◌-◌, ◌*◌, ◌<◌, ◌≤◌, List, [], ◌∷◌, ◌++◌, Option, None, Some, length}
 use Rattle.std.proofs.Common.{get_or, take, drop, All, refl, sym, ap, ◌∙◌, arith, subst, inl, inr}
 use Rattle.std.proofs.lemmas.Bool.{cases_lt}
-use Rattle.std.proofs.Math.Nat.{mul-le-mul_left, mul-le-mul_right}
+use Rattle.std.proofs.Math.Nat.{mul-le-mul_right}
 use Rattle.std.proofs.lemmas.List.{length-map, length-take, length-drop, length-take-le, get_or-map, get_or-take}
 use Rattle.std.proofs.lemmas.List.{get_or-drop, get_or_default, same_lists, take-append-drop, take-take}
 use Rattle.std.proofs.lemmas.List.Elements.{All-map, All-take, All-drop, Contains-get_or}
@@ -46,7 +46,7 @@ within_plan needs start (end ∷ ends) plan word l m =
           record { stripe = suc rest.stripe; inside = omega (arith, rest.inside); from = rest.from; below = rest.below }
     ]
 
-each_within : (layers : List LayerSize) → IsPlan (needs_of layers) 0 (plan_ends layers) → (word : ℕ)
+pub each_within : (layers : List LayerSize) → IsPlan (needs_of layers) 0 (plan_ends layers) → (word : ℕ)
     → word < length (needs_of layers) → IsWithin (plan_stripes layers) word
 unfolding stripes_from
 each_within layers plan word l = within_plan (needs_of layers) 0 (plan_ends layers) plan word (omega arith) l

@@ -1,8 +1,9 @@
 -- The state of a group whose stripes are all known is given back: what it held stands in the message, and one packet more
 -- changes only how many were met.
 use Rattle.std.specs.Prelude.{IfSome, map, is_some}
-use Rattle.std.proofs.Common.{◌≡◌, ◌≢◌, ℕ, ◌+◌, ◌*◌, ◌<◌, ◌≤◌, List, [], ◌∷◌, ◌++◌, Option, None, Some, length, get_or}
-use Rattle.std.proofs.Common.{All, refl, sym, ap, ap₂, ◌∙◌, arith, subst}
+use Rattle.std.proofs.Common.{◌≡◌, ℕ, ◌+◌, ◌*◌, ◌<◌, ◌≤◌, List, [], ◌∷◌, ◌++◌, Option, None, Some, length, get_or}
+use Rattle.std.proofs.Common.{All, refl, sym, ap, ap₂, ◌∙◌, arith, subst, inl, inr}
+use Rattle.std.proofs.lemmas.Bool.{cases_eq}
 use Rattle.std.proofs.Math.ListN as M
 use Rattle.std.proofs.lemmas.List.{ext_get_or, length-map, length-set}
 use Rattle.std.proofs.lemmas.List.Elements.{All-from_get_or}
@@ -13,13 +14,14 @@ use Rattle.pet_poly.specs.laws.RowLaws.{length-words, words_are}
 use Rattle.pet_interp.specs.Progressive.{Held, StandsFor, stripe_of, lengths_of, step_bound}
 use Rattle.pet_interp.proofs.Added.{stands_same}
 use Rattle.stripe_plan.specs.declared.layer.LayerSize.{LayerSize}
-use Rattle.stripe_plan.specs.Layers.{plan_stripes, needs_of}
+use Rattle.stripe_plan.specs.Layers.{plan_stripes}
 use Rattle.packet_set.specs.Packets.{Packets, slot_at, with_packet, count_in}
 use Rattle.packet_set.specs.laws.SlotCounts.{count_set}
 use Rattle.packet_session.specs.Payload.{stripes_in}
 use Rattle.packet_group.specs.OpenGroup.{GroupState, HoldsAfter, points_of, layers_of, stripe_lengths}
 use Rattle.packet_group.specs.Stored.{held_in, IsGivenBack}
-use Rattle.packet_group.specs.inside.Learning.{CanLearn, IsOneMore, IsLeft, Learns}
+use Rattle.packet_group.specs.Written.{Reaches}
+use Rattle.packet_group.specs.inside.Learning.{CanLearn, IsOneMore, Learns}
 use Rattle.packet_group.proofs.Cuts.{sizes_are}
 use Rattle.packet_group.proofs.Holding.{IsKeeping, holds_more, apart, met_is}
 
@@ -186,6 +188,31 @@ module _ {E : Type 0} (P : E → Type 0) (c : Coding E) where
         omega (arith, (learns.1).met, met, h.many, more) in
         subst (λ n. All (λ k. k ≤ n) (stripe_lengths (layers_of p))) now
         (short_planned learns.0 (layers_of p) (learns.0).met ((learns.1).lengths ∙ h.lengths) learns.2)
+
+    -- the bytes of the message go on to reach the end of each stripe that is known
+    pub reached_learnt : (progress : Option (Held E)) (numbers written written' : List ℕ) → IsGivenBack p progress
+        → HoldsAfter P c (record { packets = p; message = message; held = held_in c p message progress }) numbers
+        → ((size : ℕ) → 0 < size → size ≤ count_in p → Reaches c.width (layers_of p) size written)
+        → length written ≤ length written'
+        → IfSome progress (λ held. Reaches c.width (layers_of p) (held.met + 1) written')
+        → (size : ℕ) → 0 < size → size ≤ count_in (with_packet p number payload)
+        → Reaches c.width (layers_of p) size written'
+    reached_learnt None numbers written written' short h before longer now size some few' j l e =
+        let plan = plan_stripes (layers_of p) in
+        let here = short j 0 (omega (arith, l, length-map plan (λ (s : ℕ × ℕ). s.1))) in
+        let is : get_or (stripe_lengths (layers_of p)) j 0 ≡ size =
+        M.get_or-map (λ (s : ℕ × ℕ). s.1) plan j (0, 0) ∙ e in
+        omega (arith, before size some (omega (arith, here, is)) j l e, longer)
+    reached_learnt (Some held) numbers written written' short h before longer now size some few' j l e =
+        let g : GroupState E = record { packets = p; message = message; held = held } in
+        let more : count_in (with_packet p number payload) ≡ count_in p + 1 =
+        count_set (List ℕ) p.slots number payload inside absent in
+        let met = met_is P count c laws.points g numbers h few in
+        elim (cases_eq size (held.met + 1)) [
+          | inl new ↦ subst (λ n. Reaches c.width (layers_of p) n written') (sym new) now j l e
+          | inr old ↦
+              omega (arith, before size some (omega (arith, few', old, met, h.many, more)) j l e, longer)
+        ]
 
     -- what is left of the state can take the packet's point
     pub can_learn : (progress : Option (Held E)) (numbers : List ℕ) → length p.slots < 65536

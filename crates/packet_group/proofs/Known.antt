@@ -3,6 +3,7 @@ use Rattle.std.specs.Prelude.{flat_map}
 use Rattle.std.proofs.Common.{◌≡◌, ◌≢◌, ℕ, ◌+◌, ◌*◌, ◌<◌, ◌≤◌, List, [], ◌∷◌, ◌++◌, length, get_or, take, drop, All}
 use Rattle.std.proofs.Common.{refl, sym, ap, ◌∙◌, arith, subst, inl, inr}
 use Rattle.std.proofs.lemmas.Bool.{cases_eq}
+use Rattle.std.proofs.lemmas.List.Elements.{All-append, All-take, All-drop}
 use Rattle.std.proofs.Math.Nat.{mul-le-mul_right}
 use Rattle.field_elements.specs.Field.{Coding, AreSpellings}
 use Rattle.pet_interp.specs.Progressive.{Held, stripe_of, lengths_of}
@@ -11,7 +12,9 @@ use Rattle.stripe_plan.specs.declared.layer.LayerSize.{LayerSize}
 use Rattle.stripe_plan.specs.Layers.{needs_of, plan_stripes}
 use Rattle.packet_session.specs.Payload.{stripes_in}
 use Rattle.packet_group.specs.OpenGroup.{stripe_lengths}
-use Rattle.packet_group.proofs.Rows.{IsWritten, words_written}
+use Rattle.packet_group.specs.Written.{filled}
+use Rattle.packet_group.proofs.Rows.{IsWritten, words_written, length-spellings, bytes_spellings}
+use Rattle.packet_group.proofs.Filling.{IsPartWritten, part_written, length_filled}
 use Rattle.packet_group.proofs.Cuts.{plan_on_end, next_from, sizes_are, cut_written, cut_other}
 
 -- the plan's stripe `stripe` has `size` words of the message from `at` on
@@ -38,6 +41,44 @@ taken layers count stripe at size before left rest first same =
       },
       sym next.rest ∙ ap (λ (i : ℕ). drop (i + 1) plan) (sym same),
     )
+
+-- the bytes of the message are filled up to such a stripe's end, and its words are written
+pub stripe_written : {E : Type 0} (P : E → Type 0) (c : Coding E) (laws : AreSpellings P c.width c.spelt c.spelling)
+    (layers : List LayerSize) (stripe at size : ℕ) (cs : List E) (old new : List ℕ)
+    → IsHere layers stripe at size → length cs ≡ size
+    → All P cs × (new ≡ take (at * c.width) (filled ((at + size) * c.width) old) ++ flat_map c.spelling cs
+    ++ drop ((at + size) * c.width) (filled ((at + size) * c.width) old))
+    → IsPartWritten (length (needs_of layers) * c.width) (at * c.width) ((at + size) * c.width)
+    (flat_map c.spelling cs) old new
+stripe_written P c laws layers stripe at size cs old new here long is =
+    let bytes : length (flat_map c.spelling cs) ≡ size * c.width =
+    length-spellings P c.width c.spelt c.spelling laws cs is.0 ∙ ap (λ n. n * c.width) long in
+    let split : (at + size) * c.width ≡ at * c.width + size * c.width = omega arith in
+    part_written (length (needs_of layers) * c.width) (at * c.width) ((at + size) * c.width) (flat_map c.spelling cs)
+    old new (omega (arith, split, bytes)) (mul-le-mul_right c.width here.ended) is.1
+
+-- bytes that are filled up to b where `size` is `met`, and else left as they are
+pub record AreGrown (met size n b : ℕ) (old new : List ℕ) : Type 0 where
+  pub whole : length (filled n new) ≡ n
+  pub longer : length old ≤ length new
+  pub reaches : size ≡ met → b ≤ length new
+
+pub stripe_grown : (met size n b : ℕ) (old new : List ℕ) → b ≤ n → length (filled n old) ≡ n
+    → (size ≡ met → length new ≡ length (filled b old)) → (size ≢ met → length new ≡ length old)
+    → AreGrown met size n b old new
+stripe_grown met size n b old new inside whole written same =
+    elim (cases_eq size met) [
+      | inl e ↦ record {
+        whole = omega (arith, length_filled n new, length_filled n old, length_filled b old, written e, whole, inside);
+        longer = omega (arith, length_filled b old, written e);
+        reaches = λ _. omega (arith, length_filled b old, written e);
+      }
+      | inr ne ↦ record {
+        whole = omega (arith, length_filled n new, length_filled n old, same ne, whole);
+        longer = omega (arith, same ne);
+        reaches = λ e. absurd (ne e);
+      }
+    ]
 
 -- what is done with such a stripe
 pub record IsStep {E : Type 0} (P : E → Type 0) (c : Coding E) (layers : List LayerSize) (held : Held E)
@@ -90,6 +131,21 @@ module _ {E : Type 0} (P : E → Type 0) (c : Coding E) (laws : AreSpellings P c
             (words c.spelt c.width (length (needs_of layers)) new) stripe (stripe_of held stripe) s.stands.inside
             ((sizes_are held layers s.lengths).each stripe) (row_written e) i l ne
         | inr e ↦ ap (λ m. get_or (stripes_in c layers m) i []) (s.same e)
+      ]
+
+  pub step_bytes : All (λ b. b < 256) old → All (λ b. b < 256) new
+  step_bytes bytes =
+      elim (cases_eq (length (stripe_of held stripe)) held.met) [
+        | inl e ↦
+            let w = s.written e in
+            subst (All (λ b. b < 256)) (sym w.1)
+            (All-append (λ b. b < 256)
+            (take (at * c.width) old ++ flat_map c.spelling (stripe_of held stripe)) (drop ((at + size) * c.width) old)
+            (All-append (λ b. b < 256) (take (at * c.width) old) (flat_map c.spelling (stripe_of held stripe))
+            (All-take (λ b. b < 256) (at * c.width) old bytes)
+            (bytes_spellings P c.width c.spelt c.spelling laws (stripe_of held stripe) w.0))
+            (All-drop (λ b. b < 256) ((at + size) * c.width) old bytes))
+        | inr ne ↦ subst (All (λ b. b < 256)) (sym (s.same ne)) bytes
       ]
 
   pub step_known : ((j : ℕ) → j < stripe → length (stripe_of held j) ≡ held.met

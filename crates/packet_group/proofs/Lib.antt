@@ -1,4 +1,5 @@
 pub mod Rows
+pub mod Filling
 pub mod Cuts
 pub mod Known
 pub mod Holding

@@ -7,7 +7,7 @@ use Rattle.std.specs.List.{AllByRecursion as Each}
 use Rattle.std.proofs.lemmas.List.{length-append, length-drop, length-take-le, take-append-le, drop-append-le}
 use Rattle.std.proofs.lemmas.List.{take-append-drop, drop-drop, drop_at, take_at, take_more, append-nil}
 use Rattle.std.proofs.lemmas.Grind.{flat_map-append}
-use Rattle.std.proofs.lemmas.List.Elements.{recursion_from_All}
+use Rattle.std.proofs.lemmas.List.Elements.{recursion_from_All, All-nil, All-append, All-head, All-tail}
 use Rattle.field_elements.specs.Field.{AreSpellings}
 use Rattle.pet_poly.specs.Rows.{words}
 use Rattle.pet_poly.specs.laws.RowLaws.{words_of_spellings}
@@ -57,6 +57,14 @@ pub length-spellings : {E : Type 0} (P : E → Type 0) (w : ℕ) (spelt : List �
     → AreSpellings P w spelt spelling
     → (vs : List E) → All P vs → length (flat_map spelling vs) ≡ length vs * w
 length-spellings P w spelt spelling laws vs h = length_each P w spelt spelling laws vs (recursion_from_All P vs h)
+
+pub bytes_spellings : {E : Type 0} (P : E → Type 0) (w : ℕ) (spelt : List ℕ → E) (spelling : E → List ℕ)
+    → AreSpellings P w spelt spelling
+    → (vs : List E) → All P vs → All (λ b. b < 256) (flat_map spelling vs)
+bytes_spellings P w spelt spelling laws [] h = All-nil (λ b. b < 256)
+bytes_spellings P w spelt spelling laws (v ∷ vs) h =
+    All-append (λ b. b < 256) (spelling v) (flat_map spelling vs) (laws.spelling_bytes v (All-head P v vs h))
+    (bytes_spellings P w spelt spelling laws vs (All-tail P v vs h))
 
 -- the row `new` has `cs` from `at` on, and else what `row` has
 pub record IsWritten {E : Type 0} (row new : List E) (at : ℕ) (cs : List E) : Type 0 where

@@ -4,3 +4,4 @@ pub mod Stored
 pub mod Tags
 pub mod inside
 pub mod laws
+pub mod Written

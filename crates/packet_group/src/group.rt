@@ -1,5 +1,5 @@
 //! One open group: its packets, its stripes and its message.
-ghost use Rattle.std.specs.Prelude.{◌≡◌, ◌↔◌, ℕ, ◌+◌, ◌*◌, ◌<◌, ◌≤◌, List, [], ◌∷◌, ◌++◌, length, map, None, IsSome, IfOk, IfSome, ◌^◌, sum_by, replicate};
+ghost use Rattle.std.specs.Prelude.{◌≡◌, ◌↔◌, ℕ, ◌+◌, ◌*◌, ◌<◌, ◌≤◌, List, [], ◌∷◌, ◌++◌, length, map, None, IsSome, IfOk, IfSome, ◌^◌, sum_by, vec_capacity};
 ghost use Rattle.stripe_plan.specs.Layers.{needs_of, plan_stripes, words_of};
 ghost use Rattle.packet_session.specs.Session.{IsMessage, bytes_of_layer, bytes_in_layer};
 ghost use Rattle.stripe_plan.specs.Sizes.{IsTable};
@@ -8,6 +8,7 @@ ghost use Rattle.pet_interp.specs.Progressive.{step_bound};
 ghost use Rattle.packet_group.specs.OpenGroup.{count_in, HoldsAfter, layers_of, stripe_lengths};
 ghost use Rattle.packet_group.specs.ShownBytes.{IsShownIn, IsShownBytes, Agrees};
 ghost use Rattle.packet_group.specs.Tags.{IsTagOf, AreTagsOf};
+ghost use Rattle.packet_group.specs.Written.{ReachesLayer, whole_message};
 
 use crate::learn::learn;
 use crate::tags::{no_tags, tag_in};
@@ -31,21 +32,23 @@ pub struct OpenGroup<'f, F: Rows> {
     packets: PacketSet,
     /// What is known of each stripe of the plan, given back with the packet that makes the last one known.
     progress: Option<Progress<'f, F>>,
-    /// The field's width in bytes a word. A stripe's words stand here from the packet on that makes them known.
+    /// The field's width in bytes a word. A stripe's words stand here from the packet on that makes them known. There is room
+    /// for all words, and bytes are written no further than the end of the last stripe that is known.
     message: Vec<u8>,
     /// For each number the tag of the kept packet's frame, where it was told.
     tags: Vec<Option<[u8; 16]>>,
 }
 
 impl<'f, F: Rows> Model for OpenGroup<'f, F> {
+    ghost use Rattle.std.specs.Prelude.{vec_capacity};
     ghost use Rattle.packet_group.specs.OpenGroup.{GroupState};
-    ghost use Rattle.packet_group.specs.Stored.{held_in, IsStored};
+    ghost use Rattle.packet_group.specs.Stored.{state_of, IsStored};
 
     ghost Value = { GroupState F.Elem };
 
-    ghost view = { λ g. record { packets = g.packets; message = g.message.items; held = held_in F.coding g.packets g.message.items g.progress } };
+    ghost view = { λ g. state_of F.coding g.packets g.message.items g.progress };
 
-    ghost invariant = { λ g. IsStored g.packets g.progress g.tags.items };
+    ghost invariant = { λ g. IsStored F.coding.width g.packets g.progress (vec_capacity g.message) g.message.items g.tags.items };
 }
 
 impl<'f, F: Rows> OpenGroup<'f, F> {
@@ -59,7 +62,7 @@ impl<'f, F: Rows> OpenGroup<'f, F> {
         let lengths = lengths_of_stripes(alloc, &header.table)?;
         let progress = Progress::new(alloc, field, &lengths)?;
         let packets = PacketSet::new(alloc, header, F::WIDTH)?;
-        let message = empty_message(alloc, &header.table, F::WIDTH)?;
+        let message = message_room(alloc, &header.table, F::WIDTH)?;
         let tags = no_tags(alloc, header.table.packets())?;
         Ok(OpenGroup {
             field,
@@ -167,26 +170,34 @@ fn lengths_of_stripes(alloc: Global, table: &Table) -> Result<Vec<u16>, NoMemory
     Ok(lengths)
 }
 
-/// A message of words of `width` bytes, none of which is known.
-fn empty_message(alloc: Global, table: &Table, width: usize) -> Result<Vec<u8>, NoMemory>
-    ensures { IfOk result (λ message. message.items
-        ≡ replicate (length (needs_of table.now.layers) * width) 0) }
+/// Room for a message of words of `width` bytes, of which nothing is written.
+fn message_room(alloc: Global, table: &Table, width: usize) -> Result<Vec<u8>, NoMemory>
+    ensures nothing { IfOk result (λ message. message.items ≡ []) }
+    ensures room { IfOk result (λ message. length (needs_of table.now.layers) * width ≤ vec_capacity message) }
 {
     match (table.words() as usize).checked_mul(width) {
-        Some(size) => Ok(vec![in alloc; 0u8; size]?),
+        Some(size) => {
+            let mut message = Vec::new(alloc);
+            message.reserve_exact(size)?;
+            Ok(message)
+        }
         None => Err(NoMemory),
     }
 }
 
-/// The bytes of a layer in a message of words of `width` bytes.
+/// The bytes of a layer in a message of words of `width` bytes, which is written at least up to the layer's end. A layer without
+/// bytes may stand behind what is written.
 fn layer_bytes<'a>(message: &'a [u8], layers: &[LayerSize], layer: u8, width: usize) -> &'a [u8]
-    requires room { length message.now ≡ length (needs_of layers.now) * width }
+    requires reached { ReachesLayer width layers.now layer message.now }
     requires few { sum_by words_of layers.now < 2 ^ 32 }
     requires layer { layer < length layers.now }
-    ensures { result.now ≡ bytes_of_layer width layers.now message.now layer }
+    ensures { result.now ≡ bytes_of_layer width layers.now (whole_message width layers.now message.now) layer }
 {
-    let start = first_word(layers, usize::from(layer)) as usize * width;
     let size = layer_size(&layers[usize::from(layer)], width);
+    if size == 0 {
+        return &[];
+    }
+    let start = first_word(layers, usize::from(layer)) as usize * width;
     &message[start..start + size]
 }
 

@@ -1,22 +1,21 @@
-use Rattle.std.proofs.Common.{◌≡◌, ◌≤◌, ◌<◌, ◌+◌, ◌*◌, ℕ, List, length, get_or, sum_by, refl, sym, ap, ap₂, ◌∙◌, arith}
-use Rattle.std.proofs.Common.{rules, subst}
+use Rattle.std.proofs.Common.{◌≡◌, ◌≤◌, ◌<◌, ℕ, List, length, get_or, sum_by, refl, sym, ap, ap₂, ◌∙◌, arith}
+use Rattle.std.proofs.Common.{subst}
 use Rattle.std.specs.Prelude.{IsSome, Contains}
 use Rattle.stripe_plan.specs.laws.CountLaws.{length-counts_of, count_at}
 use Rattle.stripe_plan.proofs.CountLemmas.{count_of-greatest}
 use Rattle.stripe_plan.proofs.PlanLemmas.{plan_ends_plan}
 use Rattle.stripe_plan.proofs.TableLemmas.{words_half}
-use Rattle.stripe_plan.specs.Stripes.{IsPlan}
 use Rattle.stripe_plan.specs.declared.layer.LayerSize.{LayerSize}
-use Rattle.stripe_plan.specs.Counts.{IsLongestMeeting}
-use Rattle.stripe_plan.specs.Layers.{plan_stripes, words_before, words_of, needs_of, plan_ends, AllNeeded, count_of}
+use Rattle.stripe_plan.specs.Layers.{words_of, AllNeeded, count_of}
 use Rattle.stripe_plan.specs.Layers.{counts_of}
 use Rattle.packet_frame.specs.declared.frame.Header.{Header}
 use Rattle.packet_set.specs.Packets.{Packets, slot_at}
 use Rattle.packet_session.specs.Session.{bytes_of_layer}
 use Rattle.packet_group.specs.OpenGroup.{GroupState, layers_of, count_in}
+use Rattle.packet_group.specs.Written.{Reaches, ReachesLayer, whole_message}
 use Rattle.packet_group.proofs.Agreement.{agreed_bytes}
 use Rattle.packet_group.proofs.Holding.{some_inside}
-use Rattle.packet_group.proofs.LayerBytes.{shown_bytes}
+use Rattle.packet_group.proofs.LayerBytes.{layer_reached, shown_bytes}
 use Rattle.packet_group.proofs.group.OpenGroup.layer.Given.{Over}
 use Rattle.packet_group.proofs.group.OpenGroup.layer.Goals as goal
 use Rattle.packet_group.proofs.group.OpenGroup.layer.Goals.{After-layers-layers, then-from-counts-via-then-from-counts}
@@ -60,16 +59,24 @@ reached g c = omega (arith, c.if-len-counts.false, shown_by g c, c.len.ensures.v
 
 -- ---- the answers
 
-pub layer_bytes-requires-clause-room : goal.layer_bytes-requires-clause-room
-layer_bytes-requires-clause-room g c =
-    let G = c.args.self.now in
-    let layers = layers_are g (goal.at.layer_bytes-requires-clause-room g c).After-layers-layers in
-    let message : c.deref.result.now ≡ G.message =
-    c.deref.ensures.value ∙ ap (λ (v : GroupState g.row.F-Elem.Denot). v.message) c.self.view_is in
-    let wide : c.WIDTH.result ≡ g.F.Field.coding.width = c.WIDTH.ensures ∙ sym g.met.F.Field.wide in
-    ap length message ∙ c.requires.held.1.message.whole
-    ∙ ap (λ w. length (needs_of (layers_of G.packets)) * w) (sym wide)
-    ∙ ap (λ (l : List LayerSize). length (needs_of l) * c.WIDTH.result) (sym layers)
+pub layer_bytes-requires-clause-reached : goal.layer_bytes-requires-clause-reached
+layer_bytes-requires-clause-reached g c =
+    let h = (goal.at.layer_bytes-requires-clause-reached g c).After-layers-layers in
+    let layer = c.args.layer in
+    let layers = layers_of c.args.self.now.packets in
+    let L = c.layers-layers.result.now in
+    let bytes = c.self.inside.message.items in
+    let width = g.F.Field.coding.width in
+    let stored = subst (λ (p : Packets).
+    (size : ℕ) → 0 < size → size ≤ count_in p → Reaches width (layers_of p) size bytes)
+    (packets_are g h) c.self.invariant.reached in
+    let end = layer_reached width layer (count_of layers layer) (count_in c.args.self.now.packets) layers bytes
+    (plan_ends_plan layers (needed g h)) (count_of-greatest layers layer (needed g h) (layer_inside g h)) (reached g h)
+    stored in
+    let wide : c.WIDTH.result ≡ width = c.WIDTH.ensures ∙ sym g.met.F.Field.wide in
+    subst (ReachesLayer c.WIDTH.result L layer) (sym c.deref.ensures.value)
+    (subst (λ w. ReachesLayer w L layer bytes) (sym wide)
+    (subst (λ (l : List LayerSize). ReachesLayer width l layer bytes) (sym (layers_are g h)) end))
 
 pub layer_bytes-requires-clause-few : goal.layer_bytes-requires-clause-few
 layer_bytes-requires-clause-few g c =
@@ -133,13 +140,19 @@ returns-clause-bytes g c numbers h =
     let G = c.args.self.now in
     let at = (goal.at.returns-clause-bytes g c).After-layers-layers in
     let layers = layers_are g at in
-    let message : c.deref.result.now ≡ G.message =
-    c.deref.ensures.value ∙ ap (λ (v : GroupState g.row.F-Elem.Denot). v.message) c.self.view_is in
-    let is : c.layer_bytes.result.now ≡ bytes_of_layer F.coding.width (layers_of G.packets) G.message c.args.layer =
-    c.layer_bytes.ensures ∙ ap (λ l. bytes_of_layer c.WIDTH.result l c.deref.result.now c.args.layer) layers
-    ∙ ap (λ m. bytes_of_layer c.WIDTH.result (layers_of G.packets) m c.args.layer) message
-    ∙ ap (λ w. bytes_of_layer w (layers_of G.packets) G.message c.args.layer)
-    (c.WIDTH.ensures ∙ sym g.met.F.Field.wide) in
+    let width = F.coding.width in
+    let bytes = c.deref.result.now in
+    let L = c.layers-layers.result.now in
+    let wide : c.WIDTH.result ≡ width = c.WIDTH.ensures ∙ sym g.met.F.Field.wide in
+    let inside : L ≡ layers_of c.self.inside.packets = layers ∙ ap layers_of (sym (packets_are g at)) in
+    let message : whole_message width L bytes ≡ G.message =
+    ap (λ (l : List LayerSize). whole_message width l bytes) inside
+    ∙ ap (whole_message width (layers_of c.self.inside.packets)) c.deref.ensures.value
+    ∙ ap (λ (v : GroupState g.row.F-Elem.Denot). v.message) c.self.view_is in
+    let is : c.layer_bytes.result.now ≡ bytes_of_layer width (layers_of G.packets) G.message c.args.layer =
+    c.layer_bytes.ensures ∙ ap (λ w. bytes_of_layer w L (whole_message w L bytes) c.args.layer) wide
+    ∙ ap (λ m. bytes_of_layer width L m c.args.layer) message
+    ∙ ap (λ (l : List LayerSize). bytes_of_layer width l G.message c.args.layer) layers in
     shown_bytes F.is_element F.coding G numbers c.args.layer
     (count_of (layers_of G.packets) c.args.layer) c.layer_bytes.result.now h (reached g at)
     (count_of-greatest (layers_of G.packets) c.args.layer (needed g at) (layer_inside g at)) is

@@ -1,9 +1,13 @@
-use Rattle.std.proofs.Common.{◌≡◌, ◌*◌, ◌<◌, length, replicate, sym, ap, ◌∙◌, arith}
-use Rattle.std.proofs.lemmas.List.{length-replicate}
-use Rattle.std.proofs.lemmas.List.Elements.{All-same, All-replicate}
+use Rattle.std.specs.Prelude.{count_by, is_some}
+use Rattle.std.proofs.Common.{◌≡◌, ℕ, ◌*◌, ◌<◌, List, [], length, sym, ap, ap₂, ◌∙◌, arith}
+use Rattle.std.proofs.lemmas.List.Elements.{All-same, All-nil}
 use Rattle.stripe_plan.specs.Layers.{needs_of}
 use Rattle.packet_frame.specs.declared.frame.Header.{Header}
-use Rattle.packet_group.specs.OpenGroup.{layers_of, stripe_lengths}
+use Rattle.packet_set.specs.laws.SlotCounts.{count_none}
+use Rattle.stripe_plan.specs.declared.layer.LayerSize.{LayerSize}
+use Rattle.packet_group.specs.OpenGroup.{count_in, layers_of, stripe_lengths}
+use Rattle.packet_group.specs.Written.{filled}
+use Rattle.packet_group.proofs.Filling.{length_filled, filled_bytes}
 use Rattle.packet_group.proofs.Holding.{holds_none}
 use Rattle.packet_group.proofs.group.OpenGroup.open.Goals as goal
 
@@ -14,13 +18,29 @@ returns-clause-held g c =
     ap (λ (h : Header). h.table.layers) (sym c.in_ok-packets.ensures.header) in
     let lengths = c.in_ok-progress.ensures.lengths ∙ c.deref.ensures.value ∙ c.in_ok-lengths.ensures
     ∙ ap stripe_lengths layers in
-    let size = length (needs_of c.args.header.now.table.layers) * c.WIDTH-2.result in
-    let wide : c.WIDTH-2.result ≡ F.coding.width = c.WIDTH-2.ensures ∙ sym g.met.F.Field.wide in
-    let room = ap length c.in_ok-message.ensures ∙ length-replicate size 0
-    ∙ ap (λ w. length (needs_of c.args.header.now.table.layers) * w) wide
-    ∙ ap (λ l. length (needs_of l) * F.coding.width) layers in
-    holds_none F.is_element F.coding c.in_ok-packets.packets c.in_ok-progress.progress c.in_ok-message.message.items
+    let bytes = c.in_ok-message.message.items in
+    let size = length (needs_of (layers_of c.in_ok-packets.packets)) * F.coding.width in
+    let nothing : bytes ≡ [] = c.in_ok-message.ensures.nothing in
+    let long : length bytes ≡ 0 = ap length nothing in
+    holds_none F.is_element F.coding c.in_ok-packets.packets c.in_ok-progress.progress (filled size bytes)
     c.args.header.now.table.packets
-    c.in_ok-packets.ensures.empty lengths c.in_ok-progress.ensures.stands room
-    (All-same (λ b. b < 256) c.in_ok-message.message.items (replicate size 0) c.in_ok-message.ensures
-    (All-replicate (λ b. b < 256) size 0 (omega arith)))
+    c.in_ok-packets.ensures.empty lengths c.in_ok-progress.ensures.stands
+    (length_filled size bytes ∙ omega (arith, long))
+    (filled_bytes size bytes (All-same (λ b. b < 256) bytes [] nothing (All-nil (λ b. b < 256))))
+
+pub invariant_of-result : goal.invariant_of-result
+invariant_of-result g c =
+    let layers : c.args.header.now.table.layers ≡ layers_of c.in_ok-packets.packets =
+    ap (λ (h : Header). h.table.layers) (sym c.in_ok-packets.ensures.header) in
+    let wide : c.WIDTH-2.result ≡ g.F.Field.coding.width = c.WIDTH-2.ensures ∙ sym g.met.F.Field.wide in
+    let size : length (needs_of c.args.header.now.table.layers) * c.WIDTH-2.result
+    ≡ length (needs_of (layers_of c.in_ok-packets.packets)) * g.F.Field.coding.width =
+    ap₂ (λ (l : List LayerSize) (w : ℕ). length (needs_of l) * w) layers wide in
+    let none : count_in c.in_ok-packets.packets ≡ 0 =
+    ap (count_by is_some) c.in_ok-packets.ensures.empty ∙ count_none (List ℕ) c.args.header.now.table.packets in
+    record {
+      tagged = λ number tag is. let no_tag = sym (c.in_ok-tags.ensures number) ∙ is in absurd (cc);
+      given_back = tt;
+      room = omega (arith, size, c.in_ok-message.ensures.room);
+      reached = λ many some few. absurd (omega (arith, some, few, none));
+    }
