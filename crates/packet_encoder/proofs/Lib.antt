@@ -1,4 +1,5 @@
 mod Columns
+mod LaidWords
 mod Made
 mod Message
 mod Payloads

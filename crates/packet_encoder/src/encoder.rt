@@ -11,8 +11,8 @@ ghost use Rattle.stripe_plan.specs.Layers.{needs_of, plan_ends, plan_stripes};
 ghost use Rattle.stripe_plan.specs.Sizes.{IsTable, length_by};
 ghost use Rattle.stripe_plan.specs.declared.bounds.TheConstants.{BOUNDS};
 
-use crate::laid::{laid_out, plan_blocks};
-use crate::values::{append_elements, elements, stripe_values};
+use crate::laid::{laid_words, plan_blocks};
+use crate::values::{append_elements, stripe_values};
 use field_elements::Field;
 use field_rows::{Block, Rows};
 use field_values::AllValues;
@@ -80,8 +80,7 @@ impl<'f, F: Field> PacketEncoder<'f, F> {
         ensures message { IfOk result (λ e. e.encoding.message ≡ message.now) }
     {
         let plan = plan_blocks(alloc, &header.table)?;
-        let row = elements(alloc, f, message, header.table.words())?;
-        let laid = laid_out(alloc, &plan, &row)?;
+        let laid = laid_words(alloc, f, &plan, message, header.table.words())?;
         Ok(PacketEncoder {
             field: f,
             format,

@@ -14,5 +14,5 @@ mod laid;
 mod values;
 
 pub use encoder::PacketEncoder;
-pub use laid::{laid_out, plan_blocks};
-pub use values::{append_elements, elements, stripe_values};
+pub use laid::{laid_words, plan_blocks};
+pub use values::{append_elements, stripe_values};
