@@ -5,7 +5,7 @@ use Rattle.std.proofs.Common.{◌≡◌, ℕ, ◌+◌, ◌*◌, ◌<◌, ◌≤�
 use Rattle.std.proofs.Common.{All, refl, sym, ap, ap₂, ◌∙◌, arith, subst, inl, inr}
 use Rattle.std.proofs.lemmas.Bool.{cases_eq}
 use Rattle.std.proofs.Math.ListN as M
-use Rattle.std.proofs.lemmas.List.{ext_get_or, length-map, length-set}
+use Rattle.std.proofs.lemmas.List.{ext_get_or, length-map}
 use Rattle.std.proofs.lemmas.List.Elements.{All-from_get_or}
 use Rattle.std.proofs.lemmas.List.Sums.{count_by-le-length}
 use Rattle.field_elements.specs.Field.{Coding, IsCoding}
@@ -14,16 +14,21 @@ use Rattle.pet_poly.specs.laws.RowLaws.{length-words, words_are}
 use Rattle.pet_interp.specs.Progressive.{Held, StandsFor, stripe_of, lengths_of, step_bound}
 use Rattle.pet_interp.proofs.Added.{stands_same}
 use Rattle.stripe_plan.specs.declared.layer.LayerSize.{LayerSize}
-use Rattle.stripe_plan.specs.Layers.{plan_stripes}
+use Rattle.stripe_plan.specs.Layers.{AllNeeded, count_of, needs_of, plan_ends, plan_stripes}
+use Rattle.stripe_plan.specs.Stripes.{IsPlan}
+use Rattle.stripe_plan.proofs.PlanLemmas.{plan_ends_plan}
 use Rattle.packet_set.specs.Packets.{Packets, slot_at, with_packet, count_in}
 use Rattle.packet_set.specs.laws.SlotCounts.{count_set}
 use Rattle.packet_session.specs.Payload.{stripes_in}
+use Rattle.packet_session.specs.Session.{IsMessage}
 use Rattle.packet_group.specs.OpenGroup.{GroupState, HoldsAfter, points_of, layers_of, stripe_lengths}
-use Rattle.packet_group.specs.Stored.{held_in, IsGivenBack}
-use Rattle.packet_group.specs.Written.{Reaches}
-use Rattle.packet_group.specs.inside.Learning.{CanLearn, IsOneMore, Learns}
+use Rattle.packet_group.specs.Stored.{held_in, state_of, told_message, IsGivenBack}
+use Rattle.packet_group.specs.Written.{HasLayer, HasStripe, whole_message}
+use Rattle.packet_group.specs.inside.Learning.{CanLearn, HasShown, IsOneMore, IsWrittenOn, Learns}
 use Rattle.packet_group.proofs.Cuts.{sizes_are}
-use Rattle.packet_group.proofs.Holding.{IsKeeping, holds_more, apart, met_is}
+use Rattle.packet_group.proofs.Holding.{IsKeeping, holds_more, apart, met_is, same_stripe, stands_after}
+use Rattle.packet_group.proofs.Shown.{count_short, layer_of_stripe, stripe_short}
+use Rattle.packet_group.proofs.Told.{told_is, told_words}
 
 -- no stripe is longer than so many, of the plan and of what is held
 short_held : {E : Type 0} (held : Held E) (layers : List LayerSize) (count : ℕ) → lengths_of held ≡ stripe_lengths layers
@@ -81,24 +86,34 @@ module _ {E : Type 0} (P : E → Type 0) (c : Coding E) where
         known = λ j l m. refl;
       }
 
-  module _ (count : ℕ) (laws : IsCoding P count c) (p : Packets) (message : List ℕ) (number : ℕ) (payload : List ℕ)
-      (inside : number < length p.slots) (absent : slot_at p number ≡ None) (few : length p.slots ≤ count)
-      (long : length payload ≡ length (plan_stripes (layers_of p)) * c.width) (bytes : All (λ b. b < 256) payload) where
-    abbrev whole : Packets → Held E
-    whole q = held_in c q message None
+  module _ (count : ℕ) (laws : IsCoding P count c) (p : Packets) (written : List ℕ) (number : ℕ) (payload : List ℕ)
+      (needed : AllNeeded (layers_of p)) (inside : number < length p.slots) (absent : slot_at p number ≡ None)
+      (few : length p.slots ≤ count) (long : length payload ≡ length (plan_stripes (layers_of p)) * c.width)
+      (bytes : All (λ b. b < 256) payload) where
+    abbrev whole : List ℕ
+    whole = whole_message c.width (layers_of p) written
+
+    abbrev given_back : Packets → Held E
+    given_back q = held_in c q whole None
+
+    abbrev next : Packets
+    next = with_packet p number payload
+
+    more : count_in next ≡ count_in p + 1
+    more = count_set (List ℕ) p.slots number payload inside absent
+
+    plan : IsPlan (needs_of (layers_of p)) 0 (plan_ends (layers_of p))
+    plan = plan_ends_plan (layers_of p) needed
 
     -- a packet for a state that was given back before
-    keeps_whole : (numbers : List ℕ) → HoldsAfter P c (record { packets = p; message = message; held = whole p }) numbers
+    keeps_whole : (numbers : List ℕ) → HoldsAfter P c (state_of c p written None) numbers
         → IsGivenBack {E = E} p None
-        → IsKeeping P c p (whole p) (whole (with_packet p number payload)) message message number payload
-        (c.point_of number)
+        → IsKeeping P c p (given_back p) (given_back next) number payload (c.point_of number)
     keeps_whole numbers h short =
-        let held = whole p in
+        let held = given_back p in
         let n = length held.stripes in
         let sizes = sizes_are held (layers_of p) h.lengths in
         let size : length payload ≡ n * c.width = long ∙ ap (λ k. k * c.width) (sym sizes.count) in
-        let more : count_in (with_packet p number payload) ≡ count_in p + 1 =
-        count_set (List ℕ) p.slots number payload inside absent in
         let all = short_held held (layers_of p) (count_in p) h.lengths short in
         record {
           inside = inside;
@@ -115,112 +130,166 @@ module _ {E : Type 0} (P : E → Type 0) (c : Coding E) where
               (λ j l. omega (arith, all j l, st.met))) []);
           met = more;
           lengths = refl;
-          bytes = h.message.bytes;
-          room = refl;
-          known = λ j l e. absurd (omega (arith, all j l, e, more));
-          others = λ j l ne. refl;
         }
 
-    one_more : (held held' : Held E) (message' : List ℕ)
-        → IsOneMore P c (layers_of p) (c.point_of number) payload held held' message message'
-        → IsKeeping P c p held held' message message' number payload (c.point_of number)
-    one_more held held' message' one = record {
-      inside = inside;
-      absent = absent;
-      stands = one.stands;
-      met = one.met;
-      lengths = one.lengths;
-      bytes = one.bytes;
-      room = one.room;
-      known = one.known;
-      others = one.others;
-    }
+    -- ---- a packet for a state that is there
 
-    abbrev after : Option (Held E) → List ℕ → GroupState E
-    after left message' = record {
-      packets = with_packet p number payload;
-      message = message';
-      held = held_in c (with_packet p number payload) message' left;
-    }
+    module _ (held held' : Held E) (one : IsOneMore P c (c.point_of number) payload held held') (numbers : List ℕ)
+        (h : HoldsAfter P c (state_of c p written (Some held)) numbers) where
+      abbrev before : GroupState E
+      before = state_of c p written (Some held)
 
-    -- what is held stands for one packet more
-    pub holds_learnt : (progress left : Option (Held E)) (message' numbers : List ℕ) → IsGivenBack p progress
-        → HoldsAfter P c (record { packets = p; message = message; held = held_in c p message progress }) numbers
-        → Learns P c (layers_of p) (c.point_of number) payload progress left message message'
-        → HoldsAfter P c (after left message') (numbers ++ (number ∷ []))
-    holds_learnt None left message' numbers short h learns =
-        let g : GroupState E = record { packets = p; message = message; held = whole p } in
-        let done = holds_more P count c laws.points g numbers h few (whole (with_packet p number payload)) message number
-        payload (keeps_whole numbers h short) in
-        subst (λ l. HoldsAfter P c (after l message') (numbers ++ (number ∷ []))) (sym learns.0)
-        (subst (λ m. HoldsAfter P c (after None m) (numbers ++ (number ∷ []))) (sym learns.1) done)
-    holds_learnt (Some held) (Some left) message' numbers short h learns =
-        let g : GroupState E = record { packets = p; message = message; held = held } in
-        subst (λ t. HoldsAfter P c (after (Some t) message') (numbers ++ (number ∷ []))) (sym learns.2)
-        (holds_more P count c laws.points g numbers h few learns.0 message' number payload
-        (one_more held learns.0 message' learns.1))
-    holds_learnt (Some held) None message' numbers short h learns =
-        let g : GroupState E = record { packets = p; message = message; held = held } in
-        let done = holds_more P count c laws.points g numbers h few learns.0 message' number payload
-        (one_more held learns.0 message' learns.1) in
-        holds_given_back (with_packet p number payload) message' learns.0 (numbers ++ (number ∷ [])) done
-        (met_is P count c laws.points (record {
-          packets = with_packet p number payload;
-          message = message';
-          held = learns.0;
-        }) (numbers ++ (number ∷ [])) done (omega (arith, few, length-set p.slots number (Some payload)))) learns.2
+      met : held.met ≡ length numbers
+      met = met_is P count c laws.points before numbers h few
 
-    -- and is given back only where no stripe is longer than there are packets
-    pub given_back_learnt : (progress left : Option (Held E)) (message' numbers : List ℕ) → IsGivenBack p progress
-        → HoldsAfter P c (record { packets = p; message = message; held = held_in c p message progress }) numbers
-        → Learns P c (layers_of p) (c.point_of number) payload progress left message message'
-        → IsGivenBack (with_packet p number payload) left
-    given_back_learnt None left message' numbers short h learns =
-        let more : count_in (with_packet p number payload) ≡ count_in p + 1 =
-        count_set (List ℕ) p.slots number payload inside absent in
-        subst (IsGivenBack (with_packet p number payload)) (sym learns.0) (λ k d l. omega (arith, short k d l, more))
-    given_back_learnt (Some held) (Some left) message' numbers short h learns = tt
-    given_back_learnt (Some held) None message' numbers short h learns =
-        let more : count_in (with_packet p number payload) ≡ count_in p + 1 =
-        count_set (List ℕ) p.slots number payload inside absent in
-        let met = met_is P count c laws.points (record { packets = p; message = message; held = held }) numbers h few in
-        let now : (learns.0).met ≡ count_in (with_packet p number payload) =
-        omega (arith, (learns.1).met, met, h.many, more) in
-        subst (λ n. All (λ k. k ≤ n) (stripe_lengths (layers_of p))) now
-        (short_planned learns.0 (layers_of p) (learns.0).met ((learns.1).lengths ∙ h.lengths) learns.2)
+      keeps_more : IsKeeping P c p held held' number payload (c.point_of number)
+      keeps_more = record {
+        inside = inside;
+        absent = absent;
+        stands = one.stands;
+        met = one.met;
+        lengths = one.lengths;
+      }
 
-    -- the bytes of the message go on to reach the end of each stripe that is known
-    pub reached_learnt : (progress : Option (Held E)) (numbers written written' : List ℕ) → IsGivenBack p progress
-        → HoldsAfter P c (record { packets = p; message = message; held = held_in c p message progress }) numbers
-        → ((size : ℕ) → 0 < size → size ≤ count_in p → Reaches c.width (layers_of p) size written)
-        → length written ≤ length written'
-        → IfSome progress (λ held. Reaches c.width (layers_of p) (held.met + 1) written')
-        → (size : ℕ) → 0 < size → size ≤ count_in (with_packet p number payload)
-        → Reaches c.width (layers_of p) size written'
-    reached_learnt None numbers written written' short h before longer now size some few' j l e =
-        let plan = plan_stripes (layers_of p) in
-        let here = short j 0 (omega (arith, l, length-map plan (λ (s : ℕ × ℕ). s.1))) in
-        let is : get_or (stripe_lengths (layers_of p)) j 0 ≡ size =
-        M.get_or-map (λ (s : ℕ × ℕ). s.1) plan j (0, 0) ∙ e in
-        omega (arith, before size some (omega (arith, here, is)) j l e, longer)
-    reached_learnt (Some held) numbers written written' short h before longer now size some few' j l e =
-        let g : GroupState E = record { packets = p; message = message; held = held } in
-        let more : count_in (with_packet p number payload) ≡ count_in p + 1 =
-        count_set (List ℕ) p.slots number payload inside absent in
-        let met = met_is P count c laws.points g numbers h few in
-        elim (cases_eq size (held.met + 1)) [
-          | inl new ↦ subst (λ n. Reaches c.width (layers_of p) n written') (sym new) now j l e
-          | inr old ↦
-              omega (arith, before size some (omega (arith, few', old, met, h.many, more)) j l e, longer)
-        ]
+      met_more : held'.met ≡ count_in next
+      met_more = omega (arith, one.met, met, h.many, more)
+
+      lengths_more : lengths_of held' ≡ stripe_lengths (layers_of p)
+      lengths_more = one.lengths ∙ h.lengths
+
+      -- what is held of a group whose message is as the new state has it
+      holds_with : (message : List ℕ) → IsMessage c.width (layers_of p) message
+          → ((j : ℕ) → j < length held'.stripes → length (stripe_of held' j) ≤ held'.met
+          → get_or (stripes_in c (layers_of p) message) j [] ≡ stripe_of held' j)
+          → HoldsAfter P c (record { packets = next; message = message; held = held' }) (numbers ++ (number ∷ []))
+      holds_with = holds_more P count c laws.points before numbers h few held' number payload keeps_more
+
+      holds_left : HoldsAfter P c (state_of c next written (Some held')) (numbers ++ (number ∷ []))
+      holds_left =
+          let points = points_of c next (numbers ++ (number ∷ [])) in
+          let stands : StandsFor P c.ops held' points =
+          stands_after P count c laws.points before numbers h few held' number payload keeps_more in
+          holds_with (told_message c held')
+          (told_is P c laws.spellings (layers_of p) plan held' points lengths_more stands)
+          (told_words P c laws.spellings (layers_of p) plan held' points lengths_more stands)
+
+      -- no stripe is longer than there are packets, where none is longer than there are points
+      short_more : ((j : ℕ) → j < length held'.stripes → length (stripe_of held' j) ≤ held'.met)
+          → IsGivenBack {E = E} next None
+      short_more short =
+          subst (λ n. All (λ k. k ≤ n) (stripe_lengths (layers_of p))) met_more
+          (short_planned held' (layers_of p) held'.met lengths_more short)
+
+      module _ (written' : List ℕ)
+          (had : (layer : ℕ) → layer < length (layers_of p) → count_of (layers_of p) layer ≤ count_in p
+          → HasLayer c (layers_of p) held written layer)
+          (on : IsWrittenOn c (layers_of p) held' written written')
+          (now : HasShown c (layers_of p) held' written') where
+        -- each layer that is shown with the packet is written, and each that was shown before still is
+        has_more : (layer : ℕ) → layer < length (layers_of p) → count_of (layers_of p) layer ≤ count_in next
+            → HasLayer c (layers_of p) held' written' layer
+        has_more layer l shown j m meets =
+            elim (cases_eq (count_of (layers_of p) layer) held'.met) [
+              | inl new ↦ now layer l new j m meets
+              | inr old ↦
+                  let low : count_of (layers_of p) layer ≤ count_in p = omega (arith, shown, old, met_more, more) in
+                  let has = had layer l low j m meets in
+                  let sizes = sizes_are held (layers_of p) h.lengths in
+                  let short = stripe_short (layers_of p) needed layer l j m meets in
+                  on.kept j m (record {
+                    reached = has.reached;
+                    words =
+                        has.words
+                        ∙ same_stripe P count c laws.points before numbers h few held' number payload keeps_more j
+                        (omega (arith, m, sizes.count)) (omega (arith, sizes.each j, short, low, h.many));
+                  })
+            ]
+
+        -- where no stripe is longer than there are packets, each is written
+        has_all : IsGivenBack {E = E} next None → (j : ℕ) → j < length (plan_stripes (layers_of p))
+            → HasStripe c (layers_of p) held' written' j
+        has_all short j l =
+            let at = layer_of_stripe (layers_of p) needed j l in
+            has_more at.layer at.inside
+            (count_short (layers_of p) needed at.layer at.inside j l at.meets (count_in next) short) j l at.meets
+
+        holds_given : ((j : ℕ) → j < length held'.stripes → length (stripe_of held' j) ≤ held'.met)
+            → HoldsAfter P c (state_of c next written' None) (numbers ++ (number ∷ []))
+        holds_given short =
+            let message = whole_message c.width (layers_of p) written' in
+            let sizes = sizes_are held' (layers_of p) lengths_more in
+            let done = holds_with message on.message
+            (λ j l m. (has_all (short_more short) j (omega (arith, l, sizes.count))).words) in
+            holds_given_back next message held' (numbers ++ (number ∷ [])) done (met_more ∙ sym done.many) short
+
+    -- ---- a packet more, whether the state was given back or not
+
+    -- what is held stands for it
+    pub holds_learnt : (progress left : Option (Held E)) (written' numbers : List ℕ) → IsGivenBack p progress
+        → HoldsAfter P c (state_of c p written progress) numbers
+        → ((layer : ℕ) → layer < length (layers_of p) → count_of (layers_of p) layer ≤ count_in p
+        → HasLayer c (layers_of p) (held_in c p whole progress) written layer)
+        → Learns P c (layers_of p) (c.point_of number) payload progress left written written'
+        → HoldsAfter P c (state_of c next written' left) (numbers ++ (number ∷ []))
+    holds_learnt None left written' numbers short h had learns =
+        let done = holds_more P count c laws.points (state_of c p written None) numbers h few (given_back next) number
+        payload (keeps_whole numbers h short) whole h.message (λ j l m. refl) in
+        subst (λ l. HoldsAfter P c (state_of c next written' l) (numbers ++ (number ∷ []))) (sym learns.0)
+        (subst (λ m. HoldsAfter P c (state_of c next m None) (numbers ++ (number ∷ []))) (sym learns.1) done)
+    holds_learnt (Some held) (Some left) written' numbers short h had learns =
+        subst (λ t. HoldsAfter P c (state_of c next written' (Some t)) (numbers ++ (number ∷ []))) (sym learns.2)
+        (holds_left held learns.0 learns.1 numbers h)
+    holds_learnt (Some held) None written' numbers short h had learns =
+        holds_given held learns.0 learns.1 numbers h written' had learns.3 learns.4 learns.2
+
+    -- the state is given back only where no stripe is longer than there are packets
+    pub given_back_learnt : (progress left : Option (Held E)) (written' numbers : List ℕ) → IsGivenBack p progress
+        → HoldsAfter P c (state_of c p written progress) numbers
+        → Learns P c (layers_of p) (c.point_of number) payload progress left written written'
+        → IsGivenBack next left
+    given_back_learnt None left written' numbers short h learns =
+        subst (IsGivenBack next) (sym learns.0) (λ k d l. omega (arith, short k d l, more))
+    given_back_learnt (Some held) (Some left) written' numbers short h learns = tt
+    given_back_learnt (Some held) None written' numbers short h learns =
+        short_more held learns.0 learns.1 numbers h learns.2
+
+    -- the message has room for all words, and bytes alone
+    pub message_learnt : (progress left : Option (Held E)) (written' : List ℕ) → IsMessage c.width (layers_of p) whole
+        → Learns P c (layers_of p) (c.point_of number) payload progress left written written'
+        → IsMessage c.width (layers_of p) (whole_message c.width (layers_of p) written')
+    message_learnt None left written' message learns =
+        subst (λ m. IsMessage c.width (layers_of p) (whole_message c.width (layers_of p) m)) (sym learns.1) message
+    message_learnt (Some held) left written' message learns = learns.3.message
+
+    -- the layers that are shown are written
+    pub shown_learnt : (progress left : Option (Held E)) (written' numbers : List ℕ) → IsGivenBack p progress
+        → HoldsAfter P c (state_of c p written progress) numbers
+        → ((layer : ℕ) → layer < length (layers_of p) → count_of (layers_of p) layer ≤ count_in p
+        → HasLayer c (layers_of p) (held_in c p whole progress) written layer)
+        → Learns P c (layers_of p) (c.point_of number) payload progress left written written'
+        → (layer : ℕ) → layer < length (layers_of p) → count_of (layers_of p) layer ≤ count_in next
+        → HasLayer c (layers_of p) (held_in c next (whole_message c.width (layers_of p) written') left) written' layer
+    shown_learnt None left written' numbers short h had learns layer l shown j m meets =
+        let low = count_short (layers_of p) needed layer l j m meets (count_in p) short in
+        let has = had layer l low j m meets in
+        subst (λ t. HasStripe c (layers_of p) (held_in c next (whole_message c.width (layers_of p) written') t)
+        written' j) (sym learns.0)
+        (subst (λ b. HasStripe c (layers_of p) (held_in c next (whole_message c.width (layers_of p) b) None) b j)
+        (sym learns.1) (record { reached = has.reached; words = refl }))
+    shown_learnt (Some held) (Some left) written' numbers short h had learns layer l shown j m meets =
+        subst (λ t. HasStripe c (layers_of p) t written' j) (sym learns.2)
+        (has_more held learns.0 learns.1 numbers h written' had learns.3 learns.4 layer l shown j m meets)
+    shown_learnt (Some held) None written' numbers short h had learns layer l shown j m meets =
+        let has = has_more held learns.0 learns.1 numbers h written' had learns.3 learns.4 layer l shown j m meets in
+        record { reached = has.reached; words = refl }
 
     -- what is left of the state can take the packet's point
     pub can_learn : (progress : Option (Held E)) (numbers : List ℕ) → length p.slots < 65536
-        → HoldsAfter P c (record { packets = p; message = message; held = held_in c p message progress }) numbers
+        → HoldsAfter P c (state_of c p written progress) numbers
         → IfSome progress (CanLearn P c (layers_of p) (c.point_of number))
     can_learn None numbers narrow h = tt
     can_learn (Some held) numbers narrow h =
-        let g : GroupState E = record { packets = p; message = message; held = held } in
+        let g = state_of c p written (Some held) in
         record {
           lengths = h.lengths;
           few =
@@ -238,11 +307,11 @@ module _ {E : Type 0} (P : E → Type 0) (c : Coding E) where
 
     -- at most the steps of one point
     pub cost_learnt : (progress : Option (Held E)) (numbers : List ℕ) (before after_it : ℕ)
-        → HoldsAfter P c (record { packets = p; message = message; held = held_in c p message progress }) numbers
+        → HoldsAfter P c (state_of c p written progress) numbers
         → IfSome progress (λ held. after_it ≤ before + step_bound held.met (lengths_of held))
         → (progress ≡ None → after_it ≡ before)
         → after_it ≤ before + step_bound (count_in p) (stripe_lengths (layers_of p))
     cost_learnt None numbers before after_it h cost idle = omega (arith, idle refl)
     cost_learnt (Some held) numbers before after_it h cost idle =
-        let met = met_is P count c laws.points (record { packets = p; message = message; held = held }) numbers h few in
+        let met = met_is P count c laws.points (state_of c p written (Some held)) numbers h few in
         subst (λ n. after_it ≤ before + n) (ap₂ step_bound (met ∙ h.many) h.lengths) cost

@@ -1,25 +1,29 @@
 -- What is held of a group, after one packet more.
 use Rattle.std.specs.Prelude.{false, true, IsSome, is_some, count_by, map, unwrap_or, Contains}
-use Rattle.std.proofs.Common.{◌≡◌, ◌≢◌, ◌↔◌, ℕ, suc, ◌+◌, ◌*◌, ◌<◌, ◌≤◌, List, [], ◌∷◌, ◌++◌, Option, None, Some}
-use Rattle.std.proofs.Common.{length, get_or, take, drop, replicate, All, refl, sym, ap, ap₂, ◌∙◌, arith, subst, inl}
+use Rattle.std.proofs.Common.{◌≡◌, ◌≢◌, ◌↔◌, ℕ, suc, ◌+◌, ◌<◌, ◌≤◌, List, [], ◌∷◌, ◌++◌, Option, None, Some}
+use Rattle.std.proofs.Common.{length, get_or, take, replicate, All, refl, sym, ap, ap₂, ◌∙◌, arith, subst, inl}
 use Rattle.std.proofs.Common.{inr}
 use Rattle.std.proofs.lemmas.Bool.{cases_eq, cases_lt}
 use Rattle.std.proofs.Math.ListN as M
 use Rattle.std.proofs.lemmas.List.{length-map, length_push, map_push, get_or-set_same, get_or-set_other, get_or_past}
-use Rattle.std.proofs.lemmas.List.{get_or_push, take-append-le, nil_from_length}
+use Rattle.std.proofs.lemmas.List.{get_or_push, take-append-le}
 use Rattle.std.proofs.lemmas.List.Elements.{All-nil, All-head, All-tail, All-map, Contains-get_or, Contains-push}
 use Rattle.std.proofs.lemmas.List.Elements.{Contains-push_cases, Contains-append_left}
-use Rattle.field_elements.specs.Field.{Coding, ArePoints}
+use Rattle.field_elements.specs.Field.{Coding, ArePoints, AreSpellings}
 use Rattle.pet_poly.specs.Value.{AreDistinct}
 use Rattle.pet_interp.specs.Points.{IsOnlyThrough}
 use Rattle.pet_interp.specs.Progressive.{Held, StandsFor, stripe_of, lengths_of, column}
 use Rattle.pet_poly.specs.Rows.{words}
-use Rattle.stripe_plan.specs.Layers.{plan_stripes, needs_of}
+use Rattle.stripe_plan.specs.Layers.{plan_ends, plan_stripes, needs_of}
+use Rattle.stripe_plan.specs.Stripes.{IsPlan}
 use Rattle.packet_set.specs.Packets.{Packets, TellsSlot, slot_at, with_packet, put_in}
 use Rattle.packet_set.specs.declared.set.Put.{Put}
 use Rattle.packet_session.specs.Payload.{stripes_in}
+use Rattle.packet_session.specs.Session.{IsMessage}
 use Rattle.packet_group.specs.OpenGroup.{GroupState, HoldsAfter, points_of, layers_of, stripe_lengths}
-use Rattle.packet_group.proofs.Cuts.{sizes_are, cut_at}
+use Rattle.packet_group.specs.Stored.{state_of}
+use Rattle.packet_group.proofs.Cuts.{sizes_are}
+use Rattle.packet_group.proofs.Told.{told_is, told_words}
 use Rattle.packet_set.specs.laws.SlotCounts.{count_set, count_none, none_in}
 
 -- ---- lists
@@ -60,13 +64,13 @@ puts_new old number payload told new none t p =
 
 -- ---- a group that has kept nothing
 
-pub holds_none : {E : Type 0} (P : E → Type 0) (c : Coding E) (p : Packets) (held : Held E) (message : List ℕ) (n : ℕ)
+pub holds_none : {E : Type 0} (P : E → Type 0) (c : Coding E) (laws : AreSpellings P c.width c.spelt c.spelling)
+    (p : Packets) (held : Held E) (bytes : List ℕ) (n : ℕ)
+    → IsPlan (needs_of (layers_of p)) 0 (plan_ends (layers_of p))
     → p.slots ≡ replicate n None → lengths_of held ≡ stripe_lengths (layers_of p) → StandsFor P c.ops held []
-    → length message ≡ length (needs_of (layers_of p)) * c.width → All (λ b. b < 256) message
-    → HoldsAfter P c (record { packets = p; message = message; held = held }) []
-holds_none P c p held message n none lengths stands room bytes =
+    → HoldsAfter P c (state_of c p bytes (Some held)) []
+holds_none P c laws p held bytes n plan none lengths stands =
     let empty : (i : ℕ) → slot_at p i ≡ None = λ i. ap (λ s. get_or s i None) none ∙ none_in (List ℕ) n i in
-    let sizes = sizes_are held (layers_of p) lengths in
     record {
       once = tt;
       kept = λ i. (
@@ -76,33 +80,21 @@ holds_none P c p held message n none lengths stands room bytes =
       many = sym (ap (count_by is_some) none ∙ count_none (List ℕ) n);
       lengths = lengths;
       stands = stands;
-      message = record { whole = room; bytes = bytes };
+      message = told_is P c laws (layers_of p) plan held [] lengths stands;
       known =
-          λ j l m.
-          let nothing : length (stripe_of held j) ≡ 0 = omega arith in
-          cut_at (layers_of p) (words c.spelt c.width (length (needs_of (layers_of p))) message) j
-          (omega (arith, l, sizes.count))
-          ∙ ap (λ k. take k (drop (get_or (plan_stripes (layers_of p)) j (0, 0)).0
-          (words c.spelt c.width (length (needs_of (layers_of p))) message))) (sym (sizes.each j) ∙ nothing)
-          ∙ sym (nil_from_length (stripe_of held j) nothing);
+          λ j l m. told_words P c laws (layers_of p) plan held [] lengths stands j l (omega (arith, m, stands.met));
     }
 
 -- ---- what the steps of keeping a packet did
 
-pub record IsKeeping {E : Type 0} (P : E → Type 0) (c : Coding E) (p : Packets) (held held' : Held E)
-    (message message' : List ℕ) (number : ℕ) (payload : List ℕ) (x : E) : Type 0 where
+pub record IsKeeping {E : Type 0} (P : E → Type 0) (c : Coding E) (p : Packets) (held held' : Held E) (number : ℕ)
+    (payload : List ℕ) (x : E) : Type 0 where
   pub inside : number < length p.slots
   pub absent : slot_at p number ≡ None
   pub stands : (points : List (E × List E)) → StandsFor P c.ops held points → All (λ q. x ≢ q.0) points
       → StandsFor P c.ops held' (points ++ ((x, words c.spelt c.width (length held.stripes) payload) ∷ []))
   pub met : held'.met ≡ held.met + 1
   pub lengths : lengths_of held' ≡ lengths_of held
-  pub bytes : All (λ b. b < 256) message'
-  pub room : length message' ≡ length message
-  pub known : (j : ℕ) → j < length held'.stripes → length (stripe_of held' j) ≡ held'.met
-      → get_or (stripes_in c (layers_of p) message') j [] ≡ stripe_of held' j
-  pub others : (j : ℕ) → j < length held'.stripes → length (stripe_of held' j) ≢ held'.met
-      → get_or (stripes_in c (layers_of p) message') j [] ≡ get_or (stripes_in c (layers_of p) message) j []
 
 module _ {E : Type 0} (P : E → Type 0) (count : ℕ) (c : Coding E) (laws : ArePoints P count c.point_of)
     (g : GroupState E) (numbers : List ℕ) (h : HoldsAfter P c g numbers) (few : length g.packets.slots ≤ count) where
@@ -130,10 +122,10 @@ module _ {E : Type 0} (P : E → Type 0) (count : ℕ) (c : Coding E) (laws : Ar
         words c.spelt c.width (length (plan_stripes (layers_of g.packets))) (unwrap_or (slot_at g.packets i) []),
       ))
 
-  module _ (held' : Held E) (message' : List ℕ) (number : ℕ) (payload : List ℕ)
-      (k : IsKeeping P c g.packets g.held held' g.message message' number payload (c.point_of number)) where
-    abbrev pub new : GroupState E
-    new = record { packets = with_packet g.packets number payload; message = message'; held = held' }
+  module _ (held' : Held E) (number : ℕ) (payload : List ℕ)
+      (k : IsKeeping P c g.packets g.held held' number payload (c.point_of number)) where
+    abbrev pub new : List ℕ → GroupState E
+    new message = record { packets = with_packet g.packets number payload; message = message; held = held' }
 
     slot_here : slot_at (with_packet g.packets number payload) number ≡ Some payload
     slot_here = get_or-set_same g.packets.slots number (Some payload) None k.inside
@@ -183,7 +175,7 @@ module _ {E : Type 0} (P : E → Type 0) (count : ℕ) (c : Coding E) (laws : Ar
         (sym (sizes_are g.held layers h.lengths).count) in
         map_push f' numbers number ∙ ap₂ (λ s t. s ++ (t ∷ [])) (map_same f' f numbers each) last
 
-    stands_after : StandsFor P c.ops held'
+    pub stands_after : StandsFor P c.ops held'
         (points_of c (with_packet g.packets number payload) (numbers ++ (number ∷ [])))
     stands_after =
         subst (StandsFor P c.ops held') (sym points_after)
@@ -198,7 +190,7 @@ module _ {E : Type 0} (P : E → Type 0) (count : ℕ) (c : Coding E) (laws : Ar
         ∙ M.get_or-map length g.held.stripes j []
 
     -- a stripe that was known stays as it was
-    same_stripe : (j : ℕ) → j < length g.held.stripes → length (stripe_of g.held j) ≤ length numbers
+    pub same_stripe : (j : ℕ) → j < length g.held.stripes → length (stripe_of g.held j) ≤ length numbers
         → stripe_of g.held j ≡ stripe_of held' j
     same_stripe j l m =
         let points = points_of c g.packets numbers in
@@ -220,27 +212,19 @@ module _ {E : Type 0} (P : E → Type 0) (count : ℕ) (c : Coding E) (laws : Ar
         let now' = subst (λ t. IsOnlyThrough P c.ops (column c.ops j t) (stripe_of held' j)) front now in
         now'.only (stripe_of g.held j) old.long old.elements old.through
 
-    pub holds_more : HoldsAfter P c new (numbers ++ (number ∷ []))
-    holds_more =
-        record {
-          once =
-              distinct_push numbers number h.once
-              (λ n d l. not_there (get_or numbers n d) (Contains-get_or numbers n d l));
-          kept = kept_after;
-          many =
-              length_push numbers number
-              ∙ omega (arith, h.many, count_set (List ℕ) g.packets.slots number payload k.inside k.absent);
-          lengths = k.lengths ∙ h.lengths;
-          stands = stands_after;
-          message = record { whole = k.room ∙ h.message.whole; bytes = k.bytes };
-          known =
-              λ j l m.
-              elim (cases_eq (length (stripe_of held' j)) held'.met) [
-                | inl e ↦ k.known j l e
-                | inr ne ↦
-                    let inside : j < length g.held.stripes = omega (arith, l, same_count) in
-                    let low : length (stripe_of g.held j) ≤ length numbers =
-                    omega (arith, m, ne, k.met, met_is, same_length j, length_push numbers number) in
-                    k.others j l ne ∙ h.known j inside low ∙ same_stripe j inside low
-              ];
-        }
+    pub holds_more : (message : List ℕ) → IsMessage c.width (layers_of g.packets) message
+        → ((j : ℕ) → j < length held'.stripes → length (stripe_of held' j) ≤ held'.met
+        → get_or (stripes_in c (layers_of g.packets) message) j [] ≡ stripe_of held' j)
+        → HoldsAfter P c (new message) (numbers ++ (number ∷ []))
+    holds_more message is known = record {
+      once =
+          distinct_push numbers number h.once (λ n d l. not_there (get_or numbers n d) (Contains-get_or numbers n d l));
+      kept = kept_after;
+      many =
+          length_push numbers number
+          ∙ omega (arith, h.many, count_set (List ℕ) g.packets.slots number payload k.inside k.absent);
+      lengths = k.lengths ∙ h.lengths;
+      stands = stands_after;
+      message = is;
+      known = λ j l m. known j l (omega (arith, m, k.met, met_is, length_push numbers number));
+    }

@@ -1,18 +1,21 @@
--- One stripe of a message is written, or left as it is.
+-- One stripe of a message is written, and each other is left as it is.
 use Rattle.std.specs.Prelude.{flat_map}
-use Rattle.std.proofs.Common.{◌≡◌, ◌≢◌, ℕ, ◌+◌, ◌*◌, ◌<◌, ◌≤◌, List, [], ◌∷◌, ◌++◌, length, get_or, take, drop, All}
-use Rattle.std.proofs.Common.{refl, sym, ap, ◌∙◌, arith, subst, inl, inr}
-use Rattle.std.proofs.lemmas.Bool.{cases_eq}
+use Rattle.std.specs.Prelude.{max, min}
+use Rattle.std.proofs.Common.{◌≡◌, ◌↔◌, ℕ, ◌+◌, ◌*◌, ◌<◌, ◌≤◌, List, ◌∷◌, ◌++◌, ◌⊎◌, length, get_or, take, drop}
+use Rattle.std.proofs.Common.{All, refl, sym, ap, ◌∙◌, arith, subst, inl, inr}
+use Rattle.std.proofs.lemmas.Bool.{cases_eq, cases_lt}
 use Rattle.std.proofs.lemmas.List.Elements.{All-append, All-take, All-drop}
 use Rattle.std.proofs.Math.Nat.{mul-le-mul_right}
 use Rattle.field_elements.specs.Field.{Coding, AreSpellings}
 use Rattle.pet_interp.specs.Progressive.{Held, stripe_of, lengths_of}
 use Rattle.pet_poly.specs.Rows.{words}
 use Rattle.stripe_plan.specs.declared.layer.LayerSize.{LayerSize}
-use Rattle.stripe_plan.specs.Layers.{needs_of, plan_stripes}
-use Rattle.packet_session.specs.Payload.{stripes_in}
+use Rattle.stripe_plan.specs.Counts.{Meets}
+use Rattle.stripe_plan.specs.Layers.{needs_of, plan_stripes, words_before}
+use Rattle.packet_session.specs.Session.{IsMessage}
 use Rattle.packet_group.specs.OpenGroup.{stripe_lengths}
-use Rattle.packet_group.specs.Written.{filled}
+use Rattle.packet_group.specs.Written.{HasStripe, filled, whole_message}
+use Rattle.packet_group.specs.inside.Learning.{IsWrittenOn}
 use Rattle.packet_group.proofs.Rows.{IsWritten, words_written, length-spellings, bytes_spellings}
 use Rattle.packet_group.proofs.Filling.{IsPartWritten, part_written, length_filled}
 use Rattle.packet_group.proofs.Cuts.{plan_on_end, next_from, sizes_are, cut_written, cut_other}
@@ -57,116 +60,150 @@ stripe_written P c laws layers stripe at size cs old new here long is =
     part_written (length (needs_of layers) * c.width) (at * c.width) ((at + size) * c.width) (flat_map c.spelling cs)
     old new (omega (arith, split, bytes)) (mul-le-mul_right c.width here.ended) is.1
 
--- bytes that are filled up to b where `size` is `met`, and else left as they are
-pub record AreGrown (met size n b : ℕ) (old new : List ℕ) : Type 0 where
-  pub whole : length (filled n new) ≡ n
-  pub longer : length old ≤ length new
-  pub reaches : size ≡ met → b ≤ length new
-
-pub stripe_grown : (met size n b : ℕ) (old new : List ℕ) → b ≤ n → length (filled n old) ≡ n
-    → (size ≡ met → length new ≡ length (filled b old)) → (size ≢ met → length new ≡ length old)
-    → AreGrown met size n b old new
-stripe_grown met size n b old new inside whole written same =
-    elim (cases_eq size met) [
-      | inl e ↦ record {
-        whole = omega (arith, length_filled n new, length_filled n old, length_filled b old, written e, whole, inside);
-        longer = omega (arith, length_filled b old, written e);
-        reaches = λ _. omega (arith, length_filled b old, written e);
-      }
-      | inr ne ↦ record {
-        whole = omega (arith, length_filled n new, length_filled n old, same ne, whole);
-        longer = omega (arith, same ne);
-        reaches = λ e. absurd (ne e);
-      }
+-- a stripe has a word of a stretch, or has none
+pub meets_or : (first last at size : ℕ) → Meets first last (at, size) ⊎ (Meets first last (at, size) → ⊥)
+meets_or first last at size =
+    elim (cases_lt (max at first) (min (at + size) last)) [
+      | inl some ↦ inl (max at first, omega arith, omega arith, omega arith, omega (arith, some))
+      | inr none ↦ inr (λ m. absurd (omega (arith, none, m.1, m.2, m.3, m.4)))
     ]
 
--- what is done with such a stripe
-pub record IsStep {E : Type 0} (P : E → Type 0) (c : Coding E) (layers : List LayerSize) (held : Held E)
-    (old new : List ℕ) (stripe at size : ℕ) : Type 0 where
-  pub lengths : lengths_of held ≡ stripe_lengths layers
-  pub stands : IsHere layers stripe at size
-  pub room : length old ≡ length (needs_of layers) * c.width
-  pub written : length (stripe_of held stripe) ≡ held.met → All P (stripe_of held stripe)
-      × (new ≡ take (at * c.width) old ++ flat_map c.spelling (stripe_of held stripe)
-      ++ drop ((at + size) * c.width) old)
-  pub same : length (stripe_of held stripe) ≢ held.met → new ≡ old
+meets_same : (first last first' last' : ℕ) (stripe stripe' : ℕ × ℕ) → first ≡ first' → last ≡ last'
+    → stripe ≡ stripe' → Meets first last stripe → Meets first' last' stripe'
+meets_same first last first' last' stripe stripe' begun ended same m =
+    let at : stripe.0 ≡ stripe'.0 = ap (λ (p : ℕ × ℕ). p.0) same in
+    let size : stripe.1 ≡ stripe'.1 = ap (λ (p : ℕ × ℕ). p.1) same in (
+      m.0,
+      omega (arith, m.1, at),
+      omega (arith, m.2, at, size),
+      omega (arith, m.3, begun),
+      omega (arith, m.4, ended),
+    )
+
+-- the stretch that a layer's words are read to be has a word of such a stripe exactly where the layer has
+pub met_layer : (rows layers : List LayerSize) (layer first last stripe at size : ℕ) → rows ≡ layers
+    → first ≡ words_before rows layer → last ≡ words_before rows (layer + 1) → IsHere layers stripe at size
+    → Meets first last (at, size)
+    ↔ Meets (words_before layers layer) (words_before layers (layer + 1)) (get_or (plan_stripes layers) stripe (0, 0))
+met_layer rows layers layer first last stripe at size same first_is last_is here =
+    let from : first ≡ words_before layers layer =
+    first_is ∙ ap (λ (l : List LayerSize). words_before l layer) same in
+    let to : last ≡ words_before layers (layer + 1) =
+    last_is ∙ ap (λ (l : List LayerSize). words_before l (layer + 1)) same in
+    let found = get_or (plan_stripes layers) stripe (0, 0) in (
+      meets_same first last (words_before layers layer) (words_before layers (layer + 1)) (at, size) found from to
+          (sym here.here),
+      meets_same (words_before layers layer) (words_before layers (layer + 1)) first last found (at, size) (sym from)
+          (sym to) here.here,
+    )
+
+module _ {E : Type 0} (c : Coding E) (layers : List LayerSize) (held : Held E) where
+  -- where nothing is written, what stood there still does
+  pub on_same : (old new : List ℕ) → IsMessage c.width layers (whole_message c.width layers old) → new ≡ old
+      → IsWrittenOn c layers held old new
+  on_same old new message same =
+      subst (IsWrittenOn c layers held old) (sym same) (record { message = message; kept = λ j l has. has })
+
+  -- what is written on twice is written on
+  pub on_then : (a b d : List ℕ) → IsWrittenOn c layers held a b → IsWrittenOn c layers held b d
+      → IsWrittenOn c layers held a d
+  on_then a b d first second =
+      record { message = second.message; kept = λ j l has. second.kept j l (first.kept j l has) }
 
 module _ {E : Type 0} (P : E → Type 0) (c : Coding E) (laws : AreSpellings P c.width c.spelt c.spelling)
-    (layers : List LayerSize) (held : Held E) (old new : List ℕ)
-    (stripe at size : ℕ) (s : IsStep P c layers held old new stripe at size) where
-  long : length (stripe_of held stripe) ≡ size
-  long = (sizes_are held layers s.lengths).each stripe ∙ ap (λ (p : ℕ × ℕ). p.1) s.stands.here
+    (layers : List LayerSize) (held : Held E) (lengths : lengths_of held ≡ stripe_lengths layers)
+    (stripe at size : ℕ) (stands : IsHere layers stripe at size) (old new : List ℕ)
+    (message : IsMessage c.width layers (whole_message c.width layers old))
+    (done : All P (stripe_of held stripe)
+    × (new ≡ take (at * c.width) (filled ((at + size) * c.width) old) ++ flat_map c.spelling (stripe_of held stripe)
+    ++ drop ((at + size) * c.width) (filled ((at + size) * c.width) old))) where
+  abbrev cs : List E
+  cs = stripe_of held stripe
 
-  row_written : length (stripe_of held stripe) ≡ held.met
-      → IsWritten (words c.spelt c.width (length (needs_of layers)) old)
-      (words c.spelt c.width (length (needs_of layers)) new) (get_or (plan_stripes layers) stripe (0, 0)).0
-      (stripe_of held stripe)
-  row_written e =
-      let w = s.written e in
-      let cs = stripe_of held stripe in
-      let start : (get_or (plan_stripes layers) stripe (0, 0)).0 ≡ at = ap (λ (p : ℕ × ℕ). p.0) s.stands.here in
-      let inside : at + size ≤ length (needs_of layers) = s.stands.ended in
+  abbrev before : List ℕ
+  before = whole_message c.width layers old
+
+  abbrev after : List ℕ
+  after = whole_message c.width layers new
+
+  long : length cs ≡ size
+  long = (sizes_are held layers lengths).each stripe ∙ ap (λ (p : ℕ × ℕ). p.1) stands.here
+
+  most : (at + size) * c.width ≤ length (needs_of layers) * c.width
+  most = mul-le-mul_right c.width stands.ended
+
+  written : IsPartWritten (length (needs_of layers) * c.width) (at * c.width) ((at + size) * c.width)
+      (flat_map c.spelling cs) old new
+  written = stripe_written P c laws layers stripe at size cs old new stands long done
+
+  row_written : IsWritten (words c.spelt c.width (length (needs_of layers)) before)
+      (words c.spelt c.width (length (needs_of layers)) after) (get_or (plan_stripes layers) stripe (0, 0)).0 cs
+  row_written =
+      let start : (get_or (plan_stripes layers) stripe (0, 0)).0 ≡ at = ap (λ (p : ℕ × ℕ). p.0) stands.here in
+      let inside : at + size ≤ length (needs_of layers) = stands.ended in
       let top : (at + size) * c.width ≡ (at + length cs) * c.width = ap (λ n. (at + n) * c.width) (sym long) in
       let split : (at + length cs) * c.width ≡ at * c.width + length cs * c.width = omega arith in
-      let most : (at + size) * c.width ≤ length (needs_of layers) * c.width = mul-le-mul_right c.width inside in
-      subst (λ a. IsWritten (words c.spelt c.width (length (needs_of layers)) old)
-      (words c.spelt c.width (length (needs_of layers)) new) a cs) (sym start)
+      subst (λ a. IsWritten (words c.spelt c.width (length (needs_of layers)) before)
+      (words c.spelt c.width (length (needs_of layers)) after) a cs) (sym start)
       (words_written P c.width c.spelt c.spelling laws (length (needs_of layers)) at (at * c.width)
-      ((at + size) * c.width) cs old new w.0 (omega (arith, long, inside)) refl (top ∙ split) top
-      (omega (arith, most, s.room)) w.1)
+      ((at + size) * c.width) cs before after done.0 (omega (arith, long, inside)) refl (top ∙ split) top
+      (omega (arith, most, message.whole)) written.is)
 
-  pub step_here : length (stripe_of held stripe) ≡ held.met
-      → get_or (stripes_in c layers new) stripe [] ≡ stripe_of held stripe
-  step_here e =
-      cut_written layers (words c.spelt c.width (length (needs_of layers)) old)
-      (words c.spelt c.width (length (needs_of layers)) new) stripe (stripe_of held stripe) s.stands.inside
-      ((sizes_are held layers s.lengths).each stripe) (row_written e)
-
-  pub step_other : (i : ℕ) → i < length (plan_stripes layers) → i ≢ stripe
-      → get_or (stripes_in c layers new) i [] ≡ get_or (stripes_in c layers old) i []
-  step_other i l ne =
-      elim (cases_eq (length (stripe_of held stripe)) held.met) [
-        | inl e ↦
-            cut_other layers (words c.spelt c.width (length (needs_of layers)) old)
-            (words c.spelt c.width (length (needs_of layers)) new) stripe (stripe_of held stripe) s.stands.inside
-            ((sizes_are held layers s.lengths).each stripe) (row_written e) i l ne
-        | inr e ↦ ap (λ m. get_or (stripes_in c layers m) i []) (s.same e)
-      ]
-
-  pub step_bytes : All (λ b. b < 256) old → All (λ b. b < 256) new
-  step_bytes bytes =
-      elim (cases_eq (length (stripe_of held stripe)) held.met) [
-        | inl e ↦
-            let w = s.written e in
-            subst (All (λ b. b < 256)) (sym w.1)
+  -- the message still has room for all words, and bytes alone
+  message_after : IsMessage c.width layers after
+  message_after =
+      let n = length (needs_of layers) * c.width in
+      let b = (at + size) * c.width in
+      record {
+        whole =
+            omega (
+              arith,
+              length_filled n new,
+              length_filled n old,
+              length_filled b old,
+              written.long,
+              message.whole,
+              most,
+            );
+        bytes =
+            subst (All (λ b. b < 256)) (sym written.is)
             (All-append (λ b. b < 256)
-            (take (at * c.width) old ++ flat_map c.spelling (stripe_of held stripe)) (drop ((at + size) * c.width) old)
-            (All-append (λ b. b < 256) (take (at * c.width) old) (flat_map c.spelling (stripe_of held stripe))
-            (All-take (λ b. b < 256) (at * c.width) old bytes)
-            (bytes_spellings P c.width c.spelt c.spelling laws (stripe_of held stripe) w.0))
-            (All-drop (λ b. b < 256) ((at + size) * c.width) old bytes))
-        | inr ne ↦ subst (All (λ b. b < 256)) (sym (s.same ne)) bytes
-      ]
+            (take (at * c.width) before ++ flat_map c.spelling cs) (drop ((at + size) * c.width) before)
+            (All-append (λ b. b < 256) (take (at * c.width) before) (flat_map c.spelling cs)
+            (All-take (λ b. b < 256) (at * c.width) before message.bytes)
+            (bytes_spellings P c.width c.spelt c.spelling laws cs done.0))
+            (All-drop (λ b. b < 256) ((at + size) * c.width) before message.bytes));
+      }
 
-  pub step_known : ((j : ℕ) → j < stripe → length (stripe_of held j) ≡ held.met
-      → get_or (stripes_in c layers old) j [] ≡ stripe_of held j)
-      → (j : ℕ) → j < stripe + 1 → length (stripe_of held j) ≡ held.met
-      → get_or (stripes_in c layers new) j [] ≡ stripe_of held j
-  step_known before j l e =
-      elim (cases_eq j stripe) [
-        | inl here ↦ subst (λ i. get_or (stripes_in c layers new) i [] ≡ stripe_of held i) (sym here)
-            (step_here (subst (λ i. length (stripe_of held i) ≡ held.met) here e))
-        | inr ne ↦ step_other j (omega (arith, s.stands.inside)) ne ∙ before j (omega arith) e
-      ]
+  -- the stripe stands there now
+  pub stripe_here : HasStripe c layers held new stripe
+  stripe_here =
+      let end : ((get_or (plan_stripes layers) stripe (0, 0)).0 + (get_or (plan_stripes layers) stripe (0, 0)).1)
+      * c.width ≡ (at + size) * c.width =
+      ap (λ (p : ℕ × ℕ). (p.0 + p.1) * c.width) stands.here in
+      record {
+        reached = omega (arith, end, length_filled ((at + size) * c.width) old, written.long);
+        words =
+            cut_written layers (words c.spelt c.width (length (needs_of layers)) before)
+            (words c.spelt c.width (length (needs_of layers)) after) stripe cs stands.inside
+            ((sizes_are held layers lengths).each stripe) row_written;
+      }
 
-  pub step_others : (start : List ℕ)
-      → ((j : ℕ) → j < length held.stripes → length (stripe_of held j) ≢ held.met
-      → get_or (stripes_in c layers old) j [] ≡ get_or (stripes_in c layers start) j [])
-      → (j : ℕ) → j < length held.stripes → length (stripe_of held j) ≢ held.met
-      → get_or (stripes_in c layers new) j [] ≡ get_or (stripes_in c layers start) j []
-  step_others start before j l ne =
-      elim (cases_eq j stripe) [
-        | inl here ↦ ap (λ m. get_or (stripes_in c layers m) j [])
-            (s.same (subst (λ i. length (stripe_of held i) ≢ held.met) here ne)) ∙ before j l ne
-        | inr other ↦ step_other j (omega (arith, l, (sizes_are held layers s.lengths).count)) other ∙ before j l ne
-      ]
+  -- and each other that stood there still does
+  pub on_written : IsWrittenOn c layers held old new
+  on_written = record {
+    message = message_after;
+    kept =
+        λ j l has.
+        elim (cases_eq j stripe) [
+          | inl here ↦ subst (HasStripe c layers held new) (sym here) stripe_here
+          | inr other ↦ record {
+            reached = omega (arith, has.reached, length_filled ((at + size) * c.width) old, written.long);
+            words =
+                cut_other layers (words c.spelt c.width (length (needs_of layers)) before)
+                (words c.spelt c.width (length (needs_of layers)) after) stripe cs stands.inside
+                ((sizes_are held layers lengths).each stripe) row_written j l other
+                ∙ has.words;
+          }
+        ];
+  }

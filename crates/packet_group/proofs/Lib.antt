@@ -2,6 +2,8 @@ pub mod Rows
 pub mod Filling
 pub mod Cuts
 pub mod Known
+pub mod Told
+pub mod Shown
 pub mod Holding
 pub mod LayerBytes
 pub mod Agreement

@@ -22,8 +22,8 @@ use std::marker::Model;
 use std::sync::ledger::Ledger;
 use stripe_plan::{LayerSize, Table, first_word, layer_words};
 
-/// The packets that are kept of one group, what is known of its stripes, and the words of its message as far as they are
-/// known.
+/// The packets that are kept of one group, what is known of its stripes, and the words of its message as far as its
+/// layers are shown.
 #[derive(Drop)]
 pub struct OpenGroup<'f, F: Rows> {
     /// The field of the words.
@@ -32,8 +32,8 @@ pub struct OpenGroup<'f, F: Rows> {
     packets: PacketSet,
     /// What is known of each stripe of the plan, given back with the packet that makes the last one known.
     progress: Option<Progress<'f, F>>,
-    /// The field's width in bytes a word. A stripe's words stand here from the packet on that makes them known. There is room
-    /// for all words, and bytes are written no further than the end of the last stripe that is known.
+    /// The field's width in bytes a word. A stripe's words stand here from the packet on that shows a layer that has one
+    /// of them. There is room for all words, and bytes are written no further than the end of the last such stripe.
     message: Vec<u8>,
     /// For each number the tag of the kept packet's frame, where it was told.
     tags: Vec<Option<[u8; 16]>>,
@@ -48,7 +48,7 @@ impl<'f, F: Rows> Model for OpenGroup<'f, F> {
 
     ghost view = { λ g. state_of F.coding g.packets g.message.items g.progress };
 
-    ghost invariant = { λ g. IsStored F.coding.width g.packets g.progress (vec_capacity g.message) g.message.items g.tags.items };
+    ghost invariant = { λ g. IsStored F.coding g.packets g.progress (vec_capacity g.message) g.message.items g.tags.items };
 }
 
 impl<'f, F: Rows> OpenGroup<'f, F> {
@@ -97,7 +97,7 @@ impl<'f, F: Rows> OpenGroup<'f, F> {
         let progress = self.progress.take();
         self.progress = learn(
             self.field,
-            &self.packets.header().table,
+            &self.packets,
             x,
             payload,
             progress,

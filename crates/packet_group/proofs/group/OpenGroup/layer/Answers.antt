@@ -1,21 +1,20 @@
-use Rattle.std.proofs.Common.{◌≡◌, ◌≤◌, ◌<◌, ℕ, List, length, get_or, sum_by, refl, sym, ap, ap₂, ◌∙◌, arith}
+use Rattle.std.proofs.Common.{◌≡◌, ◌≤◌, ◌<◌, ℕ, List, length, get_or, refl, sym, ap, ap₂, ◌∙◌, arith}
 use Rattle.std.proofs.Common.{subst}
 use Rattle.std.specs.Prelude.{IsSome, Contains}
 use Rattle.stripe_plan.specs.laws.CountLaws.{length-counts_of, count_at}
-use Rattle.stripe_plan.proofs.CountLemmas.{count_of-greatest}
 use Rattle.stripe_plan.proofs.PlanLemmas.{plan_ends_plan}
-use Rattle.stripe_plan.proofs.TableLemmas.{words_half}
 use Rattle.stripe_plan.specs.declared.layer.LayerSize.{LayerSize}
-use Rattle.stripe_plan.specs.Layers.{words_of, AllNeeded, count_of}
+use Rattle.stripe_plan.specs.Layers.{AllNeeded, count_of}
 use Rattle.stripe_plan.specs.Layers.{counts_of}
 use Rattle.packet_frame.specs.declared.frame.Header.{Header}
 use Rattle.packet_set.specs.Packets.{Packets, slot_at}
-use Rattle.packet_session.specs.Session.{bytes_of_layer}
+use Rattle.packet_session.specs.Session.{IsMessage, bytes_of_layer}
 use Rattle.packet_group.specs.OpenGroup.{GroupState, layers_of, count_in}
-use Rattle.packet_group.specs.Written.{Reaches, ReachesLayer, whole_message}
+use Rattle.packet_group.specs.Written.{HasLayer, ReachesLayer, whole_message}
 use Rattle.packet_group.proofs.Agreement.{agreed_bytes}
 use Rattle.packet_group.proofs.Holding.{some_inside}
 use Rattle.packet_group.proofs.LayerBytes.{layer_reached, shown_bytes}
+use Rattle.packet_group.proofs.Shown.{few_words}
 use Rattle.packet_group.proofs.group.OpenGroup.layer.Given.{Over}
 use Rattle.packet_group.proofs.group.OpenGroup.layer.Goals as goal
 use Rattle.packet_group.proofs.group.OpenGroup.layer.Goals.{After-layers-layers, then-from-counts-via-then-from-counts}
@@ -57,6 +56,19 @@ reached : (g : Over) (c : After-layers-layers g)
     → count_of (layers_of c.args.self.now.packets) c.args.layer ≤ count_in c.args.self.now.packets
 reached g c = omega (arith, c.if-len-counts.false, shown_by g c, c.len.ensures.value, ap count_in (packets_are g c))
 
+-- the group as its fields have it, and the stripes of the layer in the bytes that are written
+stored : (g : Over) (c : After-layers-layers g)
+    → HasLayer g.F.Field.coding (layers_of c.args.self.now.packets) c.args.self.now.held c.self.inside.message.items
+    c.args.layer
+stored g c =
+    let coding = g.F.Field.coding in
+    let bytes = c.self.inside.message.items in
+    let layer = c.args.layer in
+    subst (λ (v : GroupState g.row.F-Elem.Denot).
+    layer < length (layers_of v.packets) → count_of (layers_of v.packets) layer ≤ count_in v.packets
+    → HasLayer coding (layers_of v.packets) v.held bytes layer) c.self.view_is (c.self.invariant.shown layer)
+    (layer_inside g c) (reached g c)
+
 -- ---- the answers
 
 pub layer_bytes-requires-clause-reached : goal.layer_bytes-requires-clause-reached
@@ -67,12 +79,8 @@ layer_bytes-requires-clause-reached g c =
     let L = c.layers-layers.result.now in
     let bytes = c.self.inside.message.items in
     let width = g.F.Field.coding.width in
-    let stored = subst (λ (p : Packets).
-    (size : ℕ) → 0 < size → size ≤ count_in p → Reaches width (layers_of p) size bytes)
-    (packets_are g h) c.self.invariant.reached in
-    let end = layer_reached width layer (count_of layers layer) (count_in c.args.self.now.packets) layers bytes
-    (plan_ends_plan layers (needed g h)) (count_of-greatest layers layer (needed g h) (layer_inside g h)) (reached g h)
-    stored in
+    let end = layer_reached width layer layers bytes (plan_ends_plan layers (needed g h))
+    (λ j l meets. (stored g h j l meets).reached) in
     let wide : c.WIDTH.result ≡ width = c.WIDTH.ensures ∙ sym g.met.F.Field.wide in
     subst (ReachesLayer c.WIDTH.result L layer) (sym c.deref.ensures.value)
     (subst (λ w. ReachesLayer w L layer bytes) (sym wide)
@@ -80,15 +88,8 @@ layer_bytes-requires-clause-reached g c =
 
 pub layer_bytes-requires-clause-few : goal.layer_bytes-requires-clause-few
 layer_bytes-requires-clause-few g c =
-    let layers = c.header.result.now.table.layers in
-    let same = ap (λ (l : List LayerSize). sum_by words_of l) c.layers-layers.ensures.value in
-    omega (
-      arith,
-      same,
-      words_half layers,
-      c.layers-layers.ensures.bounds.few_bytes,
-      c.layers-layers.ensures.bounds.few_layers,
-    )
+    few_words c.header.result.now.table.packets c.header.result.now.table.layers c.layers-layers.result.now
+    c.layers-layers.ensures.bounds c.layers-layers.ensures.value
 
 pub layer_bytes-requires-clause-layer : goal.layer_bytes-requires-clause-layer
 layer_bytes-requires-clause-layer g c =
@@ -144,18 +145,20 @@ returns-clause-bytes g c numbers h =
     let bytes = c.deref.result.now in
     let L = c.layers-layers.result.now in
     let wide : c.WIDTH.result ≡ width = c.WIDTH.ensures ∙ sym g.met.F.Field.wide in
-    let inside : L ≡ layers_of c.self.inside.packets = layers ∙ ap layers_of (sym (packets_are g at)) in
-    let message : whole_message width L bytes ≡ G.message =
-    ap (λ (l : List LayerSize). whole_message width l bytes) inside
-    ∙ ap (whole_message width (layers_of c.self.inside.packets)) c.deref.ensures.value
-    ∙ ap (λ (v : GroupState g.row.F-Elem.Denot). v.message) c.self.view_is in
-    let is : c.layer_bytes.result.now ≡ bytes_of_layer width (layers_of G.packets) G.message c.args.layer =
+    let whole = whole_message width (layers_of G.packets) c.self.inside.message.items in
+    let message : whole_message width L bytes ≡ whole =
+    ap (λ (l : List LayerSize). whole_message width l bytes) layers
+    ∙ ap (whole_message width (layers_of G.packets)) c.deref.ensures.value in
+    let is : c.layer_bytes.result.now ≡ bytes_of_layer width (layers_of G.packets) whole c.args.layer =
     c.layer_bytes.ensures ∙ ap (λ w. bytes_of_layer w L (whole_message w L bytes) c.args.layer) wide
     ∙ ap (λ m. bytes_of_layer width L m c.args.layer) message
-    ∙ ap (λ (l : List LayerSize). bytes_of_layer width l G.message c.args.layer) layers in
-    shown_bytes F.is_element F.coding G numbers c.args.layer
-    (count_of (layers_of G.packets) c.args.layer) c.layer_bytes.result.now h (reached g at)
-    (count_of-greatest (layers_of G.packets) c.args.layer (needed g at) (layer_inside g at)) is
+    ∙ ap (λ (l : List LayerSize). bytes_of_layer width l whole c.args.layer) layers in
+    let is_message : IsMessage width (layers_of G.packets) whole =
+    subst (λ (p : Packets).
+    IsMessage width (layers_of p) (whole_message width (layers_of p) c.self.inside.message.items))
+    (packets_are g at) c.self.invariant.message in
+    shown_bytes F.is_element F.coding G numbers c.args.layer c.layer_bytes.result.now h (needed g at)
+    (layer_inside g at) (reached g at) whole is_message (λ j l meets. (stored g at j l meets).words) is
 
 pub returns-clause-agreed : goal.returns-clause-agreed
 returns-clause-agreed g c message is agrees =
