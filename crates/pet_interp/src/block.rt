@@ -1,5 +1,5 @@
 //! A block of a progressive state: adjacent stripes of one length.
-ghost use Rattle.std.specs.Prelude.{◌≡◌, ◌≢◌, ℕ, ◌+◌, ◌*◌, ◌-◌, ◌<◌, ◌≤◌, ◌&&◌, ◌==◌, List, [], false, length, map, All, IfOk, IfSome, slice_index_or, nat_lt};
+ghost use Rattle.std.specs.Prelude.{◌≡◌, ◌≢◌, ℕ, ◌+◌, ◌*◌, ◌-◌, ◌<◌, ◌≤◌, List, [], false, length, map, All, IfOk, IfSome, slice_index_or, nat_lt};
 ghost use Rattle.field_rows.specs.declared.blocks.TheConstants.{MAX_WIDTH};
 ghost use Rattle.pet_poly.specs.Rows.{words};
 ghost use Rattle.pet_interp.specs.Progressive.{longer_than};
@@ -67,13 +67,6 @@ impl<F: Rows> StripeBlock<F> {
         ensures { result ≡ length self.now.stripes }
     {
         self.width
-    }
-
-    /// Whether there are stripes, and they are so long.
-    pub(crate) fn has_length(&self, count: usize) -> bool
-        ensures { result ≡ (self.now.size == count && nat_lt 0 (length self.now.stripes)) }
-    {
-        self.size == count && 0 < self.width
     }
 
     /// Puts the multiple of the product that each stripe lacks to its value into the stripe's place `met`, if the stripes

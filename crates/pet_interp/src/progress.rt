@@ -1,6 +1,5 @@
 //! A progressive state.
-ghost use Rattle.std.specs.Prelude.{◌≡◌, ◌≢◌, ℕ, ◌+◌, ◌*◌, ◌-◌, ◌<◌, ◌≤◌, ◌&&◌, ◌==◌, nat_lt, true, false, length, take, All, List, [], ◌∷◌, ◌++◌, slice_index, slice_index_or, replicate, IfOk};
-ghost use Rattle.std.specs.List.{list_any};
+ghost use Rattle.std.specs.Prelude.{◌≡◌, ◌≢◌, ℕ, ◌+◌, ◌*◌, ◌-◌, ◌<◌, ◌≤◌, true, false, length, take, All, List, [], ◌∷◌, ◌++◌, slice_index, slice_index_or, replicate, IfOk};
 ghost use Rattle.pet_interp.specs.Progressive.{StandsFor, stripe_of, lengths_of, column, step_bound, point_steps};
 ghost use Rattle.pet_interp.specs.Blocks.{stripes_in, no_block, HasRoom};
 ghost use Rattle.field_rows.specs.declared.blocks.TheConstants.{MAX_WIDTH};
@@ -122,15 +121,6 @@ impl<'f, F: Rows> Progress<'f, F> {
         self.met
     }
 
-    /// Whether a stripe is as long as the number of points that were met. Such a stripe has just met the last point that
-    /// it needed, or before any point was met has no words and needs none.
-    pub fn has_just_enough(&self) -> bool
-        ensures some { result ≡ true → (j : ℕ) × (j < length self.now.stripes) × (length (stripe_of self.now j) ≡ self.now.met) }
-        ensures none { result ≡ false → (j : ℕ) → j < length self.now.stripes → length (stripe_of self.now j) ≢ self.now.met }
-    {
-        any_has_length(&self.blocks, self.met as usize)
-    }
-
     /// Whether no stripe is longer than the number of points that were met.
     pub fn is_whole(&self) -> bool
         ensures none { result ≡ true → (j : ℕ) → j < length self.now.stripes → length (stripe_of self.now j) ≤ self.now.met }
@@ -216,13 +206,6 @@ fn some_factors<F: Rows>(alloc: Global, f: &F, count: usize) -> Result<Vec<F::Fa
         factors.push(f.prepare(f.zero()))?;
     }
     Ok(factors)
-}
-
-/// Whether some block has stripes, and they are so long.
-fn any_has_length<F: Rows>(blocks: &[StripeBlock<F>], count: usize) -> bool
-    ensures { result ≡ list_any (λ b. b.size == count && nat_lt 0 (length b.stripes)) blocks.now }
-{
-    blocks.iter().any(|block| block.has_length(count))
 }
 
 /// In which block a stripe stands, and at which place.
