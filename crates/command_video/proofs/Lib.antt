@@ -2,3 +2,5 @@ mod GroupVideos
 mod GroupAfterGroup
 mod VideoOrTable
 mod Causes
+mod OneGroup
+mod StoreRead

@@ -1,28 +1,35 @@
 //! Reading a store, and writing the videos of its groups.
-ghost use Rattle.std.specs.Prelude.{◌≡◌, ◌<◌, ◌≤◌, ℕ, List, [], ◌∷◌, length, true, IfOk, IfErr, OnOk};
+ghost use Rattle.std.specs.Prelude.{◌≡◌, ◌<◌, ◌≤◌, ℕ, List, length, true, IfOk, IfErr, OnOk, Ok};
+ghost use Rattle.pet_base.specs.declared.limits.TheConstants.{MAX_STORE};
 ghost use Rattle.pet_base.specs.declared.place.Side.TheVariants.{Written};
 ghost use Rattle.pet_base.specs.Causes.{Blames, stops};
 ghost use Rattle.pet_base.specs.Seen.{Seen, KeepsOutput, OnlyWrites, HadFault, PlaceStops};
 ghost use Rattle.field_elements.specs.Gf16.{gf16_coding};
 ghost use Rattle.pet_receive.specs.Arrivals.{HasKept, kept_set};
-ghost use Rattle.packet_verdicts.specs.KeptSet.{IsKeptSet};
+ghost use Rattle.packet_verdicts.specs.KeptSet.{KeptSet};
 ghost use Rattle.pet_receive.specs.ShownBytes.{groups_told};
-ghost use Rattle.store_text.specs.Files.{HasStore};
+ghost use Rattle.store_text.specs.Files.{store_in};
+ghost use Rattle.store_groups.specs.Groups.{ArePackets};
 ghost use Rattle.store_merge.specs.Reading.{pairs_in};
+ghost use Rattle.outside_files.specs.Inputs.{IsFrontOf};
 ghost use Rattle.outside_files.specs.Outputs.{Puts};
 ghost use Rattle.command_video.specs.Ends.{has_failed};
-ghost use Rattle.command_video.specs.inside.Ends.{IsReadEnd, IsTableEnd, IsGroupEnd, IsPutEnd};
+ghost use Rattle.command_video.specs.inside.Ends.{IsReadEnd, IsStoreEnd, IsTableEnd, IsGroupEnd, IsPutEnd};
+ghost use Rattle.command_video.specs.inside.Groups.{AreStored, AreOwn};
 ghost use Rattle.command_video.specs.StoreVideo.{AreVideos, IsGroupVideo};
 ghost use Rattle.command_video.specs.Videos.{Videos, WritesVideo};
 
 use crate::command::VideoEnd;
-use pet_base::{Failed, NoMemory, Place, Steps};
+use outside_files::read_file;
+use pet_base::{Failed, MAX_SESSION, MAX_STORE, NoMemory, Place, Steps, Stop};
 use pet_field::Gf16Tables;
 use pet_receive::Receiver;
 use reassemble::{Assemble, assemble};
 use std::alloc::Global;
 use std::sync::ledger::Ledger;
-use store_merge::{StoreStop, read_store_file};
+use store_groups::{groups_of, packets_of_file, receive_packets, split_group};
+use store_packets::StorePackets;
+use store_text::BadStore;
 
 impl From<NoMemory> for VideoEnd {
     ghost use Rattle.command_video.specs.declared.command.VideoEnd.TheVariants.{NoMemory as no_memory};
@@ -58,84 +65,114 @@ pub(crate) fn write_video<P: Place, L: Ledger>(
     ensures once { PlaceStops (stops has_failed result) (P.seen place.old) (P.seen place.new) }
 {
     let field = Gf16Tables::new(alloc)?;
-    let receiver = read_receiver(alloc, &field, store, place, steps)?;
+    let bytes = read_bytes(alloc, store, place)?;
+    let packets = packets_of(bytes.as_slice())?;
     place.create(out)?;
-    put_groups(alloc, &receiver, place)
+    put_groups(alloc, &field, &packets, place, steps)
 }
 
-/// Reads the store, or says how the command ends.
-fn read_receiver<'f, P: Place, L: Ledger>(
-    alloc: Global,
-    field: &'f Gf16Tables,
-    store: &str,
-    place: &mut P,
-    steps: &mut Steps<L>,
-) -> Result<Receiver<'f, Gf16Tables>, VideoEnd>
-    ensures read { IfOk result (λ r. HasStore (P.seen place.old).files store.now (kept_set r)) }
-    ensures order { IfOk result (λ r. HasKept (λ a. a < 65536) gf16_coding r
-        (pairs_in (kept_set r))) }
-    ensures sound { IfOk result (λ r. IsKeptSet (kept_set r)) }
+/// Reads the file of the store, to one byte past what a store may have, or says how the command ends.
+fn read_bytes<P: Place>(alloc: Global, store: &str, place: &mut P) -> Result<Vec<u8>, VideoEnd>
+    ensures read { IfOk result (λ bytes. IsFrontOf MAX_STORE bytes.items (P.seen place.old).files store.now) }
     ensures end { IfErr result (IsReadEnd (P.seen place.old) (P.seen place.new) store.now) }
     ensures others { KeepsOutput (P.seen place.old) (P.seen place.new) }
     ensures later { (P.seen place.old).faults ≤ (P.seen place.new).faults }
     ensures once { PlaceStops (stops has_failed result) (P.seen place.old) (P.seen place.new) }
 {
-    match read_store_file(alloc, field, store, place, steps) {
-        Ok(receiver) => Ok(receiver),
-        Err(StoreStop::At(at, kind)) => Err(VideoEnd::BadStore(at, kind)),
-        Err(StoreStop::NoMemory) => Err(VideoEnd::NoMemory),
-        Err(StoreStop::Failed) => Err(VideoEnd::PlaceFault),
+    match read_file(alloc, store, MAX_STORE, place) {
+        Ok(bytes) => Ok(bytes),
+        Err(Stop::NoMemory) => Err(VideoEnd::NoMemory),
+        Err(Stop::Failed) => Err(VideoEnd::PlaceFault),
+    }
+}
+
+/// The packets of the store that these bytes of the file are, or how the command ends.
+fn packets_of(bytes: &[u8]) -> Result<StorePackets<'_>, VideoEnd>
+    ensures packets { IfOk result (λ packets. (set : KeptSet) × (store_in bytes.now ≡ Ok set) × ArePackets packets set) }
+    ensures end { IfErr result (IsStoreEnd bytes.now) }
+{
+    match packets_of_file(bytes) {
+        Ok(packets) => Ok(packets),
+        Err(BadStore::At(at, kind)) => Err(VideoEnd::BadStore(at, kind)),
+        Err(BadStore::NoMemory) => Err(VideoEnd::NoMemory),
     }
 }
 
 /// Puts the videos of all groups of the session to the output, in order, and answers how many bytes these are; else the end
-/// that the command comes to.
-fn put_groups<P: Place>(
+/// that the command comes to. What was made of a group is dropped before the next group's packets are read.
+fn put_groups<P: Place, L: Ledger>(
     alloc: Global,
-    receiver: &Receiver<'_, Gf16Tables>,
+    field: &Gf16Tables,
+    packets: &StorePackets<'_>,
     place: &mut P,
+    steps: &mut Steps<L>,
 ) -> Result<u64, VideoEnd>
     requires output { (P.seen place.old).has_output ≡ true }
-    requires order { HasKept (λ a. a < 65536) gf16_coding receiver.now
-        (pairs_in (kept_set receiver.now)) }
-    requires sound { IsKeptSet (kept_set receiver.now) }
-    ensures done { IfOk result (λ n. (video : List ℕ) × AreVideos (kept_set receiver.now) (groups_told (kept_set receiver.now)) video
-        × Puts video (P.seen place.old) (P.seen place.new) × (n ≡ length video)) }
-    ensures end { IfErr result (IsPutEnd (HadFault (P.seen place.old) (P.seen place.new) (Blames Written (P.seen place.old).target))
-        (kept_set receiver.now) (P.seen place.old) (P.seen place.new)) }
+    requires packets { (set : KeptSet) × AreStored packets.now set }
+    ensures done { IfOk result (λ n. (set : KeptSet) → AreStored packets.now set
+        → (video : List ℕ) × AreVideos set (groups_told set) video × Puts video (P.seen place.old) (P.seen place.new) × (n ≡ length video)) }
+    ensures end { IfErr result (λ end. (set : KeptSet) → AreStored packets.now set
+        → IsPutEnd (HadFault (P.seen place.old) (P.seen place.new) (Blames Written (P.seen place.old).target)) set (P.seen place.old) (P.seen place.new) end) }
     ensures later { (P.seen place.old).faults ≤ (P.seen place.new).faults }
     ensures once { PlaceStops (stops has_failed result) (P.seen place.old) (P.seen place.new) }
 {
     let mut video = Vec::new(alloc);
     let mut bytes = 0u64;
-    for group in 0..receiver.groups().unwrap_or(0) {
-        put_group_video(receiver, group, &mut video, place)?;
+    let mut rest = StorePackets {
+        session: packets.session,
+        count: packets.count,
+        entries: packets.entries,
+    };
+    for group in 0..groups_of(packets) {
+        let (own, above) = split_group(&rest, group);
+        put_group_video(alloc, field, &own, group, &mut video, place, steps)?;
         bytes += video.len() as u64;
+        rest = above;
     }
     Ok(bytes)
 }
 
-/// Puts the video of a group to the output; else says how the command ends. The buffer then has the video.
-fn put_group_video<P: Place>(
-    receiver: &Receiver<'_, Gf16Tables>,
+/// Puts the video of a group, which has these packets, to the output; else says how the command ends. The buffer then has the
+/// video.
+fn put_group_video<P: Place, L: Ledger>(
+    alloc: Global,
+    field: &Gf16Tables,
+    packets: &StorePackets<'_>,
     group: u32,
     video: &mut Vec<u8>,
     place: &mut P,
+    steps: &mut Steps<L>,
 ) -> Result<(), VideoEnd>
     requires output { (P.seen place.old).has_output ≡ true }
-    requires order { HasKept (λ a. a < 65536) gf16_coding receiver.now
-        (pairs_in (kept_set receiver.now)) }
-    ensures done { OnOk result (IsGroupVideo (kept_set receiver.now) group video.new.items
-        × Puts video.new.items (P.seen place.old) (P.seen place.new)) }
-    ensures end { IfErr result (IsGroupEnd (HadFault (P.seen place.old) (P.seen place.new) (Blames Written (P.seen place.old).target))
-        (kept_set receiver.now) group (P.seen place.old) (P.seen place.new)) }
+    requires packets { (set : KeptSet) × AreOwn packets.now set group }
+    ensures shows { OnOk result ((set : KeptSet) → AreOwn packets.now set group → IsGroupVideo set group video.new.items) }
+    ensures puts { OnOk result (Puts video.new.items (P.seen place.old) (P.seen place.new)) }
+    ensures end { IfErr result (λ end. (set : KeptSet) → AreOwn packets.now set group
+        → IsGroupEnd (HadFault (P.seen place.old) (P.seen place.new) (Blames Written (P.seen place.old).target)) set group (P.seen place.old) (P.seen place.new) end) }
     ensures others { OnlyWrites (P.seen place.old) (P.seen place.new) }
     ensures later { (P.seen place.old).faults ≤ (P.seen place.new).faults }
     ensures once { PlaceStops (stops has_failed result) (P.seen place.old) (P.seen place.new) }
 {
-    group_video(receiver, group, video)?;
+    make_video(alloc, field, packets, group, video, steps)?;
     place.put(video.as_slice())?;
     Ok(())
+}
+
+/// Makes the buffer the video of a group, which has these packets; else says how the command ends.
+fn make_video<L: Ledger>(
+    alloc: Global,
+    field: &Gf16Tables,
+    packets: &StorePackets<'_>,
+    group: u32,
+    video: &mut Vec<u8>,
+    steps: &mut Steps<L>,
+) -> Result<(), VideoEnd>
+    requires packets { (set : KeptSet) × AreOwn packets.now set group }
+    ensures shows { OnOk result ((set : KeptSet) → AreOwn packets.now set group → IsGroupVideo set group video.new.items) }
+    ensures end { IfErr result (λ end. (set : KeptSet) → AreOwn packets.now set group → IsTableEnd set group end) }
+{
+    let receiver = receive_packets(alloc, field, packets, MAX_SESSION, steps)?;
+    group_video(&receiver, group, video)
 }
 
 /// Makes the buffer the video of a group, and empties it where layer 0 of the group is not shown; else says how the command ends.

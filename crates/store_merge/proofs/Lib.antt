@@ -2,7 +2,6 @@ pub mod Appended
 pub mod Entry
 pub mod Walk
 pub mod Text
-pub mod StoreFiles
 pub mod Joining
 pub mod Tagged
 pub mod Putting

@@ -101,8 +101,9 @@ fn entries_of(bytes: &[u8]) -> &[u8]
     entries
 }
 
-/// Takes so many entries, which are all that stands there.
-fn take_entries<F: Rows, L: Ledger>(
+/// Takes so many entries, which are all that stands there, into a receiver that has kept nothing. It counts at most the steps of
+/// reading their packets one after the other.
+pub fn take_entries<F: Rows, L: Ledger>(
     receiver: &mut Receiver<'_, F>,
     count: u32,
     entries: &[u8],
@@ -136,7 +137,7 @@ fn take_entries<F: Rows, L: Ledger>(
 }
 
 /// The datagram of the entry at the front, and what stands behind the entry, where it is all there.
-fn next_entry(bytes: &[u8]) -> Option<(&[u8], &[u8])>
+pub fn next_entry(bytes: &[u8]) -> Option<(&[u8], &[u8])>
     ensures whole { MatchOption result (is_whole bytes.now ≡ false)
         (λ e. is_whole bytes.now ≡ true) }
     ensures datagram { IfSome result (λ e. e.0.now ≡ datagram_in bytes.now) }

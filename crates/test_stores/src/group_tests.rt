@@ -65,7 +65,7 @@ const ZERO_ONE: Stored = Stored {
 };
 
 /// Packets 0, 1 and 2 of group 0, and packet 3 of group 1.
-const UNION: Stored = Stored {
+pub(crate) const UNION: Stored = Stored {
     session: SESSION,
     many: 4,
     numbers: &[10, 11, 12, 17],

@@ -1,4 +1,4 @@
-//! Tests over the public calls of `store_merge` and `reassemble`, as a caller sees
+//! Tests over the public calls of `store_merge`, `store_groups` and `reassemble`, as a caller sees
 //! them.
 //!
 //! They stand apart because the gate proves a crate with tests twice, once alone and once with them: here the second time is
@@ -21,6 +21,8 @@ mod merge_tests;
 mod migrate_tests;
 #[cfg(test)]
 mod read_tests;
+#[cfg(test)]
+mod split_tests;
 #[cfg(test)]
 mod store_fixtures;
 #[cfg(test)]

@@ -1,23 +1,31 @@
 -- The end of the command by what a step of it answered. This project's own.
-use Rattle.std.specs.Prelude.{◌≡◌, ℕ, ◌<◌, ◌≤◌, List, [], ◌∷◌}
+use Rattle.std.specs.Prelude.{◌≡◌, ℕ, ◌<◌, ◌≤◌, List, [], ◌∷◌, Err}
 use Rattle.pet_base.specs.Seen.{Seen}
 use Rattle.outside_files.specs.Uses.{reading, Failed}
 use Rattle.outside_files.specs.Outputs.{Puts, PutsPart}
 use Rattle.packet_verdicts.specs.KeptSet.{KeptSet}
 use Rattle.pet_receive.specs.ShownBytes.{groups_told}
-use Rattle.store_text.specs.Files.{HasBadStore}
+use Rattle.store_text.specs.Files.{store_in}
 use Rattle.store_text.specs.declared.fault.BadStore.TheVariants.{At}
 use Rattle.command_video.specs.StoreVideo.{AreVideos, IsGroupVideo, HasBadTable}
 use Rattle.command_video.specs.declared.command.VideoEnd.{VideoEnd}
 use Rattle.command_video.specs.declared.command.VideoEnd.TheVariants.{Done, NoMemory, PlaceFault, BadStore, BadTable}
 
--- of a store that was not read, and why
+-- of a file that was not read, and why
 abbrev pub IsReadEnd : Seen → Seen → List ℕ → VideoEnd → Type 0
 IsReadEnd old new name NoMemory = Unit {0}
 IsReadEnd old new name PlaceFault = Failed (reading name ∷ []) old new
-IsReadEnd old new name (BadStore at kind) = HasBadStore old.files name (At at kind)
+IsReadEnd old new name (BadStore at kind) = ⊥
 IsReadEnd old new name (Done bytes) = ⊥
 IsReadEnd old new name (BadTable group) = ⊥
+
+-- of bytes of a file that are no store
+abbrev pub IsStoreEnd : List ℕ → VideoEnd → Type 0
+IsStoreEnd bytes NoMemory = Unit {0}
+IsStoreEnd bytes (BadStore at kind) = store_in bytes ≡ Err (At at kind)
+IsStoreEnd bytes PlaceFault = ⊥
+IsStoreEnd bytes (Done many) = ⊥
+IsStoreEnd bytes (BadTable group) = ⊥
 
 -- of a group whose video was not put together
 abbrev pub IsTableEnd : KeptSet → ℕ → VideoEnd → Type 0

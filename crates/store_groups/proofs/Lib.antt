@@ -1,0 +1,2 @@
+mod GroupEntries
+mod GroupPackets
