@@ -1,11 +1,12 @@
 -- Why the command ends so, by the step that failed.
-use Rattle.std.proofs.Common.{◌≡◌, ◌≢◌, ◌⊎◌, ℕ, ◌≤◌, List, [], ◌∷◌, Option, None, Some, refl, sym, ap, subst, ◌∙◌}
+use Rattle.std.proofs.Common.{◌≡◌, ◌≢◌, ◌⊎◌, ℕ, ◌≤◌, List, [], ◌∷◌, Option, None, Some, refl, sym, subst, ◌∙◌}
 use Rattle.std.proofs.Common.{arith, inl, inr, Result, Ok, Err}
 use Rattle.std.specs.Prelude.{IfErr, IsErrAnd, MatchResult}
 use Rattle.pet_base.specs.Seen.{Seen, Files, Blame, HadFault}
 use Rattle.pet_base.specs.declared.faults.Stop.{Stop}
 use Rattle.pet_base.specs.declared.faults.Stop.TheVariants as stop
-use Rattle.outside_files.specs.Inputs.{Licensed}
+use Rattle.pet_base.specs.declared.limits.TheConstants.{MAX_STORE}
+use Rattle.outside_files.specs.Inputs.{IsFrontOf, IsRead, Licensed}
 use Rattle.outside_files.specs.Uses.{writing, Failed}
 use Rattle.outside_files.specs.Wrote.{Wrote}
 use Rattle.outside_files.specs.laws.WroteLaws.{Wrote-nothing, Wrote-then}
@@ -13,14 +14,19 @@ use Rattle.packet_verdicts.specs.KeptSet.{KeptSet, kept_in_all}
 use Rattle.packet_verdicts.specs.Union.{union, absorb_fault}
 use Rattle.packet_verdicts.specs.declared.union.Absorb.{Absorb}
 use Rattle.packet_verdicts.specs.declared.union.Absorb.TheVariants as absorb
-use Rattle.store_merge.specs.Files.{IsStop}
-use Rattle.store_text.specs.Files.{HasBadStore, HasStore, store_file}
+use Rattle.store_merge.specs.Files.{IsStop, stop_of_store}
+use Rattle.store_merge.specs.laws.StoreFiles.{stop_refused}
+use Rattle.store_union.specs.Joined.{AreJoined}
+use Rattle.store_packets.specs.declared.packets.StorePackets.{StorePackets}
+use Rattle.store_text.specs.Files.{HasBadStore, HasStore, store_file, store_in}
+use Rattle.store_text.specs.declared.fault.BadStore.{BadStore}
 use Rattle.store_text.specs.declared.fault.BadStore.TheVariants.{At}
 use Rattle.store_merge.specs.declared.read_files.StoreStop.{StoreStop}
 use Rattle.store_merge.specs.declared.read_files.StoreStop.TheVariants as unread
 use Rattle.command_merge.specs.Ends.{absorb_end, stop_end, store_end}
 use Rattle.command_merge.specs.Merges.{HasStores, CanJoin, Merges, WritesUnion, union_of}
 use Rattle.command_merge.specs.declared.command.MergeEnd.{MergeEnd}
+use Rattle.command_merge.specs.declared.command.MergeEnd.TheVariants.{PlaceFault}
 use Rattle.command_merge.specs.declared.files.Which.{Which}
 use Rattle.command_merge.specs.declared.files.Which.TheVariants as which
 
@@ -98,32 +104,70 @@ not_joined first second out old new s (absorb.Full group) same is = (s, is (λ e
 not_joined first second out old new s absorb.NoMemory same is = same
 
 -- OUT was not written
-module _ (first second out : List ℕ) (old mid new : Seen) (c : CanJoin first second old) (set : KeptSet)
-    (is : set ≡ union c.stores.a c.stores.b) (before : mid.files ≡ old.files) where
-  pub not_written : (s : Stop) → old.faults ≤ mid.faults → (s ≡ stop.NoMemory → new.files ≡ mid.files)
-      → (new.files ≡ mid.files) ⊎ Wrote [] (Some (store_file out set)) mid new
-      → Licensed (Failed (writing out ∷ []) mid new) s → Merges first second out old new (stop_end s)
-  not_written stop.NoMemory later memory front cause = memory refl ∙ before
-  not_written stop.Failed later memory (inl same) cause =
-      (inr (inr (c, later_fault _ old mid new later cause)), inl (same ∙ before))
-  not_written stop.Failed later memory (inr front) cause = (
+module _ (first second out : List ℕ) (old mid new : Seen) (c : CanJoin first second old)
+    (before : mid.files ≡ old.files) where
+  pub not_written : old.faults ≤ mid.faults
+      → (new.files ≡ mid.files) ⊎ Wrote [] (Some (store_file out (union_of c))) mid new
+      → Failed (writing out ∷ []) mid new → Merges first second out old new PlaceFault
+  not_written later (inl same) cause = (inr (inr (c, later_fault _ old mid new later cause)), inl (same ∙ before))
+  not_written later (inr front) cause = (
     inr (inr (c, later_fault _ old mid new later cause)),
     inr (
       c,
-      subst (λ (t : KeptSet). Wrote [] (Some (store_file out t)) old new) is
-          (Wrote-then [] [] (Some (store_file out set)) old mid new (Wrote-nothing old mid before) front),
+      Wrote-then [] [] (Some (store_file out (union_of c))) old mid new (Wrote-nothing old mid before) front,
     ),
   )
 
   -- it was, and so many packets are in it
-  pub written : (n : ℕ) → n ≡ kept_in_all set → Wrote (store_file out set ∷ []) None mid new
+  pub written : (n : ℕ) → n ≡ kept_in_all (union_of c) → Wrote (store_file out (union_of c) ∷ []) None mid new
       → (w : WritesUnion first second out old new) × (n ≡ kept_in_all (union_of w.joins))
   written n many w = (
     record {
       joins = c;
-      file =
-          subst (λ (t : KeptSet). Wrote (store_file out t ∷ []) None old new) is
-          (Wrote-then [] (store_file out set ∷ []) None old mid new (Wrote-nothing old mid before) w);
+      file = Wrote-then [] (store_file out (union_of c) ∷ []) None old mid new (Wrote-nothing old mid before) w;
     },
-    many ∙ ap kept_in_all is,
+    many,
   )
+
+-- what was put is of these two stores
+pub of_two : (out : List ℕ) (mine theirs : StorePackets) (mid new : Seen) (a b : KeptSet) → AreJoined mine theirs a b
+    → (new.files ≡ mid.files) ⊎ ((a b : KeptSet) → AreJoined mine theirs a b
+    → Wrote [] (Some (store_file out (union a b))) mid new)
+    → (new.files ≡ mid.files) ⊎ Wrote [] (Some (store_file out (union a b))) mid new
+of_two out mine theirs mid new a b joined (inl same) = inl same
+of_two out mine theirs mid new a b joined (inr front) = inr (front a b joined)
+
+-- ---- the bytes of a file
+
+-- what the bytes of a file are refused with
+abbrev pub Refuses : List ℕ → StoreStop → Type 0
+Refuses slice s = (fault : BadStore) × (s ≡ stop_of_store fault) × (store_in slice ≡ Err fault)
+
+is_stop : (old new : Seen) (name slice bytes : List ℕ) → slice ≡ bytes → IsFrontOf MAX_STORE bytes old.files name
+    → (s : StoreStop) → Refuses slice s → IsStop old new name s
+is_stop old new name slice bytes lent front s refuses =
+    subst (IsStop old new name) (sym refuses.1)
+    (stop_refused old new name slice bytes refuses.0 lent front (λ some. refuses.2))
+
+pub first_refused : (first second out : List ℕ) (old new : Seen) (slice bytes : List ℕ) → new.files ≡ old.files
+    → slice ≡ bytes → IsFrontOf MAX_STORE bytes old.files first → (s : StoreStop) → Refuses slice s
+    → Merges first second out old new (store_end which.First s)
+first_refused first second out old new slice bytes same lent front s refuses =
+    first_unread first second out old new same s (is_stop old new first slice bytes lent front s refuses)
+
+pub second_refused : (first second out : List ℕ) (old mid new : Seen) (a : KeptSet) → HasStore old.files first a
+    → mid.files ≡ old.files → old.faults ≤ mid.faults → new.files ≡ mid.files → (slice bytes : List ℕ) → slice ≡ bytes
+    → IsFrontOf MAX_STORE bytes mid.files second → (s : StoreStop) → Refuses slice s
+    → Merges first second out old new (store_end which.Second s)
+second_refused first second out old mid new a has before later same slice bytes lent front s refuses =
+    second_unread first second out old mid new a has before later same s
+    (is_stop mid new second slice bytes lent front s refuses)
+
+-- the second file was not read
+pub second_failed : (first second out : List ℕ) (old mid new : Seen) (a : KeptSet) → HasStore old.files first a
+    → mid.files ≡ old.files → old.faults ≤ mid.faults → new.files ≡ mid.files → (s : Stop)
+    → Licensed (HadFault mid new (IsRead second)) s → Merges first second out old new (stop_end s)
+second_failed first second out old mid new a has before later same stop.NoMemory had =
+    second_unread first second out old mid new a has before later same unread.NoMemory tt
+second_failed first second out old mid new a has before later same stop.Failed had =
+    second_unread first second out old mid new a has before later same unread.Failed had

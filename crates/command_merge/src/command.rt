@@ -48,7 +48,7 @@ pub fn merge<P: Place, L: Ledger>(
         (P.seen place.new) result }
     ensures once { PlaceStops (has_failed result) (P.seen place.old) (P.seen place.new) }
 {
-    match merge_files(alloc, first, second, out, place, steps) {
+    match merge_files(alloc, first, second, out, place) {
         Ok(packets) => MergeEnd::Done(packets),
         Err(end) => end,
     }

@@ -1,18 +1,23 @@
 //! Reading two stores, joining them, and writing their union.
-ghost use Rattle.std.specs.Prelude.{◌≡◌, IfOk, IfErr};
+ghost use Rattle.std.specs.Prelude.{◌≡◌, Ok, Err, IfOk, IfErr};
 ghost use Rattle.pet_base.specs.Causes.{stops};
 ghost use Rattle.pet_base.specs.Seen.{Seen, PlaceStops};
-ghost use Rattle.packet_verdicts.specs.KeptSet.{kept_in_all};
+ghost use Rattle.packet_verdicts.specs.KeptSet.{KeptSet, kept_in_all};
+ghost use Rattle.store_text.specs.Files.{store_in};
+ghost use Rattle.store_text.specs.declared.fault.BadStore.{BadStore};
+ghost use Rattle.store_packets.specs.Packets.{HasPackets};
+ghost use Rattle.store_merge.specs.Files.{stop_of_store};
 ghost use Rattle.command_merge.specs.Ends.{store_end, has_failed};
 ghost use Rattle.command_merge.specs.Merges.{Merges, WritesUnion, union_of};
 
 use crate::command::MergeEnd;
+use outside_files::read_file;
 use packet_verdicts::Absorb;
-use pet_base::{NoMemory, Place, Steps, Stop};
-use pet_field::Gf16Tables;
+use pet_base::{Failed, MAX_STORE, Place, Stop};
 use std::alloc::Global;
-use std::sync::ledger::Ledger;
-use store_merge::{StoreStop, read_store_file, write_store_file};
+use store_merge::StoreStop;
+use store_packets::{StorePackets, packets_of_file};
+use store_union::{join, write_union_file};
 
 impl From<Absorb> for MergeEnd {
     ghost use Rattle.command_merge.specs.Ends.{absorb_end};
@@ -29,13 +34,13 @@ impl From<Absorb> for MergeEnd {
     }
 }
 
-impl From<NoMemory> for MergeEnd {
-    ghost use Rattle.command_merge.specs.declared.command.MergeEnd.TheVariants.{NoMemory as no_memory};
+impl From<Failed> for MergeEnd {
+    ghost use Rattle.command_merge.specs.declared.command.MergeEnd.TheVariants.{PlaceFault};
 
-    ghost from_gives = { λ _ end. end ≡ no_memory };
+    ghost from_gives = { λ _ end. end ≡ PlaceFault };
 
-    fn from(_e: NoMemory) -> MergeEnd {
-        MergeEnd::NoMemory
+    fn from(_e: Failed) -> MergeEnd {
+        MergeEnd::PlaceFault
     }
 }
 
@@ -53,13 +58,12 @@ impl From<Stop> for MergeEnd {
 }
 
 /// Writes the store of the union of the two stores to OUT, and answers how many packets it has; else the end that it comes to.
-pub(crate) fn merge_files<P: Place, L: Ledger>(
+pub(crate) fn merge_files<P: Place>(
     alloc: Global,
     first: &str,
     second: &str,
     out: &str,
     place: &mut P,
-    steps: &mut Steps<L>,
 ) -> Result<u32, MergeEnd>
     ensures done { IfOk result (λ n. (w : WritesUnion first.now second.now out.now
         (P.seen place.old) (P.seen place.new)) × (n ≡ kept_in_all (union_of w.joins))) }
@@ -67,15 +71,25 @@ pub(crate) fn merge_files<P: Place, L: Ledger>(
         (P.seen place.new)) }
     ensures once { PlaceStops (stops has_failed result) (P.seen place.old) (P.seen place.new) }
 {
-    let field = Gf16Tables::new(alloc)?;
-    let read = read_store_file(alloc, &field, first, place, steps);
-    let mut union = read.map_err(|stop| store_end(Which::First, stop))?;
-    let read = read_store_file(alloc, &field, second, place, steps);
-    let other = read.map_err(|stop| store_end(Which::Second, stop))?;
-    union.absorb(&other, steps)?;
-    drop(other);
-    write_store_file(alloc, &union, out, place)?;
-    Ok(union.kept())
+    let bytes = read_file(alloc, first, MAX_STORE, place)?;
+    let read = packets_of(bytes.as_slice());
+    let mine = read.map_err(|stop| store_end(Which::First, stop))?;
+    let bytes = read_file(alloc, second, MAX_STORE, place)?;
+    let read = packets_of(bytes.as_slice());
+    let theirs = read.map_err(|stop| store_end(Which::Second, stop))?;
+    let count = join(&mine, &theirs)?;
+    write_union_file(&mine, &theirs, count, out, place)?;
+    Ok(count)
+}
+
+/// The packets of the store that these bytes of a file are, of which at most one past the limit are given.
+fn packets_of(bytes: &[u8]) -> Result<StorePackets<'_>, StoreStop>
+    ensures read { IfOk result (λ packets. (set : KeptSet) × (store_in bytes.now ≡ Ok set)
+        × HasPackets packets set) }
+    ensures refused { IfErr result (λ stop. (fault : BadStore) × (stop ≡ stop_of_store fault)
+        × (store_in bytes.now ≡ Err fault)) }
+{
+    Ok(packets_of_file(bytes)?)
 }
 
 /// Which of the two stores.

@@ -8,7 +8,7 @@ use Rattle.pet_receive.specs.ShownBytes.{IsShown, IsShownIn, groups_told}
 use Rattle.reassemble.specs.Leading.{IsAssembled, IsUnfit}
 use Rattle.store_groups.specs.Groups.{ArePackets, only_group}
 use Rattle.store_groups.specs.laws.GroupLaws.{only_open, only_numbers}
-use Rattle.store_packets.specs.declared.packets.StorePackets.{StorePackets}
+use Rattle.store_groups.specs.declared.groups.GroupPackets.{GroupPackets}
 use Rattle.command_video.specs.StoreVideo.{IsGroupVideo, HasBadTable}
 use Rattle.command_video.specs.inside.Ends.{IsTableEnd}
 use Rattle.command_video.specs.inside.Groups.{AreOwn, AreStored}
@@ -60,7 +60,7 @@ module _ (set : KeptSet) (group : ℕ) where
     end_there (BadStore at kind) is = absurd is
 
 -- where a receiver has kept these packets
-module _ (packets : StorePackets) (set kept : KeptSet) (group : ℕ) (own : AreOwn packets set group)
+module _ (packets : GroupPackets) (set kept : KeptSet) (group : ℕ) (own : AreOwn packets set group)
     (is : kept ≡ only_group set group) where
   pub own_video : (video : List ℕ) → IsGroupVideo kept group video → IsGroupVideo set group video
   own_video video shows =
@@ -73,7 +73,7 @@ module _ (packets : StorePackets) (set kept : KeptSet) (group : ℕ) (own : AreO
 -- ---- the packets that are left
 
 -- those of a group of the store
-pub own_of : (packets : StorePackets) (set : KeptSet) (group : ℕ) → AreStored packets set → group < groups_told set
-    → (own : StorePackets) → ArePackets own (only_group set group) → AreOwn own set group
+pub own_of : (packets : GroupPackets) (set : KeptSet) (group : ℕ) → AreStored packets set → group < groups_told set
+    → (own : GroupPackets) → ArePackets own (only_group set group) → AreOwn own set group
 own_of packets set group given inside own are =
     record { own = are; sound = given.all.sound; limit = given.limit; inside = inside }

@@ -12,7 +12,7 @@ use Rattle.store_text.specs.Files.{HasStore, store_in}
 use Rattle.store_text.specs.declared.fault.BadStore.TheVariants.{At}
 use Rattle.store_text.specs.laws.FileLaws.{store_is_read}
 use Rattle.store_text.specs.laws.ReadLaws.{read_limit}
-use Rattle.store_packets.specs.declared.packets.StorePackets.{StorePackets}
+use Rattle.store_groups.specs.declared.groups.GroupPackets.{GroupPackets}
 use Rattle.store_groups.specs.Groups.{ArePackets}
 use Rattle.store_merge.specs.laws.StoreFiles.{store_of_file}
 use Rattle.command_video.specs.Videos.{Videos}
@@ -46,7 +46,7 @@ module _ (store out slice bytes : List ℕ) (old read : Seen) (lent : slice ≡ 
   )
 
 -- what stands there is a store as a file has it
-pub are_stored : (packets : StorePackets) (set : KeptSet) (slice : List ℕ) → store_in slice ≡ Ok set
+pub are_stored : (packets : GroupPackets) (set : KeptSet) (slice : List ℕ) → store_in slice ≡ Ok set
     → ArePackets packets set → AreStored packets set
 are_stored packets set slice is are =
     record { all = are; limit = read_limit MAX_SESSION slice set (store_is_read slice set is) }

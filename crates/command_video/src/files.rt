@@ -27,8 +27,7 @@ use pet_receive::Receiver;
 use reassemble::{Assemble, assemble};
 use std::alloc::Global;
 use std::sync::ledger::Ledger;
-use store_groups::{groups_of, packets_of_file, receive_packets, split_group};
-use store_packets::StorePackets;
+use store_groups::{GroupPackets, groups_of, read_groups, receive_packets, split_group};
 use store_text::BadStore;
 
 impl From<NoMemory> for VideoEnd {
@@ -87,11 +86,11 @@ fn read_bytes<P: Place>(alloc: Global, store: &str, place: &mut P) -> Result<Vec
 }
 
 /// The packets of the store that these bytes of the file are, or how the command ends.
-fn packets_of(bytes: &[u8]) -> Result<StorePackets<'_>, VideoEnd>
+fn packets_of(bytes: &[u8]) -> Result<GroupPackets<'_>, VideoEnd>
     ensures packets { IfOk result (λ packets. (set : KeptSet) × (store_in bytes.now ≡ Ok set) × ArePackets packets set) }
     ensures end { IfErr result (IsStoreEnd bytes.now) }
 {
-    match packets_of_file(bytes) {
+    match read_groups(bytes) {
         Ok(packets) => Ok(packets),
         Err(BadStore::At(at, kind)) => Err(VideoEnd::BadStore(at, kind)),
         Err(BadStore::NoMemory) => Err(VideoEnd::NoMemory),
@@ -103,7 +102,7 @@ fn packets_of(bytes: &[u8]) -> Result<StorePackets<'_>, VideoEnd>
 fn put_groups<P: Place, L: Ledger>(
     alloc: Global,
     field: &Gf16Tables,
-    packets: &StorePackets<'_>,
+    packets: &GroupPackets<'_>,
     place: &mut P,
     steps: &mut Steps<L>,
 ) -> Result<u64, VideoEnd>
@@ -118,7 +117,7 @@ fn put_groups<P: Place, L: Ledger>(
 {
     let mut video = Vec::new(alloc);
     let mut bytes = 0u64;
-    let mut rest = StorePackets {
+    let mut rest = GroupPackets {
         session: packets.session,
         count: packets.count,
         entries: packets.entries,
@@ -137,7 +136,7 @@ fn put_groups<P: Place, L: Ledger>(
 fn put_group_video<P: Place, L: Ledger>(
     alloc: Global,
     field: &Gf16Tables,
-    packets: &StorePackets<'_>,
+    packets: &GroupPackets<'_>,
     group: u32,
     video: &mut Vec<u8>,
     place: &mut P,
@@ -162,7 +161,7 @@ fn put_group_video<P: Place, L: Ledger>(
 fn make_video<L: Ledger>(
     alloc: Global,
     field: &Gf16Tables,
-    packets: &StorePackets<'_>,
+    packets: &GroupPackets<'_>,
     group: u32,
     video: &mut Vec<u8>,
     steps: &mut Steps<L>,

@@ -1,2 +1,2 @@
 mod GroupEntries
-mod GroupPackets
+mod KeptPackets

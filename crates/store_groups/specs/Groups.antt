@@ -7,7 +7,7 @@ use Rattle.packet_verdicts.specs.KeptSet.{KeptSet, IsKeptSet, open_group}
 use Rattle.packet_verdicts.specs.Union.{frames_in}
 use Rattle.packet_verdicts.specs.laws.FramesLaws.{frames_of}
 use Rattle.pet_receive.specs.ShownBytes.{groups_told}
-use Rattle.store_packets.specs.declared.packets.StorePackets.{StorePackets}
+use Rattle.store_groups.specs.declared.groups.GroupPackets.{GroupPackets}
 use Rattle.store_text.specs.Store.{entries_in}
 use Rattle.store_text.specs.declared.format.TheConstants.{STORE_FORM}
 
@@ -20,16 +20,16 @@ abbrev pub frames_above : KeptSet → ℕ → List Fields
 frames_above set group = flat_map (frames_of set) (range_with_len group (groups_told set - group))
 
 -- The packets are these frames of a kept set, in this order.
-pub record HasFrames (packets : StorePackets) (set : KeptSet) (frames : List Fields) : Type 0 where
+pub record HasFrames (packets : GroupPackets) (set : KeptSet) (frames : List Fields) : Type 0 where
   pub sound : IsKeptSet set
   pub of_session : packets.session ≡ set.session
   pub number : packets.count ≡ length frames
   pub text : packets.entries.now ≡ entries_in STORE_FORM frames
 
 -- they are all frames of the set
-abbrev pub ArePackets : StorePackets → KeptSet → Type 0
+abbrev pub ArePackets : GroupPackets → KeptSet → Type 0
 ArePackets packets set = HasFrames packets set (frames_in set)
 
 -- they are those of a group of the set and of the groups above it
-abbrev pub AreAbove : StorePackets → KeptSet → ℕ → Type 0
+abbrev pub AreAbove : GroupPackets → KeptSet → ℕ → Type 0
 AreAbove packets set group = HasFrames packets set (frames_above set group)

@@ -15,32 +15,45 @@ ghost use Rattle.store_groups.specs.inside.Groups.{IsCut, groups_in};
 
 use field_rows::Rows;
 use packet_verdicts::group_of;
-use pet_base::{MAX_SESSION, MAX_STORE, NoMemory, Steps};
+use pet_base::{NoMemory, Steps};
 use pet_receive::Receiver;
 use std::alloc::Global;
 use std::sync::ledger::Ledger;
-use store_merge::{next_entry, take_entries};
-use store_packets::{StorePackets, read_packets};
-use store_text::{BadStore, STORE_FORM, StoreKind};
+use store_merge::take_entries;
+use store_packets::{next_entry, packets_of_file};
+use store_text::BadStore;
 
 /// Where the number of a session's groups stands in a frame.
 const GROUPS: usize = 12;
 
-/// The packets of the store that these bytes of a file are, of which at most one past the limit are given, or the first
-/// refusal. It takes no memory.
-pub fn packets_of_file(bytes: &[u8]) -> Result<StorePackets<'_>, BadStore>
+/// The packets of some groups of a store, which lend its bytes.
+#[derive(Drop)]
+pub struct GroupPackets<'a> {
+    /// The number of their session.
+    pub session: [u8; 8],
+    /// How many packets there are.
+    pub count: u32,
+    /// Their entries, on end, by group, then number.
+    pub entries: &'a [u8],
+}
+
+/// The packets of all groups of the store that these bytes of a file are, of which at most one past the limit are given, or
+/// the first refusal. It takes no memory.
+pub fn read_groups(bytes: &[u8]) -> Result<GroupPackets<'_>, BadStore>
     ensures packets { IfOk result (λ packets. (set : KeptSet) × (store_in bytes.now ≡ Ok set)
         × ArePackets packets set) }
     ensures refused { IfErr result (λ fault. store_in bytes.now ≡ Err fault) }
 {
-    if bytes.len() as u64 > MAX_STORE {
-        return Err(BadStore::At(MAX_STORE, StoreKind::Cut));
-    }
-    read_packets(&STORE_FORM, bytes, MAX_SESSION)
+    let packets = packets_of_file(bytes)?;
+    Ok(GroupPackets {
+        session: packets.session,
+        count: packets.count,
+        entries: packets.entries,
+    })
 }
 
 /// How many groups the session of these packets has, as the first of them tells, and 0 where there are none.
-pub fn groups_of(packets: &StorePackets<'_>) -> u32
+pub fn groups_of(packets: &GroupPackets<'_>) -> u32
     requires packets { (set : KeptSet) × ArePackets packets.now set }
     ensures told { (set : KeptSet) → ArePackets packets.now set → result ≡ groups_told set }
 {
@@ -65,9 +78,9 @@ fn told_in(datagram: &[u8]) -> u32
 
 /// The packets of a group, and those of the groups above it, where none of these packets is of a group below it.
 pub fn split_group<'a>(
-    packets: &StorePackets<'a>,
+    packets: &GroupPackets<'a>,
     group: u32,
-) -> (StorePackets<'a>, StorePackets<'a>)
+) -> (GroupPackets<'a>, GroupPackets<'a>)
     requires packets { (set : KeptSet) × AreAbove packets.now set group × (group < groups_told set) }
     ensures group { (set : KeptSet) → AreAbove packets.now set group → group < groups_told set
         → ArePackets result.0 (only_group set group) }
@@ -79,12 +92,12 @@ pub fn split_group<'a>(
         .entries
         .split_at(packets.entries.len() - above.len());
     (
-        StorePackets {
+        GroupPackets {
             session: packets.session,
             count,
             entries: own,
         },
-        StorePackets {
+        GroupPackets {
             session: packets.session,
             count: packets.count - count,
             entries: above,
@@ -116,7 +129,7 @@ fn skip_group(count: u32, entries: &[u8], group: u32) -> (u32, &[u8])
 pub fn receive_packets<'f, F: Rows, L: Ledger>(
     alloc: Global,
     f: &'f F,
-    packets: &StorePackets<'_>,
+    packets: &GroupPackets<'_>,
     limit: u64,
     steps: &mut Steps<L>,
 ) -> Result<Receiver<'f, F>, NoMemory>

@@ -9,7 +9,7 @@
 //! two texts come to, or why there is no store of both. `specs/laws/` says for callers that the merged stores do not tell in
 //! which order, how often or which two first they were merged. `migrate_store`, which takes a store of the first version over,
 //! is that of `store_packets`, given out here.
-//! `next_entry` and `take_entries` are the steps of the reading, for what reads a part of a store (`store_groups`).
+//! `take_entries` is the step of the reading, for what reads a part of a store (`store_groups`).
 #![tactic(auto)]
 
 mod fault;
@@ -22,7 +22,7 @@ mod write_files;
 
 pub use fault::MergeFault;
 pub use merge::merge_stores;
-pub use read::{next_entry, read_store, take_entries};
+pub use read::{read_store, take_entries};
 pub use read_files::{StoreStop, read_store_file};
 pub use store_packets::{MigrateFault, migrate_store};
 pub use store_text::{BadStore, StoreKind};

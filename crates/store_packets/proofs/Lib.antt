@@ -1,4 +1,5 @@
 pub mod Costs
+pub mod FilePackets
 pub mod Kept
 pub mod Listed
 pub mod Migrating

@@ -1,16 +1,20 @@
 -- What a store of the first version that was read comes to.
 use Rattle.std.specs.Prelude.{if◌then◌else◌, is_some}
-use Rattle.std.proofs.Common.{◌≡◌, ◌≢◌, ℕ, ◌+◌, ◌-◌, ◌≤◌, zero, suc, Bool, true, false, ◌&&◌, nat_lt, List, [], ◌∷◌}
+use Rattle.std.proofs.Common.{◌≡◌, ◌≢◌, ℕ, ◌+◌, ◌-◌, ◌<◌, ◌≤◌, All, zero, suc, Bool, true, false, ◌&&◌, nat_lt, List}
+use Rattle.std.proofs.Common.{[], ◌∷◌}
 use Rattle.std.proofs.Common.{◌++◌, length, take, drop, map, Option, None, Some, option_map, Result, Ok, Err, refl, sym}
 use Rattle.std.proofs.Common.{ap, subst, ◌∙◌, arith, inl, inr, append-nil, append_assoc}
+use Rattle.std.specs.Int.{w16}
 use Rattle.std.specs.Str.{bytes_eq}
+use Rattle.std.proofs.lemmas.List.Elements.{All-take, All-drop}
+use Rattle.pet_base.specs.Entries.{entry_text}
 use Rattle.std.proofs.lemmas.Bool.{cases_Bool, cases_lt, le-ltb, lt-ltb}
 use Rattle.pet_base.specs.declared.limits.TheConstants.{MAX_DATAGRAM}
 use Rattle.stripe_plan.specs.Sizes.{Sizes, cost_of, datagram_length_of}
-use Rattle.packet_frame.specs.Frame.{Fields, IsFrame, IsFrameIn}
-use Rattle.packet_frame.specs.Refusals.{fields_in, first_fault_in}
+use Rattle.packet_frame.specs.Frame.{Fields, IsFrame, IsFrameIn, text_in}
+use Rattle.packet_frame.specs.Refusals.{number, fields_in, first_fault_in}
 use Rattle.packet_frame.specs.declared.fault.FrameFault.{FrameFault}
-use Rattle.packet_frame.specs.laws.Laws.{reads_frames_in}
+use Rattle.packet_frame.specs.laws.Laws.{reads_frames_in, reads_texts_in}
 use Rattle.packet_set.specs.Packets.{Packets}
 use Rattle.packet_verdicts.specs.KeptSet.{KeptSet, empty_set, header_of, cost_kept, keep}
 use Rattle.store_text.specs.declared.format.StoreForm.{StoreForm}
@@ -23,13 +27,13 @@ use Rattle.store_text.specs.Form.{IsStoreForm}
 use Rattle.store_text.specs.Refusals.{Last, is_whole, datagram_in, entry_length, then_next, cost_of_frame}
 use Rattle.store_text.specs.Refusals.{frame_fault_in, read_entries_in, read_text_in, read_text, session_of, many_of}
 use Rattle.store_text.specs.Refusals.{entries_of}
-use Rattle.store_text.specs.laws.EntryReading.{read_whole, read_cut}
+use Rattle.store_text.specs.laws.EntryReading.{read_whole, read_cut, whole_is}
 use Rattle.store_text.specs.laws.FormLaws.{store_form_is, old_store_form_is}
 use Rattle.store_text.specs.laws.Leading.{Leads, pair_of}
 use Rattle.store_text.specs.laws.LedKeptSets.{HasGrownBy, leads_make}
 use Rattle.store_text.specs.laws.ReadLaws.{reads_on, read_from}
 use Rattle.store_text.specs.laws.WrittenLaws.{written_is_read}
-use Rattle.store_text.specs.Store.{store_of, store_text}
+use Rattle.store_text.specs.Store.{entries_in, store_of, store_text}
 use Rattle.packet_verdicts.specs.Union.{frames_in}
 use Rattle.store_packets.proofs.Listed.{frames_many}
 use Rattle.store_packets.specs.declared.fault.MigrateFault.{MigrateFault}
@@ -53,12 +57,13 @@ passes_both : (o : Option FrameFault) (k : StoreKind) (rest : Option StoreKind)
 passes_both None k rest e = (refl, e)
 passes_both (Some fault) k rest e = absurd (cc)
 
-same_sets : (a b : KeptSet) → ◌≡◌ {A = Result KeptSet BadStore} (Ok a) (Ok b) → a ≡ b
+pub same_sets : (a b : KeptSet) → ◌≡◌ {A = Result KeptSet BadStore} (Ok a) (Ok b) → a ≡ b
 same_sets a b e = cc
 
 module _ (t : StoreForm) (form : IsStoreForm t) where
   pub record ReadThere (many : ℕ) (set : KeptSet) (last : Last) (bytes : List ℕ) (target : KeptSet) : Type 0 where
     pub listed : AreListed t many bytes
+    pub spelled : All (λ byte. byte < 256) bytes → bytes ≡ entries_in t (frames_at t many bytes)
     pub leads : Leads t set last (frames_at t many bytes) target
 
   whole_first : (many at : ℕ) (set : KeptSet) (last : Last) (bytes : List ℕ) (target : KeptSet)
@@ -73,7 +78,8 @@ module _ (t : StoreForm) (form : IsStoreForm t) where
   pub read_there : (many at : ℕ) (set : KeptSet) (last : Last) (bytes : List ℕ) (target : KeptSet)
       → read_entries_in t many at set last bytes ≡ Ok target → ReadThere many set last bytes target
   unfolding read_entries_in AreListed frames_at frame_of
-  read_there zero at set last [] target e = record { listed = tt; leads = same_sets set target e }
+  read_there zero at set last [] target e =
+      record { listed = tt; spelled = λ fits. refl; leads = same_sets set target e }
   read_there zero at set last (byte ∷ rest) target e = absurd (cc)
   read_there (suc many) at set last bytes target e =
       let whole = whole_first many at set last bytes target e in
@@ -83,7 +89,20 @@ module _ (t : StoreForm) (form : IsStoreForm t) where
       (frame_fault_in t set last f) on.0 in
       let later = read_there many (at + entry_length bytes) (keep set f) (Some (pair_of f))
       (drop (entry_length bytes) bytes) target on.1 in
-      record { listed = (whole, both.0, later.listed); leads = (reads_frames_in t.frames form.frames (datagram_in bytes) both.0, both.1, later.leads) }
+      record {
+        listed = (whole, both.0, later.listed);
+        spelled =
+            λ fits.
+            let small : All (λ byte. byte < 256) (datagram_in bytes) =
+            All-take (λ byte. byte < 256) (number w16 0 bytes) (drop 2 bytes)
+            (All-drop (λ byte. byte < 256) 2 bytes fits) in
+            whole_is bytes fits whole
+            ∙ ap (λ b. entry_text b ++ drop (entry_length bytes) bytes)
+            (reads_texts_in t.frames form.frames (datagram_in bytes) small both.0)
+            ∙ ap (λ b. entry_text (text_in t.frames f) ++ b)
+            (later.spelled (All-drop (λ byte. byte < 256) (entry_length bytes) bytes fits));
+        leads = (reads_frames_in t.frames form.frames (datagram_in bytes) both.0, both.1, later.leads);
+      }
 
 -- ---- the tables of the groups as they come are those of the set
 

@@ -57,7 +57,7 @@ pub(crate) fn check_today(count: u32, entries: &[u8], limit: u64) -> Result<(), 
 }
 
 /// The datagram of the entry at the front, which is all there, and what stands behind the entry.
-pub(crate) fn first_entry(bytes: &[u8]) -> (&[u8], &[u8])
+pub fn first_entry(bytes: &[u8]) -> (&[u8], &[u8])
     requires whole { is_whole bytes.now ≡ true }
     ensures datagram { result.0.now ≡ datagram_in bytes.now }
     ensures after { result.1.now ≡ drop (entry_length bytes.now) bytes.now }

@@ -13,5 +13,7 @@ mod packets;
 mod renew;
 
 pub use fault::MigrateFault;
+pub use fits::first_entry;
 pub use migrate::migrate_store;
-pub use packets::{StorePackets, read_packets};
+pub use next::next_entry;
+pub use packets::{StorePackets, packets_of_file, read_packets};

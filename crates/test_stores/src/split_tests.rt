@@ -10,7 +10,7 @@ use std::alloc::Global;
 use std::marker::Brand;
 use std::sync::ledger::{Blank, Ledger};
 use std::test::Fail;
-use store_groups::{groups_of, packets_of_file, receive_packets, split_group};
+use store_groups::{groups_of, read_groups, receive_packets, split_group};
 
 /// Which of the packets 0 to 3 of two groups the receiver has kept.
 type Kept = [[bool; 4]; 2];
@@ -43,7 +43,7 @@ fn kept_each<L: Ledger>(alloc: Global, bytes: &[u8], blank: Blank) -> Result<[Ke
 {
     let mut steps = Steps::<L>::new(blank);
     let field = Gf16Plain;
-    let packets = packets_of_file(bytes)?;
+    let packets = read_groups(bytes)?;
     if groups_of(&packets) != 2 {
         return Ok([[[false; 4]; 2]; 2]);
     }

@@ -25,7 +25,7 @@ use Rattle.packet_verdicts.specs.laws.FramesLaws.{frames_of, frames_told, frames
 use Rattle.packet_verdicts.specs.laws.ToldLaws.{open_tells}
 use Rattle.pet_receive.specs.Arrivals.{numbers_of}
 use Rattle.pet_receive.specs.ShownBytes.{groups_told}
-use Rattle.store_packets.specs.declared.packets.StorePackets.{StorePackets}
+use Rattle.store_groups.specs.declared.groups.GroupPackets.{GroupPackets}
 use Rattle.store_groups.specs.Groups.{HasFrames, ArePackets, AreAbove, only_group, frames_above}
 use Rattle.store_merge.specs.Reading.{pairs_in}
 
@@ -90,7 +90,7 @@ module _ (set : KeptSet) (sound : IsKeptSet set) where
           ap (λ (k : ℕ). flat_map (frames_of set) (range_with_len 0 k)) all ∙ sym (frames_told set sound n told)
 
 -- So packets that are all of the set are those of its groups from the first on.
-pub all_above : (packets : StorePackets) (set : KeptSet) → ArePackets packets set → AreAbove packets set 0
+pub all_above : (packets : GroupPackets) (set : KeptSet) → ArePackets packets set → AreAbove packets set 0
 all_above packets set are =
     subst (λ (fs : List Fields). HasFrames packets set fs) (sym (above_all set are.sound)) are
 

@@ -1,5 +1,5 @@
 use Rattle.std.proofs.Common.{sym, ◌∙◌}
-use Rattle.store_groups.proofs.GroupPackets.{first_tells, none_tell}
+use Rattle.store_groups.proofs.KeptPackets.{first_tells, none_tell}
 use Rattle.store_groups.proofs.groups.groups_of.Goals as goal
 
 pub told_in-requires : goal.told_in-requires

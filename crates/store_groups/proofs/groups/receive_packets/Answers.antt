@@ -1,4 +1,4 @@
-use Rattle.store_groups.proofs.GroupPackets.{read_is, only_memory}
+use Rattle.store_groups.proofs.KeptPackets.{read_is, only_memory}
 use Rattle.store_groups.proofs.groups.receive_packets.Goals as goal
 use Rattle.pet_receive.specs.Arrivals.{kept_set}
 

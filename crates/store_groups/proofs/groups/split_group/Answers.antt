@@ -4,7 +4,7 @@ use Rattle.store_text.specs.Store.{entries_in}
 use Rattle.store_text.specs.declared.format.TheConstants.{STORE_FORM}
 use Rattle.store_groups.specs.Groups.{frames_above}
 use Rattle.store_groups.specs.laws.GroupLaws.{only_sound, only_frames}
-use Rattle.store_groups.proofs.GroupPackets.{cut_of, front_text, short_rest, many_rest}
+use Rattle.store_groups.proofs.KeptPackets.{cut_of, front_text, short_rest, many_rest}
 use Rattle.store_groups.proofs.groups.split_group.Goals as goal
 
 pub skip_group-count-requires : goal.skip_group-count-requires

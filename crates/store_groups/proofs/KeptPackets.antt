@@ -1,11 +1,11 @@
 -- The packets of a store as those of a kept set: what is read of them, those of a file, and those of one group.
-use Rattle.std.specs.Prelude.{IfOk, option_map, slice_get, unwrap_or}
-use Rattle.std.proofs.Common.{◌≡◌, ◌≢◌, ℕ, ◌+◌, ◌<◌, ◌≤◌, List, [], ◌∷◌, ◌++◌, length, All, None, Result, Ok}
+use Rattle.std.specs.Prelude.{option_map, slice_get, unwrap_or}
+use Rattle.std.proofs.Common.{◌≡◌, ◌≢◌, ℕ, ◌+◌, ◌<◌, ◌≤◌, List, [], ◌∷◌, ◌++◌, length, All, None, Ok}
 use Rattle.std.proofs.Common.{flat_map, take, true, false, Err, refl, sym, ap, subst, ◌∙◌, arith}
 use Rattle.std.proofs.lemmas.List.{length-append, take_at}
 use Rattle.std.proofs.lemmas.List.Elements.{All-head}
 use Rattle.std.proofs.lemmas.List.Concat.{flat_map-append}
-use Rattle.pet_base.specs.declared.limits.TheConstants.{MAX_SESSION, MAX_STORE}
+use Rattle.pet_base.specs.declared.limits.TheConstants.{MAX_SESSION}
 use Rattle.pet_base.specs.Entries.{entry_text}
 use Rattle.packet_frame.specs.Frame.{Fields, IsFrame, text}
 use Rattle.packet_frame.specs.Refusals.{first_fault}
@@ -14,7 +14,7 @@ use Rattle.packet_verdicts.specs.KeptSet.{KeptSet, IsKeptSet, IsKeptGroup, empty
 use Rattle.packet_verdicts.specs.Union.{frames_in, frames_in_group}
 use Rattle.packet_verdicts.specs.laws.FramesLaws.{frames_of, frames_are}
 use Rattle.pet_receive.specs.ShownBytes.{groups_told}
-use Rattle.store_packets.specs.declared.packets.StorePackets.{StorePackets}
+use Rattle.store_groups.specs.declared.groups.GroupPackets.{GroupPackets}
 use Rattle.store_text.specs.Files.{store_in}
 use Rattle.store_text.specs.Refusals.{read_text, read_entries, session_of, many_of, entries_of}
 use Rattle.store_text.specs.Refusals.{is_whole, datagram_in}
@@ -22,7 +22,7 @@ use Rattle.store_text.specs.Store.{entries_in}
 use Rattle.store_text.specs.declared.fault.BadStore.{BadStore}
 use Rattle.store_text.specs.declared.fault.BadStore.TheVariants.{At, NoMemory}
 use Rattle.store_text.specs.declared.format.TheConstants.{STORE_FORM, HEAD_LENGTH}
-use Rattle.store_text.specs.laws.FileLaws.{store_within}
+use Rattle.store_text.specs.laws.FileLaws.{store_is_read}
 use Rattle.store_text.specs.laws.FormLaws.{store_form_is}
 use Rattle.store_text.specs.laws.InOrder.{in_order}
 use Rattle.store_text.specs.laws.Leading.{leads_read}
@@ -45,7 +45,7 @@ read_at set sound =
     (in_order STORE_FORM store_form_is (λ f is. is) set sound set.limit sound.within)
 
 -- it is the set
-packets_read : (packets : StorePackets) (set : KeptSet) (limit : ℕ) → ArePackets packets set → set.limit ≡ limit
+packets_read : (packets : GroupPackets) (set : KeptSet) (limit : ℕ) → ArePackets packets set → set.limit ≡ limit
     → read_entries packets.count HEAD_LENGTH (empty_set packets.session limit) None packets.entries.now ≡ Ok set
 packets_read packets set limit are most =
     ap (λ (n : ℕ). read_entries n HEAD_LENGTH (empty_set packets.session limit) None packets.entries.now) are.number
@@ -56,7 +56,7 @@ packets_read packets set limit are most =
     ∙ ap (read_entries (length (frames_in set)) HEAD_LENGTH (empty_set set.session set.limit) None) are.text
     ∙ read_at set are.sound
 
-pub read_is : (packets : StorePackets) (set read first : KeptSet) (limit : ℕ) → ArePackets packets set
+pub read_is : (packets : GroupPackets) (set read first : KeptSet) (limit : ℕ) → ArePackets packets set
     → set.limit ≡ limit → first ≡ empty_set packets.session limit
     → read_entries packets.count HEAD_LENGTH first None packets.entries.now ≡ Ok read → read ≡ set
 read_is packets set read first limit are most empty e =
@@ -65,7 +65,7 @@ read_is packets set read first limit are most empty e =
     ∙ packets_read packets set limit are most)
 
 -- and nothing is refused
-pub only_memory : (packets : StorePackets) (set first : KeptSet) (limit : ℕ) (fault : BadStore) → ArePackets packets set
+pub only_memory : (packets : GroupPackets) (set first : KeptSet) (limit : ℕ) (fault : BadStore) → ArePackets packets set
     → set.limit ≡ limit → first ≡ empty_set packets.session limit
     → (fault ≢ NoMemory → read_entries packets.count HEAD_LENGTH first None packets.entries.now ≡ Err fault)
     → fault ≡ NoMemory
@@ -79,7 +79,7 @@ only_memory packets set first limit (At at kind) are most empty refused =
 
 -- ---- the packets of a file
 
-are_read : (bytes : List ℕ) (packets : StorePackets) (set : KeptSet) → All (λ byte. byte < 256) bytes
+are_read : (bytes : List ℕ) (packets : GroupPackets) (set : KeptSet) → All (λ byte. byte < 256) bytes
     → read_text MAX_SESSION bytes ≡ Ok set → packets.session ≡ session_of bytes → packets.count ≡ many_of bytes
     → packets.entries.now ≡ entries_of STORE_FORM bytes → ArePackets packets set
 are_read bytes packets set fits read session count entries =
@@ -92,18 +92,11 @@ are_read bytes packets set fits read session count entries =
       text = entries ∙ from.entries fits ∙ sym (ap (entries_in STORE_FORM) grown.frames);
     }
 
-pub file_packets : (bytes : List ℕ) (result : Result StorePackets BadStore) → length bytes ≤ MAX_STORE
-    → All (λ byte. byte < 256) bytes → IfOk result (λ _. (set : KeptSet) × (read_text MAX_SESSION bytes ≡ Ok set))
-    → IfOk result (λ packets. packets.session ≡ session_of bytes)
-    → IfOk result (λ packets. packets.count ≡ many_of bytes)
-    → IfOk result (λ packets. packets.entries.now ≡ entries_of STORE_FORM bytes)
-    → IfOk result (λ packets. (set : KeptSet) × (store_in bytes ≡ Ok set) × ArePackets packets set)
-file_packets bytes (Ok packets) short fits read session count entries = (
-  read.0,
-  store_within bytes short ∙ read.1,
-  are_read bytes packets read.0 fits read.1 session count entries,
-)
-file_packets bytes (Err fault) short fits read session count entries = tt
+pub of_file : (bytes : List ℕ) (packets : GroupPackets) (set : KeptSet) → All (λ byte. byte < 256) bytes
+    → store_in bytes ≡ Ok set → packets.session ≡ session_of bytes → packets.count ≡ many_of bytes
+    → packets.entries.now ≡ entries_of STORE_FORM bytes → ArePackets packets set
+of_file bytes packets set fits is session count entries =
+    are_read bytes packets set fits (store_is_read bytes set is) session count entries
 
 -- ---- the number of groups
 
@@ -125,7 +118,7 @@ none_told set sound none = by set.groups (each_kept set sound) none
           length-append (frames_in_group e.1) (flat_map (λ (d : ℕ × Packets). frames_in_group d.1) es),
         ))
 
-first_by : (packets : StorePackets) (set : KeptSet) (datagram : List ℕ) → ArePackets packets set
+first_by : (packets : GroupPackets) (set : KeptSet) (datagram : List ℕ) → ArePackets packets set
     → is_whole packets.entries.now ≡ true → datagram ≡ datagram_in packets.entries.now → (fs : List Fields)
     → frames_in set ≡ fs → (first_fault datagram ≡ None) × (groups_in datagram ≡ groups_told set)
 first_by packets set datagram are whole is [] all =
@@ -143,12 +136,12 @@ first_by packets set datagram are whole is (f ∷ more) all =
     )
 
 -- the first frame tells it
-pub first_tells : (packets : StorePackets) (set : KeptSet) (datagram : List ℕ) → ArePackets packets set
+pub first_tells : (packets : GroupPackets) (set : KeptSet) (datagram : List ℕ) → ArePackets packets set
     → is_whole packets.entries.now ≡ true → datagram ≡ datagram_in packets.entries.now
     → (first_fault datagram ≡ None) × (groups_in datagram ≡ groups_told set)
 first_tells packets set datagram are whole is = first_by packets set datagram are whole is (frames_in set) refl
 
-cut_by : (packets : StorePackets) (set : KeptSet) → ArePackets packets set → is_whole packets.entries.now ≡ false
+cut_by : (packets : GroupPackets) (set : KeptSet) → ArePackets packets set → is_whole packets.entries.now ≡ false
     → (fs : List Fields) → frames_in set ≡ fs → groups_told set ≡ 0
 cut_by packets set are cut [] all = none_told set are.sound all
 cut_by packets set are cut (f ∷ more) all =
@@ -159,13 +152,13 @@ cut_by packets set are cut (f ∷ more) all =
     absurd (cc)
 
 -- and where no entry stands there, there are none
-pub none_tell : (packets : StorePackets) (set : KeptSet) → ArePackets packets set
+pub none_tell : (packets : GroupPackets) (set : KeptSet) → ArePackets packets set
     → is_whole packets.entries.now ≡ false → groups_told set ≡ 0
 none_tell packets set are cut = cut_by packets set are cut (frames_in set) refl
 
 -- ---- those of a group, and those of the groups above it
 
-pub cut_of : (packets : StorePackets) (set : KeptSet) (group : ℕ) → AreAbove packets set group
+pub cut_of : (packets : GroupPackets) (set : KeptSet) (group : ℕ) → AreAbove packets set group
     → group < groups_told set
     → IsCut group packets.count packets.entries.now (frames_of set group) (frames_above set (group + 1))
 cut_of packets set group are inside =
@@ -195,7 +188,7 @@ front_text own other entries at is long =
       length-append (entries_in STORE_FORM own) (entries_in STORE_FORM other),
     ))
 
-module _ (packets : StorePackets) (set : KeptSet) (group : ℕ) (are : AreAbove packets set group)
+module _ (packets : GroupPackets) (set : KeptSet) (group : ℕ) (are : AreAbove packets set group)
     (inside : group < groups_told set) where
   -- where these are the others behind those of the group
   pub short_rest : (other : List ℕ) → other ≡ entries_in STORE_FORM (frames_above set (group + 1))

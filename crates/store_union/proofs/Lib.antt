@@ -1,0 +1,10 @@
+pub mod FrameBytes
+pub mod Joining
+pub mod KeptFrames
+pub mod Meeting
+pub mod Merged
+pub mod Neighbours
+pub mod Order
+pub mod Passing
+pub mod Putting
+pub mod Uniting
