@@ -1,7 +1,7 @@
 -- One row more to which a multiple of a row was added.
 use borrow.Rule.Slice.PartMut.{put_mid}
 use Rattle.std.proofs.Common.{◌≡◌, ℕ, inl, inr, ◌+◌, ◌-◌, ◌*◌, ◌<◌, ◌≤◌, List, length, get_or, take, drop, ap, ap₂, sym}
-use Rattle.std.proofs.Common.{◌∙◌, arith}
+use Rattle.std.proofs.Common.{All, refl, ◌∙◌, arith}
 use Rattle.std.proofs.lemmas.Bool.{cases_lt}
 use Rattle.std.proofs.lemmas.List.{get_or-take, get_or-drop, length-take-le, length-drop}
 use Rattle.field_elements.specs.Field.{Operations}
@@ -43,6 +43,14 @@ module _ {E : Type 0} (o : Operations E) (at : ℕ) (row rows new : List E) (by 
   pub added_behind : (i : ℕ) → at + length row ≤ i → get_or (put_mid at k rows new) i z ≡ get_or rows i z
   added_behind i l = part_behind z at k rows new (part_room at row rows room) long i (omega arith)
 
+-- ---- numbers
+
+pub next_room : (j k at w now old : ℕ) → j < k → at ≡ j * w → k * w ≤ old → now ≡ old → at + w ≤ now
+next_room j k at w now old l place room long = omega (arith, rows_le (j + 1) k w (omega arith), more_rows j w)
+
+pub next_cost : (j w old now new : ℕ) → now ≡ old + j * w → new ≡ now + w → new ≡ old + (j + 1) * w
+next_cost j w old now new before more = omega (arith, more_rows j w)
+
 -- ---- row j, from `at` on, of rows that were `old` at first; `factor` is that of each row
 
 module _ {E : Type 0} (o : Operations E) (j at : ℕ) (row rows old new : List E) (by : E) (factor : ℕ → E)
@@ -76,10 +84,42 @@ module _ {E : Type 0} (o : Operations E) (j at : ℕ) (row rows old new : List E
   pub rest_more : (i : ℕ) → (j + 1) * w ≤ i → get_or new i y ≡ get_or old i y
   rest_more i l = behind i (omega (arith, place, more_rows j w)) ∙ rest i (omega (arith, more_rows j w))
 
--- ---- numbers
+-- The first j rows have the multiples of `row`, and the others are as they were; it took so many steps.
+pub record HasAdded {E : Type 0} (P : E → Type 0) (o : Operations E) (j at : ℕ) (row old now : List E) (factor : ℕ → E)
+    (begun steps : ℕ) : Type 0 where
+  pub place : at ≡ j * length row
+  pub long : length now ≡ length old
+  pub elements : All P now
+  pub sums : (i c : ℕ) → i < j → c < length row → get_or now (i * length row + c) o.nought
+      ≡ o.plus (get_or old (i * length row + c) o.nought) (o.times (factor i) (get_or row c o.nought))
+  pub rest : (i : ℕ) → j * length row ≤ i → get_or now i o.nought ≡ get_or old i o.nought
+  pub cost : steps ≡ begun + j * length row
 
-pub next_room : (j k at w now old : ℕ) → j < k → at ≡ j * w → k * w ≤ old → now ≡ old → at + w ≤ now
-next_room j k at w now old l place room long = omega (arith, rows_le (j + 1) k w (omega arith), more_rows j w)
+pub none_added : {E : Type 0} (P : E → Type 0) (o : Operations E) (row old : List E) (factor : ℕ → E) (steps : ℕ)
+    → All P old → HasAdded P o 0 0 row old old factor steps steps
+none_added P o row old factor steps elements = record {
+  place = omega arith;
+  long = refl;
+  elements = elements;
+  sums = λ i c l. absurd (omega arith);
+  rest = λ i l. refl;
+  cost = omega arith;
+}
 
-pub next_cost : (j w old now new : ℕ) → now ≡ old + j * w → new ≡ now + w → new ≡ old + (j + 1) * w
-next_cost j w old now new before more = omega (arith, more_rows j w)
+pub row_added : {E : Type 0} (P : E → Type 0) (o : Operations E) (j at : ℕ) (row old rows new : List E) (by : E)
+    (factor : ℕ → E) (begun steps later : ℕ) → HasAdded P o j at row old rows factor begun steps
+    → length new ≡ length rows → All P new
+    → ((c : ℕ) → c < length row
+    → get_or new (at + c) o.nought ≡ o.plus (get_or rows (at + c) o.nought) (o.times by (get_or row c o.nought)))
+    → ((i : ℕ) → i < at → get_or new i o.nought ≡ get_or rows i o.nought)
+    → ((i : ℕ) → at + length row ≤ i → get_or new i o.nought ≡ get_or rows i o.nought) → by ≡ factor j
+    → later ≡ steps + length row → HasAdded P o (j + 1) (at + length row) row old new factor begun later
+row_added P o j at row old rows new by factor begun steps later has same elements inside before behind by_is cost =
+    record {
+      place = ap (λ n. n + length row) has.place ∙ sym (more_rows j (length row));
+      long = same ∙ has.long;
+      elements = elements;
+      sums = sums_more o j at row rows old new by factor has.place inside before behind by_is has.rest has.sums;
+      rest = rest_more o j at row rows old new by factor has.place inside before behind by_is has.rest;
+      cost = next_cost j (length row) begun steps later has.cost cost;
+    }

@@ -60,7 +60,7 @@ pub(crate) fn column_value<F: Field, L: Ledger>(
 }
 
 /// Multiplies each element of a row by `factor`. It counts one step for each.
-pub(crate) fn multiply_each<F: Field, L: Ledger>(
+pub fn multiply_each<F: Field, L: Ledger>(
     f: &F,
     factor: F::Elem,
     row: &mut [F::Elem],

@@ -43,6 +43,7 @@ pub fn push_stripe(blocks: &mut Vec<Block>, length: usize) -> Result<(), NoMemor
 
 /// The values at the factor of all stripes, whose elements stand block after block, each block row by row. It counts one
 /// step for each element.
+#[tactic(auto, using(crate::proofs::FirstBlocks::room_size, crate::proofs::FirstBlocks::room_width))]
 pub fn block_values<F: Rows, L: Ledger>(
     f: &F,
     blocks: &[Block],

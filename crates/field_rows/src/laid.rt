@@ -5,6 +5,7 @@ ghost use Rattle.field_rows.specs.Blocks.{columns_of, size_of, stripes_of};
 use crate::blocks::Block;
 
 /// Lays out a row of stripes on end: the columns of the blocks are the stripes.
+#[tactic(auto, using(crate::proofs::FirstBlocks::room_size))]
 pub fn lay_out<E: Copy>(blocks: &[Block], row: &[E], laid: &mut [E])
     requires row { length row.now ≡ size_of blocks.now }
     requires laid { length laid.old ≡ size_of blocks.now }

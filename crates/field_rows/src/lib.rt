@@ -18,7 +18,7 @@ mod gf16_plain;
 mod laid;
 mod rows;
 
-pub use any_field::{add_each, each_column};
+pub use any_field::{add_each, each_column, multiply_each};
 pub use blocks::{Block, MAX_WIDTH, block_values, push_stripe};
 pub use laid::{lay_out, transpose};
 pub use rows::Rows;

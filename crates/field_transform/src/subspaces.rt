@@ -6,6 +6,7 @@ ghost use Rattle.field_transform.specs.laws.Gf16Subspaces.{gf16_subspaces};
 
 use crate::words::add_words;
 use field_elements::{Field, Gf16Plain};
+use field_rows::multiply_each;
 use field_vectors::{Products, add_multiple_row, butterfly_row, multiply_row};
 use pet_base::Steps;
 use pet_field::Gf16Tables;
@@ -62,9 +63,7 @@ pub trait Subspaces: Field {
             slice_index_or row.new i Self.coding.ops.nought ≡ Self.coding.ops.times by (slice_index_or row.old i Self.coding.ops.nought) }
         ensures cost { steps.new ≡ steps.old + length row.old }
     {
-        for i in 0..row.len() {
-            row[i] = self.mul(by, row[i], steps);
-        }
+        multiply_each(self, by, row, steps);
     }
 
     /// Adds to a row the multiple of another of its length by the factor. It counts one step for each element.

@@ -11,6 +11,10 @@ use Rattle.field_rows.specs.laws.PlaceLaws.{more_rows, rows_le}
 pub row_within : (p count w : ℕ) → p < count → p * w + w ≤ count * w
 row_within p count w l = omega (arith, rows_le (p + 1) count w (omega arith), more_rows p w)
 
+-- where it ends
+pub row_end : (p count w at n : ℕ) → p < count → at ≡ p * w → n ≡ count * w → at + w ≤ n
+row_end p count w at n l place long = omega (arith, place, long, row_within p count w l)
+
 -- the values at an element are those at an equal one
 pub values_at : {E : Type 0} (V : E → List E → E) (x y z : E) (columns : List (List E)) (new : List E)
     → new ≡ map (V x) columns → x ≡ y → y ≡ z → new ≡ map (V z) columns

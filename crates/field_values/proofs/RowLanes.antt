@@ -10,7 +10,7 @@ use Rattle.field_rows.specs.Columns.{column, block_columns}
 use Rattle.field_rows.specs.Blocks.{size_of, width_of, columns_of}
 use Rattle.field_rows.specs.laws.BlockLaws.{column_lengths, width_is_count}
 use Rattle.field_rows.specs.laws.ColumnLaws.{length-column, column_at, block_column_at}
-use Rattle.field_rows.proofs.FirstBlocks.{b0, more_columns, room_size, room_width}
+use Rattle.field_rows.proofs.FirstBlocks.{b0, more_columns, room_width}
 use Rattle.field_rows.proofs.LayingOut.{long_put}
 use Rattle.field_rows.proofs.Parts.{part_before, part_inside, part_behind}
 use Rattle.field_values.specs.Wide.{AreSideBySide}
@@ -19,10 +19,6 @@ use Rattle.field_values.proofs.RowAfterRow.{row_within}
 
 -- where a block is that comes after the first ones
 module _ (bs : List Block) (i : ℕ) (l : i < length bs) where
-  pub block_within : (at n : ℕ) → at ≡ size_of (take i bs) → n ≡ size_of bs
-      → at + (get_or bs i b0).length * (get_or bs i b0).width ≤ n
-  block_within at n place whole = omega (arith, room_size bs i l)
-
   pub lanes_within : (lane n : ℕ) → lane ≡ width_of (take i bs) → n ≡ width_of bs → lane + (get_or bs i b0).width ≤ n
   lanes_within lane n until wide = omega (arith, room_width bs i l)
 
@@ -130,6 +126,10 @@ module _ {E : Type 0} (count width stripes lane size q from at : ℕ) (rows into
 pub columns_wide : {E : Type 0} (d : E) (bs : List Block) (laid : List E) → length (columns_of d bs laid) ≡ width_of bs
 columns_wide d bs laid =
     sym (length-map (columns_of d bs laid) length) ∙ ap length (column_lengths d bs laid) ∙ sym (width_is_count bs)
+
+pub wide_is : {E : Type 0} (d : E) (w : ℕ) (bs : List Block) (laid : List E) → w ≡ width_of bs
+    → w ≡ length (columns_of d bs laid)
+wide_is d w bs laid is = is ∙ sym (columns_wide d bs laid)
 
 -- the stripes of one block more
 module _ {E : Type 0} (d : E) (bs : List Block) (i size stripes lane at : ℕ) (laid into new : List E)

@@ -62,6 +62,7 @@ fn few_of<E: Copy>(alloc: Global, element: E, count: usize) -> Result<Vec<E>, No
 }
 
 /// Writes the stripes of the blocks into the columns of `size` rows of `stripes` elements, where `zero` stands.
+#[tactic(auto, using(field_rows::proofs::FirstBlocks::room_size, field_rows::proofs::FirstBlocks::room_width))]
 fn place_blocks<E: Copy>(
     blocks: &[Block],
     laid: &[E],

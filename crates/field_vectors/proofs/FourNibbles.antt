@@ -4,6 +4,7 @@ use Rattle.field_vectors.proofs.LaneMaps.{map_all}
 use Rattle.field_vectors.specs.laws.LaneLaws.{map_each}
 use Rattle.std.proofs.lemmas.Simd.{zip2_of_maps, Each1-weaker}
 use Rattle.std.proofs.Common.{map, ◌≡◌, ℕ, ◌*◌, ◌/◌, ◌%◌, ◌<◌, ◌^◌, List, [], get_or, bit_xor, sym, ap, ap₂, ◌∙◌, arith}
+use Rattle.std.specs.Prelude.{slice_index}
 use Rattle.std.proofs.lemmas.Nat.{xor_mod, xor_shr, xor_lt}
 use Rattle.field_elements.specs.BinaryField.{times}
 use Rattle.field_elements.specs.laws.Gf16Laws.{gf16_modulus}
@@ -52,38 +53,31 @@ product_of_nibbles x a h g =
     ∙ ap (λ t. bit_xor t (T x n3))
     (linear x (bit_xor n0 n1) n2 h b01 b2 ∙ ap (λ t. bit_xor t (T x n2)) (linear x n0 n1 h b0 b1))
 
--- what is looked up
-pub low_sum : (x : ℕ) (low high : List (List ℕ)) (a : ℕ) → AreProducts x low high → a < 65536
-    → at_nibbles (get_or low 0 []) (get_or low 1 []) (get_or low 2 []) (get_or low 3 []) a ≡ T x a % 256
-low_sum x low high a is g =
+-- what is looked up of a part of each product that goes through sums
+sums : (D : ℕ → ℕ) → ((s t : ℕ) → D (bit_xor s t) ≡ bit_xor (D s) (D t)) → (x : ℕ) (tables : List (List ℕ)) (a : ℕ)
+    → x < 65536 → a < 65536
+    → ((p n : ℕ) → p < 4 → n < 16 → slice_index (get_or tables p []) n ≡ D (T x (n * 16 ^ p)))
+    → at_nibbles (get_or tables 0 []) (get_or tables 1 []) (get_or tables 2 []) (get_or tables 3 []) a ≡ D (T x a)
+sums D over x tables a small g is =
     let t0 = T x (a % 256 % 16 * 1) in
     let t1 = T x (a % 256 / 16 * 16) in
     let t2 = T x (a / 256 % 16 * 256) in
     let t3 = T x (a / 256 / 16 * 4096) in
     ap₂ bit_xor
     (ap₂ bit_xor
-    (ap₂ bit_xor (is.low_is 0 (a % 256 % 16) (omega arith) (omega arith))
-    (is.low_is 1 (a % 256 / 16) (omega arith) (omega arith))
-    ∙ sym (xor_mod t0 t1 8))
-    (is.low_is 2 (a / 256 % 16) (omega arith) (omega arith)) ∙ sym (xor_mod (bit_xor t0 t1) t2 8))
-    (is.low_is 3 (a / 256 / 16) (omega arith) (omega arith))
-    ∙ sym (xor_mod (bit_xor (bit_xor t0 t1) t2) t3 8) ∙ ap (λ t. t % 256) (sym (product_of_nibbles x a is.element g))
+    (ap₂ bit_xor (is 0 (a % 256 % 16) (omega arith) (omega arith)) (is 1 (a % 256 / 16) (omega arith) (omega arith))
+    ∙ sym (over t0 t1))
+    (is 2 (a / 256 % 16) (omega arith) (omega arith)) ∙ sym (over (bit_xor t0 t1) t2))
+    (is 3 (a / 256 / 16) (omega arith) (omega arith))
+    ∙ sym (over (bit_xor (bit_xor t0 t1) t2) t3) ∙ ap D (sym (product_of_nibbles x a small g))
+
+pub low_sum : (x : ℕ) (low high : List (List ℕ)) (a : ℕ) → AreProducts x low high → a < 65536
+    → at_nibbles (get_or low 0 []) (get_or low 1 []) (get_or low 2 []) (get_or low 3 []) a ≡ T x a % 256
+low_sum x low high a is g = sums (λ t. t % 256) (λ s t. xor_mod s t 8) x low a is.element g is.low_is
 
 pub high_sum : (x : ℕ) (low high : List (List ℕ)) (a : ℕ) → AreProducts x low high → a < 65536
     → at_nibbles (get_or high 0 []) (get_or high 1 []) (get_or high 2 []) (get_or high 3 []) a ≡ T x a / 256
-high_sum x low high a is g =
-    let t0 = T x (a % 256 % 16 * 1) in
-    let t1 = T x (a % 256 / 16 * 16) in
-    let t2 = T x (a / 256 % 16 * 256) in
-    let t3 = T x (a / 256 / 16 * 4096) in
-    ap₂ bit_xor
-    (ap₂ bit_xor
-    (ap₂ bit_xor (is.high_is 0 (a % 256 % 16) (omega arith) (omega arith))
-    (is.high_is 1 (a % 256 / 16) (omega arith) (omega arith))
-    ∙ sym (xor_shr t0 t1 8))
-    (is.high_is 2 (a / 256 % 16) (omega arith) (omega arith)) ∙ sym (xor_shr (bit_xor t0 t1) t2 8))
-    (is.high_is 3 (a / 256 / 16) (omega arith) (omega arith))
-    ∙ sym (xor_shr (bit_xor (bit_xor t0 t1) t2) t3 8) ∙ ap (λ t. t / 256) (sym (product_of_nibbles x a is.element g))
+high_sum x low high a is g = sums (λ t. t / 256) (λ s t. xor_shr s t 8) x high a is.element g is.high_is
 
 -- a word of its two bytes
 pub word : (a : ℕ) → bit_xor (a % 256) (a / 256 * 256) ≡ a

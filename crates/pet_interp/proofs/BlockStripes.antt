@@ -17,7 +17,7 @@ use Rattle.std.proofs.Math.Nat.{div-lt_iff_lt-mul}
 use Rattle.std.proofs.lemmas.Nat.{div-add-mod'}
 use Rattle.pet_interp.specs.Progressive.{longer_than}
 use Rattle.pet_interp.proofs.Counted.{longer_none}
-use Rattle.pet_interp.specs.Blocks.{HeldBlock, stripes_of}
+use Rattle.pet_interp.specs.Blocks.{HeldBlock, IsLaid, stripes_of}
 use Rattle.pet_interp.specs.inside.Lifted.{begun, begun_all, grown}
 use Rattle.field_rows.specs.laws.PlaceLaws.{more_rows, rows_le, place_below}
 
@@ -166,11 +166,20 @@ turned_elements P d w (suc k) rows new long whole h is n e l =
 -- ---- a block that is seen as its stripes
 
 -- in which new places have come
-pub each_new : {E : Type 0} (P : E → Type 0) (d : E) (b : Bool) (w k : ℕ) (places new : List E) → places ≡ new
-    → length new ≡ k * w → All P new
+pub laid_new : {E : Type 0} (P : E → Type 0) (w k : ℕ) (places new old before : List E) → places ≡ new
+    → length new ≡ length old → old ≡ before → IsLaid P w k before → All P new → IsLaid P w k places
+laid_new P w k places new old before kept long was laid elements = record {
+  narrow = laid.narrow;
+  whole = ap length kept ∙ long ∙ ap length was ∙ laid.whole;
+  elements = All-same P places new kept elements;
+}
+
+pub each_new : {E : Type 0} (P : E → Type 0) (d : E) (b : Bool) (w k : ℕ) (places new old before : List E)
+    → places ≡ new → length new ≡ length old → old ≡ before → IsLaid P w k before → All P new
     → All (λ s. (length s ≡ k) × All P s) (stripes_of d b w k places)
-each_new P d b w k places new kept long elements =
-    stripes_each P d b w k places (ap length kept ∙ long) (All-same P places new kept elements)
+each_new P d b w k places new old before kept long was laid elements =
+    let now = laid_new P w k places new old before kept long was laid elements in
+    stripes_each P d b w k places now.whole now.elements
 
 pub waits_here : {E : Type 0} (met : ℕ) (block seen : HeldBlock E) → block ≡ seen → seen.waits ≡ nat_lt met seen.size
     → met < block.size → block.waits ≡ true
@@ -184,6 +193,13 @@ block_of d b w k places = record { size = k; waits = b; stripes = stripes_of d b
 pub count_seen : {E : Type 0} (d : E) (b : Bool) (w k : ℕ) (places : List E) (seen : HeldBlock E)
     → block_of d b w k places ≡ seen → length seen.stripes ≡ w
 count_seen d b w k places seen is = ap (λ v. length v.stripes) (sym is) ∙ length-stripes d b w k places
+
+-- where a stripe of it stands
+pub stripe_room : {E : Type 0} {P : E → Type 0} (d : E) {b : Bool} {w k : ℕ} (i : ℕ) {places : List E}
+    {seen : HeldBlock E} → block_of d b w k places ≡ seen → IsLaid P w k places → i < length seen.stripes
+    → i * k + k ≤ length places
+stripe_room {E} {P} d {b} {w} {k} i {places} {seen} is laid few =
+    inside_cut w k i (length places) (omega (arith, count_seen d b w k places seen is)) laid.whole
 
 pub each_seen : {E : Type 0} (P : E → Type 0) (d : E) (b : Bool) (w k : ℕ) (places : List E) (seen : HeldBlock E)
     → block_of d b w k places ≡ seen → length places ≡ k * w → All P places

@@ -11,6 +11,10 @@ use Rattle.pet_interp.specs.Blocks.{HeldBlock, IsBlock, stripes_in}
 pub row_inside : (w k met n : ℕ) → n ≡ k * w → met < k → met * w + w ≤ n
 row_inside w k met n whole few = omega (arith, whole, more_rows met w, rows_le (met + 1) k w (omega arith))
 
+-- where a word of the bytes stands
+pub word_inside : (w n c at wide bytes : ℕ) → wide ≡ w → at ≡ c * w → bytes ≡ n * w → c < n → at + wide ≤ bytes
+word_inside w n c at wide bytes is place whole few = omega (arith, is, place, row_inside w n c bytes whole few)
+
 pub row_long : {E : Type 0} (w k met : ℕ) (rows rest : List E) → rest ≡ drop (met * w) rows → length rows ≡ k * w
     → met < k → length (take w rest) ≡ w
 row_long w k met rows rest back whole few =

@@ -1,10 +1,10 @@
 -- The ring of polynomials over GF(2) of degree below d, modulo one of degree d, from the relation that says what a
 -- product is.
-use Rattle.std.proofs.Common.{◌≡◌, ℕ, ◌-◌, ◌^◌, ◌<◌, ◌≤◌, arith}
+use Rattle.std.proofs.Common.{◌≡◌, ℕ, ◌-◌, ◌^◌, ◌<◌, ◌≤◌, sym, arith}
 use lib.Bits.{bit_xor, xor_lt}
 use lib.Pow.{pow_mono}
 use Rattle.field_elements.specs.Carryless.{carryless, product_of_bits, IsMultiple, HasDegree}
-use Rattle.field_elements.specs.BinaryField.{IsProduct, times}
+use Rattle.field_elements.specs.BinaryField.{IsModulus, IsProduct, times}
 use Rattle.field_elements.specs.laws.CarrylessLaws.{carryless_bits, carryless_comm, carryless_assoc, carryless-one_r}
 use Rattle.field_elements.specs.laws.CarrylessLaws.{carryless_xor_r}
 use Rattle.field_elements.specs.laws.Degrees.{carryless_below}
@@ -78,3 +78,14 @@ module _ (d m : ℕ) (some : 1 ≤ d) (degree : HasDegree m d) where
   times-one a h =
       product_unique a 1 (times d m a 1) a (times_is a 1 h one_below)
       (record { below = h; congruent = rw (carryless-one_r a) (Same-refl m a) })
+
+-- what was computed of an element's number, modulo a modulus of a field
+pub multiplies : {d m a b x y c : ℕ} → IsModulus d m → x ≡ a → y ≡ b → a < 2 ^ d → b < 2 ^ d → IsProduct d m x y c
+    → c ≡ times d m a b
+multiplies {d} {m} {a} {b} {x} {y} {c} modulus first second h g product =
+    is_times d m modulus.some modulus.degree a b c h g (rw (first, second) at product)
+
+pub inverts : {d m a x c : ℕ} → IsModulus d m → x ≡ a → a < 2 ^ d → c < 2 ^ d → IsProduct d m x c 1
+    → times d m a c ≡ 1
+inverts {d} {m} {a} {x} {c} modulus is h g product =
+    sym (is_times d m modulus.some modulus.degree a c 1 h g (rw is at product))

@@ -31,27 +31,38 @@ in_middle z at c xs ys zs l m =
 
 -- ---- one more vector
 
-module _ {E : Type 0} (z : E) (at end n : ℕ) (old now new : List E) (long : length old ≡ n) (same : length new ≡ n)
-    (few : end ≤ at + 32) (far : (i : ℕ) → end ≤ i → i < n → at + 32 ≤ i) where
-  pub vector_done : (V : ℕ → E) → end ≤ n → ((i : ℕ) → i < at → get_or now i z ≡ V i)
-      → ((i : ℕ) → i < at → get_or new i z ≡ get_or now i z)
-      → ((c : ℕ) → c < 32 → at + c < n → get_or new (at + c) z ≡ V (at + c)) → (i : ℕ) → i < end → get_or new i z ≡ V i
-  vector_done V room done before inside i l =
-      elim (cases_lt i at) [
-        | inl s ↦ before i s ∙ done i s
-        | inr s ↦
-            let q : at + (i - at) ≡ i = omega arith in
-            ap (λ t. get_or new t z) (sym q) ∙ inside (i - at) (omega arith) (omega arith) ∙ ap V q
-      ]
+-- Of a row of n elements those before `at` are made, and the others are the old ones.
+pub record HasMade {E : Type 0} (z : E) (at n : ℕ) (old now : List E) (made : ℕ → E) : Type 0 where
+  pub long : length now ≡ n
+  pub done : (i : ℕ) → i < at → get_or now i z ≡ made i
+  pub others : (i : ℕ) → at ≤ i → get_or now i z ≡ get_or old i z
 
-  pub vector_others : at ≤ end → ((i : ℕ) → at ≤ i → get_or now i z ≡ get_or old i z)
-      → ((i : ℕ) → at + 32 ≤ i → get_or new i z ≡ get_or now i z)
-      → (i : ℕ) → end ≤ i → get_or new i z ≡ get_or old i z
-  vector_others start rest behind i l =
-      elim (cases_lt i n) [
-        | inl s ↦ behind i (far i l s) ∙ rest i (omega arith)
-        | inr s ↦ get_or_past new i z (omega arith) ∙ sym (get_or_past old i z (omega arith))
-      ]
+pub none_made : {E : Type 0} (z : E) (n : ℕ) (old : List E) (made : ℕ → E) → length old ≡ n
+    → HasMade z 0 n old old made
+none_made z n old made long = record { long = long; done = λ i l. absurd (omega arith); others = λ i l. refl }
+
+module _ {E : Type 0} (z : E) (at m n : ℕ) (old now new : List E) (made : ℕ → E) (long : length old ≡ n)
+    (is : HasMade z at n old now made) (same : length new ≡ length now) (few : m ≤ 32)
+    (far : (i : ℕ) → at + m ≤ i → i < n → at + 32 ≤ i)
+    (before : (i : ℕ) → i < at → get_or new i z ≡ get_or now i z)
+    (inside : (c : ℕ) → c < 32 → at + c < n
+    → (get_or now (at + c) z ≡ get_or old (at + c) z) → get_or new (at + c) z ≡ made (at + c))
+    (behind : (i : ℕ) → at + 32 ≤ i → get_or new i z ≡ get_or now i z) where
+  pub more_made : at + m ≤ n → HasMade z (at + m) n old new made
+  more_made room = record {
+    long = same ∙ is.long;
+    done = λ i l. elim (cases_lt i at) [
+      | inl s ↦ before i s ∙ is.done i s
+      | inr s ↦
+          let q : at + (i - at) ≡ i = omega arith in
+          ap (λ t. get_or new t z) (sym q)
+          ∙ inside (i - at) (omega arith) (omega arith) (is.others (at + (i - at)) (omega arith)) ∙ ap made q
+    ];
+    others = λ i l. elim (cases_lt i n) [
+      | inl s ↦ behind i (far i l s) ∙ is.others i (omega arith)
+      | inr s ↦ get_or_past new i z (omega (arith, same, is.long)) ∙ sym (get_or_past old i z (omega arith))
+    ];
+  }
 
 -- ---- functions that agree on each lane
 

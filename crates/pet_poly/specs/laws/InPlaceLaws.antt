@@ -10,6 +10,7 @@ use Rattle.pet_poly.specs.Value.{value, value_monic}
 use Rattle.pet_poly.specs.InPlace.{scaled_sum, linear_product_from, linear_product}
 use Rattle.pet_poly.specs.inside.Horner.{horner_from}
 use Rattle.pet_poly.specs.laws.HornerLaws as H
+use Rattle.pet_poly.specs.laws.Quotient as Q
 use Rattle.field_elements.specs.laws.FieldLaws as A
 
 pub length-scaled_sum : {E : Type 0} (o : Operations E) (by : E) (xs ys : List E)
@@ -88,21 +89,12 @@ module _ {E : Type 0} (P : E → Type 0) (o : Operations E) (f : IsField P o) wh
       ≡ o.plus b (o.times (o.minus y x) (o.plus n (o.times y m)))
   linear_step x y b n m hx hy hb hn hm =
       let d = o.minus y x in
-      let hd : P d = f.minus_is y x hy hx in
       let xn : P (o.times x n) = f.times_is x n hx hn in
-      let dn : P (o.times d n) = f.times_is d n hd hn in
-      let ym : P (o.times y m) = f.times_is y m hy hm in
-      let dym : P (o.times d (o.times y m)) = f.times_is d (o.times y m) hd ym in
-      let yn : o.times y n ≡ o.plus (o.times x n) (o.times d n) =
-      ap (λ z. o.times z n) (sym (f.minus-plus y x hy hx)) ∙ A.plus-times P o f d x n hd hx hn
-      ∙ f.plus_comm (o.times d n) (o.times x n) dn xn in
       let all : o.times y (o.plus n (o.times d m)) ≡ o.plus (o.times x n) (o.times d (o.plus n (o.times y m))) =
-      f.times-plus y n (o.times d m) hy hn (f.times_is d m hd hm)
-      ∙ ap₂ o.plus yn (A.times_left_comm P o f y d m hy hd hm)
-      ∙ f.plus_assoc (o.times x n) (o.times d n) (o.times d (o.times y m)) xn dn dym
-      ∙ ap (o.plus (o.times x n)) (sym (f.times-plus d n (o.times y m) hd hn ym)) in
+      Q.shift P o f y x n m hy hx hn hm in
       let rest : P (o.times d (o.plus n (o.times y m))) =
-      f.times_is d (o.plus n (o.times y m)) hd (f.plus_is n (o.times y m) hn ym) in
+      f.times_is d (o.plus n (o.times y m)) (f.minus_is y x hy hx)
+      (f.plus_is n (o.times y m) hn (f.times_is y m hy hm)) in
       ap (o.plus (o.minus b (o.times x n))) all
       ∙ sym (f.plus_assoc (o.minus b (o.times x n)) (o.times x n) (o.times d (o.plus n (o.times y m)))
       (f.minus_is b (o.times x n) hb xn) xn rest)

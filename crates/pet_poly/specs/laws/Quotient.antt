@@ -23,7 +23,8 @@ module _ {E : Type 0} (P : E → Type 0) (o : Operations E) (f : IsField P o) wh
   quotient_is [] r h hr = tt
   quotient_is (c ∷ cs) r h hr = (horner_is (c ∷ cs) r h hr, quotient_is cs r h.1 hr)
 
-  shift : (x r v w : E) → P x → P r → P v → P w
+  -- x (v + d w) is r v + d (v + x w), where d is x - r
+  pub shift : (x r v w : E) → P x → P r → P v → P w
       → o.times x (o.plus v (o.times (o.minus x r) w))
       ≡ o.plus (o.times r v) (o.times (o.minus x r) (o.plus v (o.times x w)))
   shift x r v w hx hr hv hw =

@@ -1,6 +1,6 @@
 use borrow.Rule.Slice.PartMut.{put_mid}
 use Rattle.std.proofs.Common.{◌≡◌, ◌+◌, ◌-◌, ◌*◌, ◌<◌, ◌≤◌, List, length, get_or, take, drop, map, refl, ap, sym, ◌∙◌}
-use Rattle.std.proofs.Common.{add-one, arith, rules}
+use Rattle.std.proofs.Common.{add-one, arith}
 use Rattle.std.proofs.lemmas.List.{length-take-le, length-drop, take_all}
 use Rattle.std.proofs.lemmas.List.Elements.{All-take, All-drop}
 use Rattle.pet_poly.specs.Value.{value}
@@ -8,51 +8,6 @@ use Rattle.field_rows.specs.Blocks.{size_of, width_of, columns_of}
 use Rattle.field_rows.proofs.Parts.{part_length}
 use Rattle.field_rows.proofs.FirstBlocks.{room_size, room_width, more_size, more_width, step_done, b0}
 use Rattle.field_rows.proofs.blocks.block_values.Goals as goal
-
-pub overflow_mul-end : goal.overflow_mul-end
-overflow_mul-end g c =
-    let b = get_or c.args.blocks.now c.loop-i.i b0 in
-    let room : c.loop-i.at + b.length * b.width ≤ length c.args.laid.now =
-    omega (arith, room_size c.args.blocks.now c.loop-i.i (omega arith), c.loop-i.invariant.place, c.requires.whole) in
-    search rules
-
-pub overflow_add-end : goal.overflow_add-end
-overflow_add-end g c =
-    let b = get_or c.args.blocks.now c.loop-i.i b0 in
-    let room : c.loop-i.at + b.length * b.width ≤ length c.args.laid.now =
-    omega (arith, room_size c.args.blocks.now c.loop-i.i (omega arith), c.loop-i.invariant.place, c.requires.whole) in
-    search rules
-
-pub overflow_add-till : goal.overflow_add-till
-overflow_add-till g c =
-    let b = get_or c.args.blocks.now c.loop-i.i b0 in
-    let room : c.loop-i.to + b.width ≤ length c.loop-i.into =
-    omega (
-      arith,
-      room_width c.args.blocks.now c.loop-i.i (omega arith),
-      c.loop-i.invariant.until,
-      c.loop-i.invariant.long,
-    ) in
-    search rules
-
-pub slice_bounds-part-end : goal.slice_bounds-part-end
-slice_bounds-part-end g c =
-    let b = get_or c.args.blocks.now c.loop-i.i b0 in
-    let room : c.loop-i.at + b.length * b.width ≤ length c.args.laid.now =
-    omega (arith, room_size c.args.blocks.now c.loop-i.i (omega arith), c.loop-i.invariant.place, c.requires.whole) in
-    search rules
-
-pub slice_bounds-values-end : goal.slice_bounds-values-end
-slice_bounds-values-end g c =
-    let b = get_or c.args.blocks.now c.loop-i.i b0 in
-    let room : c.loop-i.to + b.width ≤ length c.loop-i.into =
-    omega (
-      arith,
-      room_width c.args.blocks.now c.loop-i.i (omega arith),
-      c.loop-i.invariant.until,
-      c.loop-i.invariant.long,
-    ) in
-    search rules
 
 pub loop-i-preserved : goal.loop-i-preserved
 loop-i-preserved g c =

@@ -1,31 +1,10 @@
 use Rattle.std.proofs.Common.{◌≡◌, ◌+◌, ◌-◌, ◌*◌, ◌<◌, ◌≤◌, length, get_or, take, drop, refl, ap, sym, ◌∙◌, add-one}
-use Rattle.std.proofs.Common.{arith, rules}
+use Rattle.std.proofs.Common.{arith}
 use Rattle.std.proofs.lemmas.List.{length-take-le, length-drop, take_all}
 use Rattle.field_rows.specs.Blocks.{size_of}
 use Rattle.field_rows.proofs.FirstBlocks.{room_size, more_size, b0}
 use Rattle.field_rows.proofs.LayingOut.{laid_more, long_put}
 use Rattle.field_rows.proofs.laid.lay_out.Goals as goal
-
-pub overflow_mul-end : goal.overflow_mul-end
-overflow_mul-end g c =
-    let b = get_or c.args.blocks.now c.loop-i.i b0 in
-    let room : c.loop-i.at + b.length * b.width ≤ length c.args.row.now =
-    omega (arith, room_size c.args.blocks.now c.loop-i.i (omega arith), c.loop-i.invariant.place, c.requires.row) in
-    search rules
-
-pub overflow_add-end : goal.overflow_add-end
-overflow_add-end g c =
-    let b = get_or c.args.blocks.now c.loop-i.i b0 in
-    let room : c.loop-i.at + b.length * b.width ≤ length c.args.row.now =
-    omega (arith, room_size c.args.blocks.now c.loop-i.i (omega arith), c.loop-i.invariant.place, c.requires.row) in
-    search rules
-
-pub slice_bounds-transpose-end : goal.slice_bounds-transpose-end
-slice_bounds-transpose-end g c =
-    let b = get_or c.args.blocks.now c.loop-i.i b0 in
-    let room : c.loop-i.at + b.length * b.width ≤ length c.args.row.now =
-    omega (arith, room_size c.args.blocks.now c.loop-i.i (omega arith), c.loop-i.invariant.place, c.requires.row) in
-    search rules
 
 pub loop-i-preserved : goal.loop-i-preserved
 loop-i-preserved g c =

@@ -5,7 +5,7 @@ use Rattle.pet_poly.specs.Value.{value}
 use Rattle.field_rows.specs.Blocks.{columns_of}
 use Rattle.field_rows.specs.laws.PlaceLaws.{more_rows}
 use Rattle.field_rows.proofs.Parts.{part_length}
-use Rattle.field_values.proofs.RowAfterRow.{row_within, values_at, row_more}
+use Rattle.field_values.proofs.RowAfterRow.{row_within, row_end, values_at, row_more}
 use Rattle.field_values.proofs.all_values.fill_rows.Goals as goal
 
 pub loop-p-preserved : goal.loop-p-preserved
@@ -70,33 +70,18 @@ block_values-requires-clause-room g c =
 
 pub overflow_add-end : goal.overflow_add-end
 overflow_add-end g c =
-    let room : c.loop-p.at + c.args.stripes ≤ length c.loop-p.into =
-    omega (
-      arith,
-      c.loop-p.invariant.place,
-      row_within c.loop-p.p c.args.count c.args.stripes (omega arith),
-      c.loop-p.invariant.long,
-    ) in
+    let room = row_end c.loop-p.p c.args.count c.args.stripes c.loop-p.at (length c.loop-p.into) c.loop-p-test.true
+    c.loop-p.invariant.place c.loop-p.invariant.long in
     search rules
 
 pub slice_bounds-block_values-end : goal.slice_bounds-block_values-end
 slice_bounds-block_values-end g c =
-    let room : c.loop-p.at + c.args.stripes ≤ length c.loop-p.into =
-    omega (
-      arith,
-      c.loop-p.invariant.place,
-      row_within c.loop-p.p c.args.count c.args.stripes (omega arith),
-      c.loop-p.invariant.long,
-    ) in
+    let room = row_end c.loop-p.p c.args.count c.args.stripes c.loop-p.at (length c.loop-p.into) c.loop-p-test.true
+    c.loop-p.invariant.place c.loop-p.invariant.long in
     search rules
 
 pub offset_bounds-into-at : goal.offset_bounds-into-at
 offset_bounds-into-at g c =
-    let room : c.loop-p.at + c.args.stripes ≤ length c.loop-p.into =
-    omega (
-      arith,
-      c.loop-p.invariant.place,
-      row_within c.loop-p.p c.args.count c.args.stripes (omega arith),
-      c.loop-p.invariant.long,
-    ) in
+    let room = row_end c.loop-p.p c.args.count c.args.stripes c.loop-p.at (length c.loop-p.into) c.loop-p-test.true
+    c.loop-p.invariant.place c.loop-p.invariant.long in
     search rules

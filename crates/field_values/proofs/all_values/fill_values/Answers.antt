@@ -1,17 +1,8 @@
 use Rattle.std.proofs.Common.{◌∙◌, arith}
 use Rattle.field_values.proofs.all_values.fill_values.Goals as goal
 
-pub fill_rows-requires : goal.fill_rows-requires
-fill_rows-requires g c =
-    record {
-      narrow = c.requires.narrow;
-      whole = c.requires.whole;
-      stripes = c.requires.stripes;
-      elements = c.requires.elements;
-      points = c.requires.points;
-      few = c.requires.few;
-      room = c.fill_transformed.auto.into ∙ c.requires.room;
-    }
+pub fill_rows-requires-clause-room : goal.fill_rows-requires-clause-room
+fill_rows-requires-clause-room g c = c.fill_transformed.auto.into ∙ c.requires.room
 
 pub returns-then-not-fill_transformed-clause-rows : goal.returns-then-not-fill_transformed-clause-rows
 returns-then-not-fill_transformed-clause-rows g c = c.fill_rows.ensures.rows

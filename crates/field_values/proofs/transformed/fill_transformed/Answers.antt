@@ -1,9 +1,9 @@
-use Rattle.std.proofs.Common.{◌≡◌, ◌*◌, ◌^◌, ◌≤◌, ◌+◌, ◌-◌, length, refl, sym, ap, ◌∙◌, arith, true≢false}
+use Rattle.std.proofs.Common.{◌*◌, ◌^◌, ◌≤◌, ◌+◌, ◌-◌, length, refl, sym, ap, ◌∙◌, arith, true≢false}
 use Rattle.field_rows.specs.declared.blocks.Block.{Block}
 use Rattle.field_rows.specs.Blocks.{columns_of}
 use Rattle.std.proofs.Common.{All}
 use Rattle.std.proofs.lemmas.Bool.{false≢true, lt-ltb}
-use Rattle.field_values.proofs.RowLanes.{columns_wide}
+use Rattle.field_values.proofs.RowLanes.{columns_wide, wide_is}
 use Rattle.field_rows.specs.laws.BlockLaws.{columns_are}
 use Rattle.field_values.proofs.TransformedRows.{within_bound, cosets_in_order, side_elements, side_is, side_zeros}
 use Rattle.field_values.proofs.TransformedRows.{stripe_short, values_are}
@@ -22,8 +22,7 @@ transform-requires-clause-zeros g c =
     let size = 2 ^ c.in-Some.level in
     let columns = columns_of g.F.Field.coding.ops.nought c.args.blocks.now c.args.laid.now in
     let old = c.deref_mut.result.now in
-    let wide : w ≡ length columns = c.requires.stripes
-    ∙ sym (columns_wide g.F.Field.coding.ops.nought c.args.blocks.now c.args.laid.now) in
+    let wide = wide_is g.F.Field.coding.ops.nought w c.args.blocks.now c.args.laid.now c.requires.stripes in
     side_zeros g.F.Field.coding.ops.nought w size c.longest-most.result columns old wide
     (side_is g.F.Field.coding.ops.nought size c.size_at-size.result columns old c.in-Ok.rows.items
     c.size_at-size.ensures.power c.deref_mut.ensures.value c.in-Ok.ensures)
@@ -36,8 +35,7 @@ returns-clause-rows g c t =
     let size = 2 ^ c.in-Some.level in
     let columns = columns_of g.F.Field.coding.ops.nought c.args.blocks.now c.args.laid.now in
     let old = c.deref_mut.result.now in
-    let wide : w ≡ length columns = c.requires.stripes
-    ∙ sym (columns_wide g.F.Field.coding.ops.nought c.args.blocks.now c.args.laid.now) in
+    let wide = wide_is g.F.Field.coding.ops.nought w c.args.blocks.now c.args.laid.now c.requires.stripes in
     let most : c.longest-most.result ≤ size = c.in-Some.ensures.enough in
     let short : All
     (λ (b : Block). b.length ≤ size) c.args.blocks.now = λ i d l. omega (arith, c.longest-most.ensures i d l, most) in

@@ -6,7 +6,7 @@ use Rattle.field_rows.specs.Blocks.{columns_of}
 use Rattle.field_rows.specs.Columns.{column}
 use Rattle.field_rows.specs.laws.BlockLaws.{columns_are}
 use Rattle.field_rows.specs.laws.PlaceLaws.{place_below, rows_le}
-use Rattle.field_values.proofs.RowLanes.{columns_wide}
+use Rattle.field_values.proofs.RowLanes.{columns_wide, wide_is}
 use Rattle.field_values.proofs.TransformedRows.{side_elements, side_is, side_zeros, stripe_short, values_are}
 use Rattle.field_values.proofs.transformed.transformed_rows.Goals as goal
 
@@ -23,8 +23,7 @@ transform_in_place-requires-clause-zeros g c =
     let size = 2 ^ c.in-Some.level in
     let columns = columns_of g.F.Field.coding.ops.nought c.args.blocks.now c.args.laid.now in
     let old = c.deref_mut.result.now in
-    let wide : w ≡ length columns = c.requires.stripes
-    ∙ sym (columns_wide g.F.Field.coding.ops.nought c.args.blocks.now c.args.laid.now) in
+    let wide = wide_is g.F.Field.coding.ops.nought w c.args.blocks.now c.args.laid.now c.requires.stripes in
     side_zeros g.F.Field.coding.ops.nought w size c.longest-most.result columns old wide
     (side_is g.F.Field.coding.ops.nought size c.size_at-size.result columns old c.in-Ok.rows.items
     c.size_at-size.ensures.power c.deref_mut.ensures.value c.in-Ok.ensures)

@@ -1,43 +1,13 @@
-use Rattle.std.proofs.Common.{◌+◌, ◌*◌, ◌<◌, length, get_or, take, ap, sym, ◌∙◌, add-one, arith, rules}
+use Rattle.std.proofs.Common.{◌+◌, ◌*◌, ◌<◌, length, get_or, take, ap, sym, ◌∙◌, add-one, arith}
 use Rattle.field_rows.specs.Blocks.{size_of, width_of}
 use Rattle.field_rows.proofs.FirstBlocks.{b0, more_size, more_width}
-use Rattle.field_values.proofs.RowLanes.{block_within, lanes_within, stripes_more, rest_more, all_placed}
+use Rattle.field_values.proofs.RowLanes.{lanes_within, stripes_more, rest_more, all_placed}
 use Rattle.field_values.proofs.wide.place_blocks.Goals as goal
-
-pub overflow_mul-end : goal.overflow_mul-end
-overflow_mul-end g c =
-    let room = block_within c.args.blocks.now c.loop-i.i (omega arith) c.loop-i.at
-    (length c.args.laid.now) c.loop-i.invariant.place c.requires.whole in
-    search rules
-
-pub overflow_add-end : goal.overflow_add-end
-overflow_add-end g c =
-    let room = block_within c.args.blocks.now c.loop-i.i (omega arith) c.loop-i.at
-    (length c.args.laid.now) c.loop-i.invariant.place c.requires.whole in
-    search rules
-
-pub offset_bounds-laid-at : goal.offset_bounds-laid-at
-offset_bounds-laid-at g c =
-    let room = block_within c.args.blocks.now c.loop-i.i (omega arith) c.loop-i.at
-    (length c.args.laid.now) c.loop-i.invariant.place c.requires.whole in
-    omega (arith, room)
-
-pub slice_bounds-place_rows-end : goal.slice_bounds-place_rows-end
-slice_bounds-place_rows-end g c =
-    let room = block_within c.args.blocks.now c.loop-i.i (omega arith) c.loop-i.at
-    (length c.args.laid.now) c.loop-i.invariant.place c.requires.whole in
-    search rules
 
 pub place_rows-requires-clause-lane : goal.place_rows-requires-clause-lane
 place_rows-requires-clause-lane g c =
     lanes_within c.args.blocks.now c.loop-i.i
     (omega arith) c.loop-i.lane c.args.stripes c.loop-i.invariant.until c.requires.stripes
-
-pub overflow_add-lane : goal.overflow_add-lane
-overflow_add-lane g c =
-    let lanes = lanes_within c.args.blocks.now c.loop-i.i
-    (omega arith) c.loop-i.lane c.args.stripes c.loop-i.invariant.until c.requires.stripes in
-    search rules
 
 pub loop-i-preserved : goal.loop-i-preserved
 loop-i-preserved g c =

@@ -1,18 +1,16 @@
 use Rattle.std.proofs.Common.{◌+◌, ◌<◌, ◌≤◌, length, refl, ◌∙◌, arith, rules}
-use Rattle.field_values.proofs.RowAfterRow.{row_within}
+use Rattle.field_values.proofs.RowAfterRow.{row_end}
 use Rattle.field_values.proofs.RowLanes.{new_long, placed_more, others_more}
 use Rattle.field_values.proofs.wide.place_rows.Goals as goal
 
 pub offset_bounds-into-to : goal.offset_bounds-into-to
 offset_bounds-into-to g c =
-    let q = c.loop.counter in
-    let l : q < c.args.size = omega (arith, c.requires.fewer) in
+    let l : c.loop.counter < c.args.size = omega (arith, c.requires.fewer) in
     let room : c.loop.at + c.args.lane + c.args.width ≤ length c.loop.into =
     omega (
       arith,
-      row_within q c.args.size c.args.stripes l,
-      c.loop.invariant.at_is,
-      c.loop.invariant.long,
+      row_end c.loop.counter c.args.size c.args.stripes c.loop.at (length c.loop.into) l
+          c.loop.invariant.at_is c.loop.invariant.long,
       c.requires.lane,
     ) in
     search rules
@@ -66,68 +64,38 @@ returns-clause-others g c = λ d p n l h. c.loop.invariant.others d p n l (λ m.
 
 pub offset_bounds-rows-from : goal.offset_bounds-rows-from
 offset_bounds-rows-from g c =
-    let room : c.loop.from + c.args.width ≤ length c.args.rows.now =
-    omega (
-      arith,
-      row_within c.loop.counter c.args.count c.args.width (omega arith),
-      c.loop.invariant.from_is,
-      c.requires.rows,
-    ) in
+    let room = row_end c.loop.counter c.args.count c.args.width c.loop.from (length c.args.rows.now) (omega arith)
+    c.loop.invariant.from_is c.requires.rows in
     search rules
 
 pub overflow_add-from : goal.overflow_add-from
 overflow_add-from g c =
-    let room : c.loop.from + c.args.width ≤ length c.args.rows.now =
-    omega (
-      arith,
-      row_within c.loop.counter c.args.count c.args.width (omega arith),
-      c.loop.invariant.from_is,
-      c.requires.rows,
-    ) in
+    let room = row_end c.loop.counter c.args.count c.args.width c.loop.from (length c.args.rows.now) (omega arith)
+    c.loop.invariant.from_is c.requires.rows in
     search rules
 
 pub overflow_add-from-in-loop : goal.overflow_add-from-in-loop
 overflow_add-from-in-loop g c =
-    let room : c.loop.from + c.args.width ≤ length c.args.rows.now =
-    omega (
-      arith,
-      row_within c.loop.counter c.args.count c.args.width (omega arith),
-      c.loop.invariant.from_is,
-      c.requires.rows,
-    ) in
+    let room = row_end c.loop.counter c.args.count c.args.width c.loop.from (length c.args.rows.now) (omega arith)
+    c.loop.invariant.from_is c.requires.rows in
     search rules
 
 pub slice_bounds-copy_from_slice-end : goal.slice_bounds-copy_from_slice-end
 slice_bounds-copy_from_slice-end g c =
-    let room : c.loop.from + c.args.width ≤ length c.args.rows.now =
-    omega (
-      arith,
-      row_within c.loop.counter c.args.count c.args.width (omega arith),
-      c.loop.invariant.from_is,
-      c.requires.rows,
-    ) in
+    let room = row_end c.loop.counter c.args.count c.args.width c.loop.from (length c.args.rows.now) (omega arith)
+    c.loop.invariant.from_is c.requires.rows in
     search rules
 
 pub overflow_add-to : goal.overflow_add-to
 overflow_add-to g c =
     let l : c.loop.counter < c.args.size = omega (arith, c.requires.fewer) in
-    let room : c.loop.at + c.args.stripes ≤ length c.loop.into =
-    omega (
-      arith,
-      row_within c.loop.counter c.args.size c.args.stripes l,
-      c.loop.invariant.at_is,
-      c.loop.invariant.long,
-    ) in
+    let room = row_end c.loop.counter c.args.size c.args.stripes c.loop.at (length c.loop.into) l
+    c.loop.invariant.at_is c.loop.invariant.long in
     search rules
 
 pub overflow_add-at : goal.overflow_add-at
 overflow_add-at g c =
     let l : c.loop.counter < c.args.size = omega (arith, c.requires.fewer) in
-    let room : c.loop.at + c.args.stripes ≤ length c.loop.into =
-    omega (
-      arith,
-      row_within c.loop.counter c.args.size c.args.stripes l,
-      c.loop.invariant.at_is,
-      c.loop.invariant.long,
-    ) in
+    let room = row_end c.loop.counter c.args.size c.args.stripes c.loop.at (length c.loop.into) l
+    c.loop.invariant.at_is c.loop.invariant.long in
     search rules

@@ -4,6 +4,7 @@ use Rattle.pet_interp.proofs.progress.find.Given as goal
 
 abbrev pub invariant-loop-place : goal.invariant-loop-place
 invariant-loop-place g l = record {
+  here : l.block < length l.blocks;
   within : l.place < length (stripes_in (drop l.block l.blocks));
   same : slice_index_or (stripes_in (drop l.block l.blocks)) l.place []
       ≡ slice_index_or (stripes_in l.blocks) l.stripe [];

@@ -42,18 +42,14 @@ scale-requires-clause-factor g c = c.requires.inverse
 
 pub values-requires-clause-whole : goal.values-requires-clause-whole
 values-requires-clause-whole g c =
-    let w = c.args.width in
-    let rest = c.split_at_mut-low.result.1.now in
-    let part = row_long w c.args.count c.args.met c.args.rows.now rest c.split_at_mut-low.ensures.back c.requires.whole
-    c.requires.longer in
+    let part = row_long c.args.width c.args.count c.args.met c.args.rows.now c.split_at_mut-low.result.1.now
+    c.split_at_mut-low.ensures.back c.requires.whole c.requires.longer in
     omega (arith, c.split_at_mut-low.ensures.front_len, ap (λ n. c.args.met * n) part)
 
 pub values-requires-clause-narrow : goal.values-requires-clause-narrow
 values-requires-clause-narrow g c =
-    let w = c.args.width in
-    let rest = c.split_at_mut-low.result.1.now in
-    let part = row_long w c.args.count c.args.met c.args.rows.now rest c.split_at_mut-low.ensures.back c.requires.whole
-    c.requires.longer in
+    let part = row_long c.args.width c.args.count c.args.met c.args.rows.now c.split_at_mut-low.result.1.now
+    c.split_at_mut-low.ensures.back c.requires.whole c.requires.longer in
     rw part c.requires.narrow
 
 pub values-requires-clause-elements : goal.values-requires-clause-elements
@@ -65,18 +61,14 @@ values-requires-clause-elements g c =
 
 pub subtract-requires-clause-values : goal.subtract-requires-clause-values
 subtract-requires-clause-values g c =
-    let w = c.args.width in
-    let rest = c.split_at_mut-low.result.1.now in
-    let part = row_long w c.args.count c.args.met c.args.rows.now rest c.split_at_mut-low.ensures.back c.requires.whole
-    c.requires.longer in
+    let part = row_long c.args.width c.args.count c.args.met c.args.rows.now c.split_at_mut-low.result.1.now
+    c.split_at_mut-low.ensures.back c.requires.whole c.requires.longer in
     c.requires.values ∙ ap (λ n. n * g.F.Field.coding.width) (sym (c.values.auto.into ∙ part))
 
 pub scale-requires-clause-narrow : goal.scale-requires-clause-narrow
 scale-requires-clause-narrow g c =
-    let w = c.args.width in
-    let rest = c.split_at_mut-low.result.1.now in
-    let part = row_long w c.args.count c.args.met c.args.rows.now rest c.split_at_mut-low.ensures.back c.requires.whole
-    c.requires.longer in
+    let part = row_long c.args.width c.args.count c.args.met c.args.rows.now c.split_at_mut-low.result.1.now
+    c.split_at_mut-low.ensures.back c.requires.whole c.requires.longer in
     rw (c.subtract.auto.row ∙ c.values.auto.into ∙ part) c.requires.narrow
 
 pub returns-clause-cost : goal.returns-clause-cost

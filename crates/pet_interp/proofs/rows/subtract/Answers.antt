@@ -4,7 +4,7 @@ use Rattle.std.proofs.lemmas.List.Elements.{All-set}
 use Rattle.pet_poly.specs.Rows.{words}
 use Rattle.pet_poly.specs.laws.RowLaws.{word_at}
 use Rattle.field_rows.specs.laws.PlaceLaws.{more_rows, filled}
-use Rattle.pet_interp.proofs.Places.{row_inside}
+use Rattle.pet_interp.proofs.Places.{word_inside}
 use Rattle.pet_interp.proofs.rows.subtract.Goals as goal
 
 pub loop-c-preserved : goal.loop-c-preserved
@@ -66,13 +66,11 @@ sub-requires g c = record {
 
 pub overflow_add-end : goal.overflow_add-end
 overflow_add-end g c =
-    let i = c.loop-c.invariant in
     omega (
       arith,
-      g.met.F.Field.wide,
-      i.at,
-      row_inside g.F.Field.coding.width (length c.args.row.now) c.loop-c.c (length c.args.values.now) c.requires.values
-          (omega arith),
+      word_inside g.F.Field.coding.width (length c.args.row.now) c.loop-c.c c.loop-c.at c.WIDTH.result
+          (length c.args.values.now) (c.WIDTH.ensures ∙ sym g.met.F.Field.wide) c.loop-c.invariant.at c.requires.values
+          c.loop-c-test.true,
     )
 
 pub slice_bounds-read-count : goal.slice_bounds-read-count
@@ -80,29 +78,18 @@ slice_bounds-read-count g c = omega arith
 
 pub slice_bounds-read-end : goal.slice_bounds-read-end
 slice_bounds-read-end g c =
-    let i = c.loop-c.invariant in
-    omega (
-      arith,
-      g.met.F.Field.wide,
-      i.at,
-      row_inside g.F.Field.coding.width (length c.args.row.now) c.loop-c.c (length c.args.values.now) c.requires.values
-          (omega arith),
-    )
+    word_inside g.F.Field.coding.width (length c.args.row.now) c.loop-c.c c.loop-c.at c.WIDTH.result
+    (length c.args.values.now) (c.WIDTH.ensures ∙ sym g.met.F.Field.wide) c.loop-c.invariant.at c.requires.values
+    c.loop-c-test.true
 
 pub read-requires : goal.read-requires
 read-requires g c =
     let at = c.loop-c.at in
     let size = at + c.WIDTH.result - at in
-    let i = c.loop-c.invariant in
-    length-take-le size (drop at c.args.values.now)
-    (omega (
-      arith,
-      length-drop at c.args.values.now,
-      g.met.F.Field.wide,
-      i.at,
-      row_inside g.F.Field.coding.width (length c.args.row.now) c.loop-c.c (length c.args.values.now) c.requires.values
-          (omega arith),
-    ))
+    let room = word_inside g.F.Field.coding.width (length c.args.row.now) c.loop-c.c at c.WIDTH.result
+    (length c.args.values.now) (c.WIDTH.ensures ∙ sym g.met.F.Field.wide) c.loop-c.invariant.at c.requires.values
+    c.loop-c-test.true in
+    length-take-le size (drop at c.args.values.now) (omega (arith, length-drop at c.args.values.now))
     ∙ omega (arith, g.met.F.Field.wide)
 
 pub bounds-row-c : goal.bounds-row-c

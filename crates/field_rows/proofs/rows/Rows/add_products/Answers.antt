@@ -1,7 +1,6 @@
-use Rattle.std.proofs.Common.{◌≡◌, ℕ, ◌+◌, ◌*◌, length, map, get_or, refl, ap, sym, ◌∙◌, arith}
+use Rattle.std.proofs.Common.{◌≡◌, ℕ, length, map, get_or, ap, sym, ◌∙◌, arith}
 use Rattle.std.proofs.lemmas.List.{get_or-map, length-map}
-use Rattle.field_rows.proofs.AddedRows.{sums_more, rest_more, next_room, next_cost}
-use Rattle.field_rows.specs.laws.PlaceLaws.{more_rows}
+use Rattle.field_rows.proofs.AddedRows.{none_added, row_added, next_room}
 use Rattle.field_rows.proofs.rows.Rows.add_products.Goals as goal
 
 pub add_scaled_at-requires-clause-room : goal.add_scaled_at-requires-clause-room
@@ -21,56 +20,36 @@ add_scaled_at-requires-clause-factor g c =
     rw c.element-by.ensures
     (rw is at (c.requires.factors c.loop-j.j z (rw (length-map factors R.element_of) (omega arith))))
 
+pub add_scaled_at-requires-clause-elements : goal.add_scaled_at-requires-clause-elements
+add_scaled_at-requires-clause-elements g c = c.loop-j.invariant.elements
+
 pub loop-j-preserved : goal.loop-j-preserved
 loop-j-preserved g c =
     let F = g.Self.Field in
-    let R = g.Self.Rows in
-    let o = F.coding.ops in
     let z = F.coding.ops.nought in
-    let row = c.args.row.now in
-    let old = c.args.rows.now in
+    let R = g.Self.Rows in
     let factors = c.args.factors.now in
     let j = c.loop-j.j in
-    let at = c.loop-j.at in
-    let rows = c.loop-j.rows in
     let x = c.index-factors-j.result in
-    let by = c.element-by.result in
-    let new = c.add_scaled_at.new.rows in
-    let place : at ≡ j * length row = c.loop-j.invariant.place in
-    let factor = λ (i : ℕ). get_or (map R.element_of factors) i z in
-    let by_is : by ≡ get_or (map R.element_of factors) j z =
-    c.element-by.ensures
+    let by_is = c.element-by.ensures
     ∙ sym (get_or-map R.element_of factors j x z (omega arith) ∙ ap R.element_of (sym c.index-factors-j.is)) in
-    let added = c.add_scaled_at.ensures in
-    record {
-      place = ap (λ n. n + length row) place ∙ sym (more_rows j (length row));
-      long = c.add_scaled_at.auto.rows ∙ c.loop-j.invariant.long;
-      elements = added.elements;
-      sums =
-          sums_more o j at row rows old new by factor place added.sums added.before added.behind by_is
-          c.loop-j.invariant.rest c.loop-j.invariant.sums;
-      rest =
-          rest_more o j at row rows old new by factor place added.sums added.before added.behind by_is
-          c.loop-j.invariant.rest;
-      cost =
-          next_cost j
-          (length row) c.args.steps.now c.loop-j.steps c.add_scaled_at.new.steps c.loop-j.invariant.cost added.cost;
-    }
+    let s = c.add_scaled_at in
+    row_added F.is_element F.coding.ops j c.loop-j.at c.args.row.now c.args.rows.now c.loop-j.rows s.new.rows
+    c.element-by.result (λ (i : ℕ). get_or (map R.element_of factors) i z) _ c.loop-j.steps s.new.steps
+    c.loop-j.invariant s.auto.rows s.ensures.elements s.ensures.sums s.ensures.before s.ensures.behind by_is
+    s.ensures.cost
 
 pub loop-j-init : goal.loop-j-init
 loop-j-init g c =
+    none_added g.Self.Field.is_element g.Self.Field.coding.ops c.args.row.now c.args.rows.now _ _ c.requires.elements
+
+pub returns : goal.returns
+returns g c =
+    let has = c.loop-j.invariant in
+    let all : c.loop-j.j ≡ length c.args.factors.now = omega arith in
     record {
-      place = omega arith;
-      long = refl;
-      elements = c.requires.elements;
-      sums = λ i k l m. absurd (omega arith);
-      rest = λ i l. refl;
-      cost = omega arith;
+      sums = λ i k l m. has.sums i k (omega arith) m;
+      others = λ i l. has.rest i (rw all l);
+      elements = has.elements;
+      cost = rw all at has.cost;
     }
-
-pub returns-clause-sums : goal.returns-clause-sums
-returns-clause-sums g c = λ i k l m. c.loop-j.invariant.sums i k (omega arith) m
-
-pub returns-clause-others : goal.returns-clause-others
-returns-clause-others g c = λ i l. let e : c.loop-j.j ≡ length c.args.factors.now = omega arith in
-    c.loop-j.invariant.rest i (rw e l)

@@ -1,20 +1,10 @@
-use Rattle.std.proofs.Common.{◌≡◌, ℕ, ◌+◌, ◌*◌, ◌<◌, ◌≤◌, length, map, All, slice_index_or}
+use Rattle.std.proofs.Common.{ℕ, map}
+use Rattle.std.specs.Prelude.{slice_index_or}
+use Rattle.field_rows.proofs.AddedRows.{HasAdded}
 use Rattle.field_rows.proofs.rows.Rows.add_products.Given as goal
 
 abbrev pub invariant-loop-j : goal.invariant-loop-j
-invariant-loop-j g l = record {
-  place : l.at ≡ l.j * length l.row;
-  long : length l.rows ≡ length l.initial.rows;
-  elements : All g.Self.Field.is_element l.rows;
-  sums : (i c : ℕ) → i < l.j → c < length l.row
-      → slice_index_or l.rows (i * length l.row + c) g.Self.Field.coding.ops.nought
-      ≡ g.Self.Field.coding.ops.plus
-      (slice_index_or l.initial.rows (i * length l.row + c) g.Self.Field.coding.ops.nought)
-      (g.Self.Field.coding.ops.times (slice_index_or
-      (map g.Self.Rows.element_of l.factors) i g.Self.Field.coding.ops.nought)
-      (slice_index_or l.row c g.Self.Field.coding.ops.nought));
-  rest : (i : ℕ) → l.j * length l.row ≤ i
-      → slice_index_or l.rows i g.Self.Field.coding.ops.nought
-      ≡ slice_index_or l.initial.rows i g.Self.Field.coding.ops.nought;
-  cost : l.steps ≡ l.initial.steps + l.j * length l.row;
-}
+invariant-loop-j g l =
+    HasAdded g.Self.Field.is_element g.Self.Field.coding.ops l.j l.at l.row l.initial.rows l.rows
+    (λ (i : ℕ). slice_index_or (map g.Self.Rows.element_of l.factors) i g.Self.Field.coding.ops.nought)
+    l.initial.steps l.steps

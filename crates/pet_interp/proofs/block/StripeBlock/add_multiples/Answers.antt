@@ -5,7 +5,7 @@ use Rattle.std.proofs.lemmas.List.Elements.{All-same}
 use Rattle.field_rows.specs.Columns.{block_columns}
 use Rattle.pet_interp.specs.Blocks.{HeldBlock, stripes_of}
 use Rattle.pet_interp.specs.inside.Lifted.{grown}
-use Rattle.pet_interp.proofs.BlockStripes.{stripes_each, stripes_waiting, columns_grown, grown_none, each_new}
+use Rattle.pet_interp.proofs.BlockStripes.{stripes_each, stripes_waiting, columns_grown, grown_none, laid_new, each_new}
 use Rattle.pet_interp.proofs.BlockStripes.{waits_here, each_seen, longer_seen, none_longer}
 use Rattle.pet_interp.proofs.block.StripeBlock.add_multiples.Goals as goal
 
@@ -20,22 +20,18 @@ add_rows-requires-clause-elements g c =
 pub invariant_of-self : goal.invariant_of-self
 invariant_of-self g c =
     let b = c.self.inside in
-    let new = c.add_rows.new.rows in
-    let kept = with_items_is b.places new (c.add_rows.auto.rows ∙ c.deref_mut.ensures.len) in
-    record {
-      narrow = c.self.invariant.narrow;
-      whole = ap length kept ∙ c.add_rows.auto.rows ∙ ap length c.deref_mut.ensures.value ∙ c.self.invariant.whole;
-      elements = All-same g.F.Field.is_element _ new kept c.add_rows.ensures.elements;
-    }
+    laid_new g.F.Field.is_element b.width b.size _ c.add_rows.new.rows c.deref_mut.result.now b.places.items
+    (with_items_is b.places c.add_rows.new.rows (c.add_rows.auto.rows ∙ c.deref_mut.ensures.len))
+    c.add_rows.auto.rows c.deref_mut.ensures.value c.self.invariant c.add_rows.ensures.elements
 
 pub returns-then-met-self-clause-each : goal.returns-then-met-self-clause-each
 returns-then-met-self-clause-each g c =
     let F = g.F.Field in
     let b = c.self.inside in
-    let kept = with_items_is b.places c.add_rows.new.rows (c.add_rows.auto.rows ∙ c.deref_mut.ensures.len) in
-    each_new F.is_element F.coding.ops.nought b.waits b.width b.size
-    (with_items b.places c.add_rows.new.rows).items c.add_rows.new.rows kept
-    (c.add_rows.auto.rows ∙ ap length c.deref_mut.ensures.value ∙ c.self.invariant.whole) c.add_rows.ensures.elements
+    let new = c.add_rows.new.rows in
+    each_new F.is_element F.coding.ops.nought b.waits b.width b.size (with_items b.places new).items new
+    c.deref_mut.result.now b.places.items (with_items_is b.places new (c.add_rows.auto.rows ∙ c.deref_mut.ensures.len))
+    c.add_rows.auto.rows c.deref_mut.ensures.value c.self.invariant c.add_rows.ensures.elements
 
 pub returns-then-met-self-clause-stripes : goal.returns-then-met-self-clause-stripes
 returns-then-met-self-clause-stripes g c =

@@ -7,7 +7,7 @@ use Rattle.pet_interp.specs.Blocks.{HeldBlock, stripes_of}
 use Rattle.pet_interp.specs.inside.Lifted.{begun_all}
 use Rattle.pet_poly.specs.Rows.{words}
 use Rattle.pet_poly.specs.laws.RowLaws.{length-words}
-use Rattle.pet_interp.proofs.BlockStripes.{stripes_each, stripes_waiting, columns_begun, begun_none, each_new}
+use Rattle.pet_interp.proofs.BlockStripes.{stripes_each, stripes_waiting, columns_begun, begun_none, laid_new, each_new}
 use Rattle.pet_interp.proofs.BlockStripes.{waits_here, count_seen, each_seen, longer_seen, none_longer}
 use Rattle.pet_interp.proofs.block.StripeBlock.begin.Goals as goal
 
@@ -22,13 +22,9 @@ begin_row-requires-clause-elements g c =
 pub invariant_of-self : goal.invariant_of-self
 invariant_of-self g c =
     let b = c.self.inside in
-    let new = c.begin_row.new.rows in
-    let kept = with_items_is b.places new (c.begin_row.auto.rows ∙ c.deref_mut.ensures.len) in
-    record {
-      narrow = c.self.invariant.narrow;
-      whole = ap length kept ∙ c.begin_row.auto.rows ∙ ap length c.deref_mut.ensures.value ∙ c.self.invariant.whole;
-      elements = All-same g.F.Field.is_element _ new kept c.begin_row.ensures.elements;
-    }
+    laid_new g.F.Field.is_element b.width b.size _ c.begin_row.new.rows c.deref_mut.result.now b.places.items
+    (with_items_is b.places c.begin_row.new.rows (c.begin_row.auto.rows ∙ c.deref_mut.ensures.len))
+    c.begin_row.auto.rows c.deref_mut.ensures.value c.self.invariant c.begin_row.ensures.elements
 
 pub begin_row-requires-clause-values : goal.begin_row-requires-clause-values
 begin_row-requires-clause-values g c =
@@ -41,10 +37,10 @@ pub returns-then-met-self-clause-each : goal.returns-then-met-self-clause-each
 returns-then-met-self-clause-each g c =
     let F = g.F.Field in
     let b = c.self.inside in
-    let kept = with_items_is b.places c.begin_row.new.rows (c.begin_row.auto.rows ∙ c.deref_mut.ensures.len) in
-    each_new F.is_element F.coding.ops.nought b.waits b.width b.size
-    (with_items b.places c.begin_row.new.rows).items c.begin_row.new.rows kept
-    (c.begin_row.auto.rows ∙ ap length c.deref_mut.ensures.value ∙ c.self.invariant.whole) c.begin_row.ensures.elements
+    let new = c.begin_row.new.rows in
+    each_new F.is_element F.coding.ops.nought b.waits b.width b.size (with_items b.places new).items new
+    c.deref_mut.result.now b.places.items (with_items_is b.places new (c.begin_row.auto.rows ∙ c.deref_mut.ensures.len))
+    c.begin_row.auto.rows c.deref_mut.ensures.value c.self.invariant c.begin_row.ensures.elements
 
 pub returns-then-met-self-clause-stripes : goal.returns-then-met-self-clause-stripes
 returns-then-met-self-clause-stripes g c =

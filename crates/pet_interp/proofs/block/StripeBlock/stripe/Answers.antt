@@ -1,43 +1,27 @@
-use Rattle.std.proofs.Common.{◌≡◌, ◌∙◌, ◌+◌, ◌-◌, ◌*◌, ◌≤◌, false, [], length, get_or, take, drop, ap, ap₂, sym, arith}
+use Rattle.std.proofs.Common.{◌≡◌, ◌∙◌, ◌+◌, ◌-◌, ◌*◌, false, [], length, get_or, take, drop, ap, ap₂, sym, arith}
 use Rattle.pet_interp.specs.Blocks.{HeldBlock}
-use Rattle.pet_interp.proofs.BlockStripes.{length-stripes, stripes_known, inside_cut}
+use Rattle.pet_interp.proofs.BlockStripes.{length-stripes, stripes_known, stripe_room}
 use Rattle.field_rows.specs.laws.StripeLaws.{cut_at}
 use Rattle.pet_interp.proofs.block.StripeBlock.stripe.Goals as goal
 
 pub overflow_mul-start : goal.overflow_mul-start
 overflow_mul-start g c =
-    let b = c.self.inside in
-    let count = ap (λ (v : HeldBlock g.row.F-Elem.Denot). length v.stripes) (sym c.self.view_is)
-    ∙ length-stripes g.F.Field.coding.ops.nought b.waits b.width b.size b.places.items in
-    let room : c.args.i * b.size + b.size ≤ length b.places.items =
-    inside_cut b.width b.size c.args.i (length b.places.items) (omega (arith, count)) c.self.invariant.whole in
+    let room = stripe_room g.F.Field.coding.ops.nought c.args.i c.self.view_is c.self.invariant c.requires.stripe in
     omega (arith, room)
 
 pub overflow_add-result : goal.overflow_add-result
 overflow_add-result g c =
-    let b = c.self.inside in
-    let count = ap (λ (v : HeldBlock g.row.F-Elem.Denot). length v.stripes) (sym c.self.view_is)
-    ∙ length-stripes g.F.Field.coding.ops.nought b.waits b.width b.size b.places.items in
-    let room : c.args.i * b.size + b.size ≤ length b.places.items =
-    inside_cut b.width b.size c.args.i (length b.places.items) (omega (arith, count)) c.self.invariant.whole in
+    let room = stripe_room g.F.Field.coding.ops.nought c.args.i c.self.view_is c.self.invariant c.requires.stripe in
     omega (arith, room)
 
 pub offset_bounds-deref-start : goal.offset_bounds-deref-start
 offset_bounds-deref-start g c =
-    let b = c.self.inside in
-    let count = ap (λ (v : HeldBlock g.row.F-Elem.Denot). length v.stripes) (sym c.self.view_is)
-    ∙ length-stripes g.F.Field.coding.ops.nought b.waits b.width b.size b.places.items in
-    let room : c.args.i * b.size + b.size ≤ length b.places.items =
-    inside_cut b.width b.size c.args.i (length b.places.items) (omega (arith, count)) c.self.invariant.whole in
-    omega (arith, ap length c.deref.ensures.value)
+    let room = stripe_room g.F.Field.coding.ops.nought c.args.i c.self.view_is c.self.invariant c.requires.stripe in
+    omega (arith, room, ap length c.deref.ensures.value)
 
 pub slice_bounds-result-end : goal.slice_bounds-result-end
 slice_bounds-result-end g c =
-    let b = c.self.inside in
-    let count = ap (λ (v : HeldBlock g.row.F-Elem.Denot). length v.stripes) (sym c.self.view_is)
-    ∙ length-stripes g.F.Field.coding.ops.nought b.waits b.width b.size b.places.items in
-    let room : c.args.i * b.size + b.size ≤ length b.places.items =
-    inside_cut b.width b.size c.args.i (length b.places.items) (omega (arith, count)) c.self.invariant.whole in
+    let room = stripe_room g.F.Field.coding.ops.nought c.args.i c.self.view_is c.self.invariant c.requires.stripe in
     omega (arith, room, ap length c.deref.ensures.value)
 
 pub returns : goal.returns

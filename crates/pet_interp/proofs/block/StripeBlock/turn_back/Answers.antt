@@ -7,6 +7,7 @@ use Rattle.field_rows.specs.Columns.{block_columns}
 use Rattle.field_rows.specs.Stripes.{cut}
 use Rattle.pet_interp.specs.Blocks.{HeldBlock}
 use Rattle.pet_interp.proofs.BlockStripes.{length-stripes, stripes_waiting, turned_stripes, turned_elements}
+use Rattle.pet_interp.proofs.BlockStripes.{laid_new}
 use Rattle.pet_interp.proofs.block.StripeBlock.turn_back.Goals as goal
 
 pub turn_rows-requires-clause-room : goal.turn_rows-requires-clause-room
@@ -20,27 +21,21 @@ turn_rows-requires-clause-room g c =
 
 pub invariant_of-self : goal.invariant_of-self
 invariant_of-self g c =
-    let F = g.F.Field in
-    let z = F.coding.ops.nought in
-    let P = F.is_element in
+    let P = g.F.Field.is_element in
     let b = c.self.inside in
     let old = c.deref_mut.result.now in
     let new = c.turn_rows.new.rows in
-    let kept = with_items_is b.places new (c.turn_rows.auto.rows ∙ c.deref_mut.ensures.len) in
-    let whole : length old ≡ b.size * b.width = ap length c.deref_mut.ensures.value ∙ c.self.invariant.whole in
-    let long : length new ≡ b.size * b.width = c.turn_rows.auto.rows ∙ whole in
-    record {
-      narrow = c.self.invariant.narrow;
-      whole = ap length kept ∙ long;
-      elements =
-          All-same P _ new kept (turned_elements P z b.width b.size old new long whole
-          (All-same P old b.places.items c.deref_mut.ensures.value c.self.invariant.elements) (c.turn_rows.ensures z));
-    }
+    let was = c.deref_mut.ensures.value in
+    let whole : length old ≡ b.size * b.width = ap length was ∙ c.self.invariant.whole in
+    laid_new P b.width b.size _ new old b.places.items
+    (with_items_is b.places new (c.turn_rows.auto.rows ∙ c.deref_mut.ensures.len)) c.turn_rows.auto.rows was
+    c.self.invariant
+    (turned_elements P g.F.Field.coding.ops.nought b.width b.size old new (c.turn_rows.auto.rows ∙ whole) whole
+    (All-same P old b.places.items was c.self.invariant.elements) (c.turn_rows.ensures g.F.Field.coding.ops.nought))
 
 pub returns-then-self-met-clause-stripes : goal.returns-then-self-met-clause-stripes
 returns-then-self-met-clause-stripes g c =
-    let F = g.F.Field in
-    let z = F.coding.ops.nought in
+    let z = g.F.Field.coding.ops.nought in
     let b = c.self.inside in
     let old = c.deref_mut.result.now in
     let new = c.turn_rows.new.rows in
