@@ -1,5 +1,5 @@
 -- Where a splitter stands to which pieces were added (this project's own).
-use Rattle.std.specs.Prelude.{◌≡◌, ℕ, ◌+◌, ◌-◌, ◌^◌, ◌<◌, ◌≤◌, ◌⊎◌, min, Bool, List, [], ◌∷◌, ◌++◌, length, map}
+use Rattle.std.specs.Prelude.{◌≡◌, ◌≢◌, ℕ, ◌+◌, ◌-◌, ◌^◌, ◌<◌, ◌≤◌, ◌⊎◌, min, Bool, List, [], ◌∷◌, ◌++◌, length, map}
 use Rattle.std.specs.Prelude.{slice_index, Option, Some, None, All, ◌==◌, not, true, false, if◌then◌else◌}
 use Rattle.std.specs.List.{list_any, sum_by}
 use Rattle.pet_base.specs.declared.kind.Kind.{Kind}
@@ -9,6 +9,7 @@ use Rattle.mpeg_scan.specs.declared.piece.Piece.{Piece}
 use Rattle.priority_file.specs.Priority.{Priorities, layer_of}
 use Rattle.layer_split.specs.declared.cut.Run.{Run}
 use Rattle.layer_split.specs.declared.fault.SplitFault.{SplitFault}
+use Rattle.layer_split.specs.declared.fault.SplitFault.TheVariants as split
 use Rattle.layer_split.specs.declared.kind_layers.KindLayers.{KindLayers}
 use Rattle.layer_split.specs.declared.kind_layers.TheConstants.{PLACES}
 use Rattle.layer_split.specs.declared.places.Places.{Places}
@@ -17,7 +18,7 @@ use Rattle.layer_split.specs.Groups.{groups_of, groups_from, last_group, is_pict
 use Rattle.layer_split.specs.Places.{number_of}
 use Rattle.layer_split.specs.Runs.{runs_of, both}
 use Rattle.layer_split.specs.Layers.{Cut, cut_of, run_table_size}
-use Rattle.layer_split.specs.Faults.{is_too_long}
+use Rattle.layer_split.specs.Faults.{fault_of, is_too_long}
 
 -- the cuts of these groups
 abbrev pub cuts_of : Priorities → List (List Piece) → List Cut
@@ -122,6 +123,22 @@ HasRefused splitter fault = splitter.refused ≡ Some fault
 abbrev pub cuts_in : Option Cut → List Cut
 cuts_in None = []
 cuts_in (Some cut) = cut ∷ []
+
+-- what the next piece does: the cut that it gives comes behind those before
+abbrev pub TakesOn : Splitter → Splitter → Piece → Option Cut → Type 0
+TakesOn old new piece cut = (priority : Priorities) (pieces : List Piece) (cuts : List Cut)
+    → HasAdded old priority pieces cuts → HasAdded new priority (pieces ++ piece ∷ []) (cuts ++ cuts_in cut)
+
+-- unless memory ran out, this is the fault of the pieces with this one, whatever comes later
+abbrev pub MeetsFault : Splitter → Piece → SplitFault → Type 0
+MeetsFault old piece fault = fault ≢ split.NoMemory → (priority : Priorities) (pieces : List Piece) (cuts : List Cut)
+    → HasAdded old priority pieces cuts → (later : List Piece)
+    → fault_of (layer_of priority) (length priority.layers) (groups_of (pieces ++ piece ∷ later)) ≡ Some fault
+
+-- and this piece would begin another group, behind one that is too long or the last that may be
+abbrev pub MeetsLast : Splitter → Piece → SplitFault → Type 0
+MeetsLast old piece fault = fault ≢ split.NoMemory → (priority : Priorities) (pieces : List Piece) (cuts : List Cut)
+    → HasAdded old priority pieces cuts → IsOneTooMany priority pieces piece
 
 -- a run whose place is counted from this byte
 abbrev pub rebased : ℕ → Run → Run

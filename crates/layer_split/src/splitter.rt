@@ -8,7 +8,7 @@ ghost use Rattle.layer_split.specs.Groups.{groups_of, last_group};
 ghost use Rattle.layer_split.specs.Groups as groups;
 ghost use Rattle.layer_split.specs.Layers.{Cut, cut_of};
 ghost use Rattle.layer_split.specs.Faults.{fault_of, is_too_long};
-ghost use Rattle.layer_split.specs.Splitting.{HasAdded, HasRefused, IsOneTooMany, Holds, KeepsRest, AreOf, cuts_in, cuts_of};
+ghost use Rattle.layer_split.specs.Splitting.{HasAdded, HasRefused, IsOneTooMany, Holds, KeepsRest, AreOf, TakesOn, MeetsFault, MeetsLast, cuts_in, cuts_of};
 
 use crate::cut::{GroupCut, Run};
 use crate::fault::SplitFault;
@@ -129,15 +129,11 @@ impl Splitter {
 
     /// Adds the next piece to the current group, or ends that and begins another with it.
     fn next(&mut self, piece: &Piece) -> Result<Option<GroupCut>, SplitFault>
-        ensures ok { IfOk result (λ cut. (priority : Priorities) (pieces : List Piece) (cuts : List Cut) → HasAdded self.old priority pieces cuts
-            → HasAdded self.new priority (pieces ++ piece.now ∷ []) (cuts ++ cuts_in cut)) }
+        ensures ok { IfOk result (λ cut. TakesOn self.old self.new piece.now cut) }
         ensures begins { IfOk result (λ cut. (priority : Priorities) (pieces : List Piece) (cuts : List Cut) → HasAdded self.old priority pieces cuts
             → is_some cut ≡ groups.begins_group (last_group pieces) piece.now) }
-        ensures refusal { IfErr result (λ fault. fault ≢ SplitFault.NoMemory → (priority : Priorities) (pieces : List Piece) (cuts : List Cut)
-            → HasAdded self.old priority pieces cuts → (later : List Piece)
-            → fault_of (layer_of priority) (length priority.layers) (groups_of (pieces ++ piece.now ∷ later)) ≡ Some fault) }
-        ensures last { IfErr result (λ fault. fault ≢ SplitFault.NoMemory → (priority : Priorities) (pieces : List Piece) (cuts : List Cut)
-            → HasAdded self.old priority pieces cuts → IsOneTooMany priority pieces piece.now) }
+        ensures refusal { IfErr result (λ fault. MeetsFault self.old piece.now fault) }
+        ensures last { IfErr result (λ fault. MeetsLast self.old piece.now fault) }
     {
         if begins_group(self.has_picture, piece.code) {
             let cut = self.end_group()?;

@@ -83,17 +83,14 @@ alone s scan u short h only = record { holding = h; first = λ other k. inl (onl
 
 -- before the first opener
 front_no_code : (s : List ℕ) (p : ℕ) → IsFront s → HasStartCode s p → ⊥
-front_no_code s p (inl z) st =
+front_no_code s p f st =
     let w = st.within in
     let o = st.one in
-    let k : slice_index s (p + 2) ≡ 0 = at_back_whole s (p + 2) (length s - (p + 2)) (omega arith) (omega arith)
-    ∙ all_zero_back s (length s - (p + 2)) z (omega arith) (omega arith) in
-    omega arith
-front_no_code s p (inr h) st =
-    let w = st.within in
-    let o = st.one in
-    let k : slice_index s (p + 2) ≡ 0 = at_back_whole s (p + 2) (length s - (p + 2)) (omega arith) (omega arith)
-    ∙ zeros_one_back s (length s - (p + 2)) h (omega arith) (omega arith) in
+    let none : back s (length s - (p + 2)) ≡ 0 = elim f [
+      | inl z ↦ all_zero_back s (length s - (p + 2)) z (omega arith) (omega arith)
+      | inr h ↦ zeros_one_back s (length s - (p + 2)) h (omega arith) (omega arith)
+    ] in
+    let k : slice_index s (p + 2) ≡ 0 = at_back_whole s (p + 2) (length s - (p + 2)) (omega arith) (omega arith) ∙ none in
     omega arith
 
 front_no_head : (s : List ℕ) → IsFront s → has_head s ≡ false

@@ -1,6 +1,6 @@
 -- A scanner that has read a stream reads one byte more.
 use Rattle.std.proofs.Common.{◌≡◌, ◌≢◌, ℕ, suc, ◌+◌, ◌-◌, ◌/◌, ◌%◌, ◌<◌, ◌≤◌, true, false, List, [], ◌∷◌, ◌++◌, length}
-use Rattle.std.proofs.Common.{sym, ◌∙◌, ap, subst, arith, append_assoc, inl, inr}
+use Rattle.std.proofs.Common.{cond, sym, ◌∙◌, ap, subst, arith, append_assoc, inl, inr}
 use Rattle.std.specs.Prelude.{◌==◌}
 use Rattle.std.specs.List.{filter, range_with_len}
 use Rattle.std.proofs.lemmas.List.{length_push}
@@ -22,23 +22,20 @@ pub push_more : (s : List ℕ) (x : ℕ) (rest : List ℕ) → (s ++ x ∷ []) +
 push_more s x rest = append_assoc s (x ∷ []) rest
 
 -- the openers from a byte on
+openers_at : (S : List ℕ) (k : ℕ) → k < length S
+    → openers_from S k ≡ cond (is_opener S k) (k ∷ openers_from S (k + 1)) (openers_from S (k + 1))
+unfolding openers_from
+openers_at S k lt =
+    ap (λ n. filter (is_opener S) (range_with_len k n))
+    (let l : length S - k ≡ suc (length S - (k + 1)) = omega arith in l)
+
 pub openers_skip : (S : List ℕ) (k : ℕ) → k < length S → is_opener S k ≡ false
     → openers_from S k ≡ openers_from S (k + 1)
-unfolding openers_from
-openers_skip S k lt e =
-    let l : length S - k ≡ suc (length S - (k + 1)) = omega arith in
-    ap (λ n. filter (is_opener S) (range_with_len k n)) l
-    ∙ cond-false (is_opener S k) (k ∷ filter (is_opener S) (range_with_len (k + 1) (length S - (k + 1))))
-    (filter (is_opener S) (range_with_len (k + 1) (length S - (k + 1)))) e
+openers_skip S k lt e = openers_at S k lt ∙ cond-false (is_opener S k) _ _ e
 
 pub openers_next : (S : List ℕ) (k : ℕ) → k < length S → is_opener S k ≡ true
     → openers_from S k ≡ k ∷ openers_from S (k + 1)
-unfolding openers_from
-openers_next S k lt e =
-    let l : length S - k ≡ suc (length S - (k + 1)) = omega arith in
-    ap (λ n. filter (is_opener S) (range_with_len k n)) l
-    ∙ cond-true (is_opener S k) (k ∷ filter (is_opener S) (range_with_len (k + 1) (length S - (k + 1))))
-    (filter (is_opener S) (range_with_len (k + 1) (length S - (k + 1)))) e
+openers_next S k lt e = openers_at S k lt ∙ cond-true (is_opener S k) _ _ e
 
 -- an opener whose code is the byte x
 abbrev pub OpensNow : List ℕ → ℕ → Type 0

@@ -1,5 +1,5 @@
 -- What a call that was done, or was not, does to what is seen of a file in memory.
-use Rattle.std.proofs.Common.{◌≡◌, ℕ, ◌++◌, [], ◌∷◌, length, sym, subst}
+use Rattle.std.proofs.Common.{◌≡◌, ℕ, ◌++◌, [], ◌∷◌, length, sym, ◌∙◌, subst}
 use Rattle.std.specs.Prelude.{Vec}
 use Rattle.std.specs.declared.alloc.Global.{Global}
 use Rattle.outside_disk.specs.Disk.{DiskSeen, Tells, Between, IfTold, Leaves, LeavesTorn, LeavesCut, IsSynced, image}
@@ -14,6 +14,16 @@ use Rattle.outside_disk.specs.declared.memory.MemoryDisk.{MemoryDisk}
 
 seen_kept : (old new : MemoryDisk) → KeepsFile old new → memory_seen new ≡ memory_seen old
 seen_kept old new k = λ i. Tells (told_at (content (k.first i) (k.current i)) (k.first i).items (k.events i))
+
+-- a call that was counted before keeps the file too
+pub kept_from : (old mid new : MemoryDisk) → mid.first ≡ old.first → mid.current ≡ old.current
+    → mid.synced ≡ old.synced → mid.events.items ≡ old.events.items → KeepsFile mid new → KeepsFile old new
+kept_from old mid new first current synced events k = record {
+  first = k.first ∙ first;
+  current = k.current ∙ current;
+  synced = k.synced ∙ synced;
+  events = k.events ∙ events;
+}
 
 seen_done : (event : Event) (old new : MemoryDisk) → Does event old new
     → memory_seen new ≡ Tells (told_at (memory_bytes new) old.first.items (old.events.items ++ event ∷ []))

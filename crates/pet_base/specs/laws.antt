@@ -1,3 +1,4 @@
 pub mod SeenLaws
 pub mod EntriesLaws
+pub mod FrontLaws
 pub mod Through

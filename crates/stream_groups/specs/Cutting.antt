@@ -185,6 +185,22 @@ pub record HasEnded (cutter : GroupCutter) (priority : Priorities) (stream : Lis
   pub bounded : length stream ≤ max_stream
   pub looked : HasLooked cutter priority stream (pieces_of stream) given
 
+-- what looking at pieces does: the group that it gives comes behind those before
+abbrev pub LooksOn : GroupCutter → GroupCutter → Option CutGroup → Type 0
+LooksOn old new group = (priority : Priorities) (seen : List ℕ) (pieces : List Piece) (given : List CutGroup)
+    → HasLooked old priority seen pieces given → HasLooked new priority seen pieces (given ++ groups_in group)
+
+-- unless memory ran out, this is the fault of the groups, whatever comes behind these pieces
+abbrev pub MeetsFault : GroupCutter → SplitFault → Type 0
+MeetsFault old fault = fault ≢ split.NoMemory → (priority : Priorities) (seen : List ℕ) (pieces : List Piece)
+    (given : List CutGroup) → HasLooked old priority seen pieces given → (later : List Piece)
+    → fault_of (layer_of priority) (length priority.layers) (groups_of (pieces ++ later)) ≡ Some fault
+
+-- and one of these pieces meets it
+abbrev pub MeetsLimit : GroupCutter → SplitFault → Type 0
+MeetsLimit old fault = fault ≢ split.NoMemory → (priority : Priorities) (seen : List ℕ) (pieces : List Piece)
+    (given : List CutGroup) → HasLooked old priority seen pieces given → HasMetLimit priority pieces given
+
 -- what the reading of a portion leaves alone: all but the scanner, its refusal, and the pieces, which it appends
 pub record KeepsHeld (old new : GroupCutter) : Type 0 where
   pub splitter : new.splitter ≡ old.splitter

@@ -1,18 +1,16 @@
 //! The groups of a stream with their bytes, one by one.
-ghost use Rattle.std.specs.Prelude.{◌≡◌, ◌≢◌, ◌-◌, ◌<◌, ◌≤◌, ◌++◌, ◌∷◌, ℕ, List, [], All, length, map, take, drop, OnOk, OnErr, IfOk, IfErr, IfNone, IsSome, Ok, Some, None};
+ghost use Rattle.std.specs.Prelude.{◌≡◌, ◌≢◌, ◌-◌, ◌<◌, ◌≤◌, ◌++◌, ◌∷◌, ℕ, List, [], All, map, take, drop, OnOk, OnErr, IfOk, IfErr, IfNone, IsSome, Ok, Some, None};
 ghost use Rattle.mpeg_scan.specs.declared.piece.Piece.{Piece};
 ghost use Rattle.mpeg_scan.specs.Pieces.{pieces_of};
 ghost use Rattle.mpeg_scan.specs.declared.refusal.Scan.{Scan};
 ghost use Rattle.mpeg_scan.specs.Refusals.{IsAccepted};
 ghost use Rattle.mpeg_scan.specs.Scanning.{HasRead};
-ghost use Rattle.priority_file.specs.Priority.{Priorities, layer_of};
+ghost use Rattle.priority_file.specs.Priority.{Priorities};
 ghost use Rattle.layer_split.specs.declared.fault.SplitFault.{SplitFault};
-ghost use Rattle.layer_split.specs.Groups.{groups_of};
-ghost use Rattle.layer_split.specs.Faults.{fault_of};
 ghost use Rattle.layer_split.specs.Splitting.{rebased};
 ghost use Rattle.stream_groups.specs.CutGroups.{CutGroup};
 ghost use Rattle.stream_groups.specs.declared.fault.CutFault.{CutFault};
-ghost use Rattle.stream_groups.specs.Cutting.{HasCut, HasLooked, HasEnded, AreAll, IsCutFault, NoneFurther, HasMetLimit, KeepsHeld, KeepsPieces, KeepsPending, ScansOn, Ends, cut_groups, groups_fault, group_from, groups_in, pieces_left};
+ghost use Rattle.stream_groups.specs.Cutting.{HasCut, HasEnded, AreAll, IsCutFault, NoneFurther, LooksOn, MeetsFault, MeetsLimit, KeepsHeld, KeepsPieces, KeepsPending, ScansOn, Ends, cut_groups, groups_fault, group_from, groups_in, pieces_left};
 
 use crate::fault::CutFault;
 use layer_split::{GroupCut, SplitFault, Splitter};
@@ -193,13 +191,9 @@ impl GroupCutter {
 
     /// Looks at pieces until a group has ended, or none is left.
     fn look_on(&mut self) -> Result<Option<Group>, SplitFault>
-        ensures looked { IfOk result (λ group. (priority : Priorities) (seen : List ℕ) (pieces : List Piece) (given : List CutGroup)
-            → HasLooked self.old priority seen pieces given → HasLooked self.new priority seen pieces (given ++ groups_in group)) }
-        ensures fault { IfErr result (λ fault. fault ≢ SplitFault.NoMemory → (priority : Priorities) (seen : List ℕ) (pieces : List Piece) (given : List CutGroup)
-            → HasLooked self.old priority seen pieces given → (later : List Piece)
-            → fault_of (layer_of priority) (length priority.layers) (groups_of (pieces ++ later)) ≡ Some fault) }
-        ensures limit { IfErr result (λ fault. fault ≢ SplitFault.NoMemory → (priority : Priorities) (seen : List ℕ) (pieces : List Piece) (given : List CutGroup)
-            → HasLooked self.old priority seen pieces given → HasMetLimit priority pieces given) }
+        ensures looked { IfOk result (λ group. LooksOn self.old self.new group) }
+        ensures fault { IfErr result (λ fault. MeetsFault self.old fault) }
+        ensures limit { IfErr result (λ fault. MeetsLimit self.old fault) }
         ensures fewer { IfOk result (λ group. IsSome group
             → pieces_left self.new < pieces_left self.old) }
         ensures done { IfOk result (λ group. IfNone group (pieces_left self.new ≡ 0)) }
@@ -218,13 +212,9 @@ impl GroupCutter {
     /// Looks at the next piece.
     fn look(&mut self) -> Result<Option<Group>, SplitFault>
         requires { 0 < pieces_left self.old }
-        ensures looked { IfOk result (λ group. (priority : Priorities) (seen : List ℕ) (pieces : List Piece) (given : List CutGroup)
-            → HasLooked self.old priority seen pieces given → HasLooked self.new priority seen pieces (given ++ groups_in group)) }
-        ensures fault { IfErr result (λ fault. fault ≢ SplitFault.NoMemory → (priority : Priorities) (seen : List ℕ) (pieces : List Piece) (given : List CutGroup)
-            → HasLooked self.old priority seen pieces given → (later : List Piece)
-            → fault_of (layer_of priority) (length priority.layers) (groups_of (pieces ++ later)) ≡ Some fault) }
-        ensures limit { IfErr result (λ fault. fault ≢ SplitFault.NoMemory → (priority : Priorities) (seen : List ℕ) (pieces : List Piece) (given : List CutGroup)
-            → HasLooked self.old priority seen pieces given → HasMetLimit priority pieces given) }
+        ensures looked { IfOk result (λ group. LooksOn self.old self.new group) }
+        ensures fault { IfErr result (λ fault. MeetsFault self.old fault) }
+        ensures limit { IfErr result (λ fault. MeetsLimit self.old fault) }
         ensures fewer { OnOk result (pieces_left self.new < pieces_left self.old) }
         ensures rest { (self.new.scanner ≡ self.old.scanner) × (self.new.scan ≡ self.old.scan)
             × (self.new.fault ≡ self.old.fault) }

@@ -3,6 +3,7 @@ use Rattle.std.proofs.Common.{◌≡◌, ℕ, ◌+◌, ◌<◌, ◌≤◌, List,
 use Rattle.std.proofs.Common.{length, nat_lt, refl, sym, ◌∙◌, ap, arith, inl, inr}
 use Rattle.std.proofs.lemmas.Bool.{cond-true, cond-false, cases_Bool, lt-ltb, le-ltb}
 use Rattle.std.proofs.lemmas.List.{drop_more}
+use Rattle.std.specs.Prelude.{if◌then◌else◌}
 use Rattle.stripe_plan.specs.Sizes.{Sizes}
 use Rattle.stream_session.specs.Refusals.{first_above}
 use Rattle.stream_session.specs.inside.Planning.{above_from, table_cost}
@@ -38,14 +39,21 @@ pub above_from_start : (limit : ℕ) (costs : List ℕ) → first_above limit 0 
 above_from_start limit costs = sym (above_is 0 limit 0 costs ∙ no_more (first_above limit 0 costs))
 
 -- one table more
+above_more : (word : ℕ) (tables : List Sizes) (at limit before : ℕ) (table : Sizes) → at < length tables
+    → get_or tables at table ≡ table
+    → above_from at limit before (map (table_cost word) (drop at tables))
+    ≡ (if nat_lt limit (before + table_cost word table) then Some at
+    else above_from (at + 1) limit (before + table_cost word table) (map (table_cost word) (drop (at + 1) tables)))
+above_more word tables at limit before table lt is =
+    ap (λ ts. above_from at limit before (map (table_cost word) ts))
+    (drop_more tables at table lt ∙ ap (λ t. t ∷ drop (at + 1) tables) is)
+
 pub above_here : (word : ℕ) (tables : List Sizes) (at limit before : ℕ) (table : Sizes) → at < length tables
     → get_or tables at table ≡ table → limit < before + table_cost word table
     → above_from at limit before (map (table_cost word) (drop at tables)) ≡ Some at
 above_here word tables at limit before table lt is over =
-    ap (λ ts. above_from at limit before (map (table_cost word) ts))
-    (drop_more tables at table lt ∙ ap (λ t. t ∷ drop (at + 1) tables) is)
-    ∙ cond-true (nat_lt limit (before + table_cost word table)) (Some at)
-    (above_from (at + 1) limit (before + table_cost word table) (map (table_cost word) (drop (at + 1) tables)))
+    above_more word tables at limit before table lt is
+    ∙ cond-true (nat_lt limit (before + table_cost word table)) (Some at) _
     (lt-ltb limit (before + table_cost word table) over)
 
 pub above_later : (word : ℕ) (tables : List Sizes) (at limit before : ℕ) (table : Sizes) → at < length tables
@@ -53,8 +61,6 @@ pub above_later : (word : ℕ) (tables : List Sizes) (at limit before : ℕ) (ta
     → above_from at limit before (map (table_cost word) (drop at tables))
     ≡ above_from (at + 1) limit (before + table_cost word table) (map (table_cost word) (drop (at + 1) tables))
 above_later word tables at limit before table lt is under =
-    ap (λ ts. above_from at limit before (map (table_cost word) ts))
-    (drop_more tables at table lt ∙ ap (λ t. t ∷ drop (at + 1) tables) is)
-    ∙ cond-false (nat_lt limit (before + table_cost word table)) (Some at)
-    (above_from (at + 1) limit (before + table_cost word table) (map (table_cost word) (drop (at + 1) tables)))
+    above_more word tables at limit before table lt is
+    ∙ cond-false (nat_lt limit (before + table_cost word table)) (Some at) _
     (le-ltb limit (before + table_cost word table) under)

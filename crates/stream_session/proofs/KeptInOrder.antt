@@ -180,35 +180,26 @@ cuts_same f priority stream (group ∷ groups) same =
     ∙ ap (λ l. f (cut_of (layer_of priority) (length priority.layers) group) ∷ l)
     (cuts_same f priority stream groups same)
 
-wide_from : (t : Format) (priority : Priorities) (stream : List ℕ) (i : ℕ) (groups : List (List Piece))
-    → position_from (is_wide_in t priority) i (cuts_in_groups (map (cut_group priority stream) groups))
-    ≡ position_from (is_wide_in t priority) i (cuts_of priority groups)
-wide_from t priority stream i [] = refl
-wide_from t priority stream i (group ∷ groups) =
-    ap (λ o. if is_wide_in t priority (cut_of (layer_of priority) (length priority.layers) group) then Some i else o)
-    (wide_from t priority stream (i + 1) groups)
+-- so the first of a kind stands in the same place
+first_from : (is : Cut → Bool) (priority : Priorities) (stream : List ℕ) (i : ℕ) (groups : List (List Piece))
+    → ((group : List Piece)
+    → is (cut_group priority stream group).cut ≡ is (cut_of (layer_of priority) (length priority.layers) group))
+    → position_from is i (cuts_in_groups (map (cut_group priority stream) groups))
+    ≡ position_from is i (cuts_of priority groups)
+first_from is priority stream i [] same = refl
+first_from is priority stream i (group ∷ groups) same =
+    ap (λ (b : Bool). if b then Some i
+    else position_from is (i + 1) (cuts_in_groups (map (cut_group priority stream) groups))) (same group)
+    ∙ ap (λ o. if is (cut_of (layer_of priority) (length priority.layers) group) then Some i else o)
+    (first_from is priority stream (i + 1) groups same)
 
-wide_same : (t : Format) (priority : Priorities) (stream : List ℕ) (groups : List (List Piece))
-    → position (is_wide_in t priority) (cuts_in_groups (map (cut_group priority stream) groups))
-    ≡ position (is_wide_in t priority) (cuts_of priority groups)
-wide_same t priority stream groups =
-    position_from-zero (is_wide_in t priority) (cuts_in_groups (map (cut_group priority stream) groups))
-    ∙ (wide_from t priority stream 0 groups ∙ sym (position_from-zero (is_wide_in t priority) (cuts_of priority groups)))
-
-long_from : (t : Format) (priority : Priorities) (stream : List ℕ) (i : ℕ) (groups : List (List Piece))
-    → position_from (is_long_in t priority) i (cuts_in_groups (map (cut_group priority stream) groups))
-    ≡ position_from (is_long_in t priority) i (cuts_of priority groups)
-long_from t priority stream i [] = refl
-long_from t priority stream i (group ∷ groups) =
-    ap (λ o. if is_long_in t priority (cut_of (layer_of priority) (length priority.layers) group) then Some i else o)
-    (long_from t priority stream (i + 1) groups)
-
-long_same : (t : Format) (priority : Priorities) (stream : List ℕ) (groups : List (List Piece))
-    → position (is_long_in t priority) (cuts_in_groups (map (cut_group priority stream) groups))
-    ≡ position (is_long_in t priority) (cuts_of priority groups)
-long_same t priority stream groups =
-    position_from-zero (is_long_in t priority) (cuts_in_groups (map (cut_group priority stream) groups))
-    ∙ (long_from t priority stream 0 groups ∙ sym (position_from-zero (is_long_in t priority) (cuts_of priority groups)))
+first_same : (is : Cut → Bool) (priority : Priorities) (stream : List ℕ) (groups : List (List Piece))
+    → ((group : List Piece)
+    → is (cut_group priority stream group).cut ≡ is (cut_of (layer_of priority) (length priority.layers) group))
+    → position is (cuts_in_groups (map (cut_group priority stream) groups)) ≡ position is (cuts_of priority groups)
+first_same is priority stream groups same =
+    position_from-zero is (cuts_in_groups (map (cut_group priority stream) groups))
+    ∙ (first_from is priority stream 0 groups same ∙ sym (position_from-zero is (cuts_of priority groups)))
 
 fault_same : (t : Format) (limit : ℕ) (priority : Priorities) (stream : List ℕ)
     → fault_of_cuts_in t limit priority (cuts_in_groups (cut_groups priority stream))
@@ -218,9 +209,9 @@ fault_same t limit priority stream =
     let mine : List Cut = cuts_in_groups (map (cut_group priority stream) groups) in
     let costs = first_above limit 0 (map (group_cost_in t priority) mine) in
     ap (λ o. long_fault o (size_fault (position (is_wide_in t priority) mine) costs))
-    (long_same t priority stream groups)
+    (first_same (is_long_in t priority) priority stream groups (λ group. refl))
     ∙ ap (λ o. long_fault (position (is_long_in t priority) (cuts_of priority groups)) (size_fault o costs))
-    (wide_same t priority stream groups)
+    (first_same (is_wide_in t priority) priority stream groups (λ group. refl))
     ∙ ap (λ l. long_fault (position (is_long_in t priority) (cuts_of priority groups))
     (size_fault (position (is_wide_in t priority) (cuts_of priority groups)) (first_above limit 0 l)))
     (cuts_same (group_cost_in t priority) priority stream groups (λ group. refl))

@@ -40,28 +40,8 @@ stays_live (Some scan) A P is live = absurd cc
 added_to_none : (old new : List Piece) → old ≡ [] → added old new ≡ new
 added_to_none old new e = ap (λ (xs : List Piece). added xs new) e
 
--- its pieces went to the planner, and its bytes to the hasher
-pub live_more : (pass again : Pass) (priority : Priorities) (file stream portion : List ℕ) (pieces : List Piece)
-    → IsLive pass priority file stream
-    → ((s : List ℕ) (given : List Piece) → HasRead pass.scanner s given
-    → HasRead again.scanner (s ++ portion) (given ++ added pass.pieces.items pieces))
-    → ((p : Priorities) (given : List Piece) → HasPlanned pass.planner p given
-    → HasPlanned again.planner p (given ++ pieces))
-    → ((m : List ℕ) → Holds256 pass.hasher m → Holds256 again.hasher (m ++ portion)) → again.pieces.items ≡ []
-    → IsLive again priority file (stream ++ portion)
-live_more pass again priority file stream portion pieces live scanned planned hashes empty = record {
-  given = live.given ++ pieces;
-  scanned =
-      subst (λ (a : List Piece). HasRead again.scanner (stream ++ portion) (live.given ++ a))
-      (added_to_none pass.pieces.items pieces live.empty) (scanned stream live.given live.scanned);
-  planned = planned priority live.given live.planned;
-  hashed =
-      subst (λ (m : List ℕ). Holds256 again.hasher m)
-      (append_assoc (to_be_bytes w32 (length file) ++ file) stream portion) (hashes (hashed file stream) live.hashed);
-  empty = empty;
-}
-
--- the pass has read one portion more, which refuses nothing
+-- the pass has read one portion more, which refuses nothing: its pieces went to the planner, and its bytes to the
+-- hasher
 pub passed_more : (pass again : Pass) (priority : Priorities) (file stream portion : List ℕ)
     (pieces handed : List Piece) → is_some pass.refused ≡ false → again.refused ≡ pass.refused
     → handed ≡ pieces → HasPassed pass priority file stream
@@ -73,10 +53,20 @@ pub passed_more : (pass again : Pass) (priority : Priorities) (file stream porti
     → HasPassed again priority file (stream ++ portion)
 passed_more pass again priority file stream portion pieces handed is same all passed scanned planned hashes empty =
     let live = was_live pass.refused (IsLive pass priority file stream) _ is passed in
-    let given = λ (p : Priorities) (g : List Piece) (h : HasPlanned pass.planner p g). subst
-    (λ (xs : List Piece). HasPlanned again.planner p (g ++ xs)) all (planned p g h) in
-    stays_live again.refused (IsLive again priority file (stream ++ portion)) _ (ap is_some same ∙ is)
-    (live_more pass again priority file stream portion pieces live scanned given hashes empty)
+    stays_live again.refused (IsLive again priority file (stream ++ portion)) _ (ap is_some same ∙ is) (record {
+      given = live.given ++ pieces;
+      scanned =
+          subst (λ (a : List Piece). HasRead again.scanner (stream ++ portion) (live.given ++ a))
+          (added_to_none pass.pieces.items pieces live.empty) (scanned stream live.given live.scanned);
+      planned =
+          subst (λ (xs : List Piece). HasPlanned again.planner priority (live.given ++ xs)) all
+          (planned priority live.given live.planned);
+      hashed =
+          subst (λ (m : List ℕ). Holds256 again.hasher m)
+          (append_assoc (to_be_bytes w32 (length file) ++ file) stream portion)
+          (hashes (hashed file stream) live.hashed);
+      empty = empty;
+    })
 
 -- the refusal that a portion decides
 pub passed_refusing : (pass : Pass) (scan : Scan) (priority : Priorities) (file stream portion : List ℕ)

@@ -49,55 +49,32 @@ picture_length x p long =
     length-append (picture_head p.kind) (bytes_from x (filled_in p))
     ∙ ap (λ n. 12 + n) (filler_length x (filled_in p)) ∙ omega (arith, long)
 
-abbrev pub AreLong : List Picture → Type 0
-AreLong [] = Unit {0}
-AreLong (p ∷ ps) = (12 ≤ p.size) × AreLong ps
+-- each has room for its head, and its kind is a byte
+abbrev pub AreFit : List Picture → Type 0
+AreFit [] = Unit {0}
+AreFit (p ∷ ps) = ((12 ≤ p.size) × (p.kind < 256)) × AreFit ps
 
 -- the bytes of all
 abbrev pub sizes_sum : List Picture → ℕ
 sizes_sum [] = 0
 sizes_sum (p ∷ ps) = p.size + sizes_sum ps
 
-pub pictures_length : (x : ℕ) (ps : List Picture) → AreLong ps → length (pictures_text x ps) ≡ sizes_sum ps
+pub pictures_length : (x : ℕ) (ps : List Picture) → AreFit ps → length (pictures_text x ps) ≡ sizes_sum ps
 unfolding pictures_text
-pictures_length x [] long = refl
-pictures_length x (p ∷ ps) long =
+pictures_length x [] fit = refl
+pictures_length x (p ∷ ps) fit =
     length-append (picture_text x p) (pictures_text (state_behind_picture x p) ps)
-    ∙ ap (λ n. n + length (pictures_text (state_behind_picture x p) ps)) (picture_length x p long.0)
-    ∙ ap (λ n. p.size + n) (pictures_length (state_behind_picture x p) ps long.1)
+    ∙ ap (λ n. n + length (pictures_text (state_behind_picture x p) ps)) (picture_length x p fit.0.0)
+    ∙ ap (λ n. p.size + n) (pictures_length (state_behind_picture x p) ps fit.1)
 
-long : AreLong PICTURES
-long = (
-  omega arith,
-  (
-    omega arith,
-    (
-      omega arith,
-      (
-        omega arith,
-        (
-          omega arith,
-          (
-            omega arith,
-            (
-              omega arith,
-              (
-                omega arith,
-                (omega arith, (omega arith, tt)),
-              ),
-            ),
-          ),
-        ),
-      ),
-    ),
-  ),
-)
+fit : AreFit PICTURES
+fit = ((omega arith, omega arith), ((omega arith, omega arith), ((omega arith, omega arith), ((omega arith, omega arith), ((omega arith, omega arith), ((omega arith, omega arith), ((omega arith, omega arith), ((omega arith, omega arith), ((omega arith, omega arith), ((omega arith, omega arith), tt))))))))))
 
 pub group_length : (x : ℕ) → length (group_text x) ≡ 71961
 unfolding group_text
 group_length x =
     length-append HEADERS (pictures_text x PICTURES)
-    ∙ ap (λ n. 20 + n) (pictures_length x PICTURES long)
+    ∙ ap (λ n. 20 + n) (pictures_length x PICTURES fit)
 
 pub sample_length : (x groups : ℕ) → length (sample_text x groups) ≡ groups * 71961
 unfolding sample_text
@@ -125,43 +102,12 @@ picture_bytes x p small =
     All-append IsByte (picture_head p.kind) (bytes_from x (filled_in p)) (head_bytes p.kind small)
     (each_below (bytes_from x (filled_in p)) (fillers x (filled_in p)))
 
-abbrev pub AreKinds : List Picture → Type 0
-AreKinds [] = Unit {0}
-AreKinds (p ∷ ps) = (p.kind < 256) × AreKinds ps
-
-pub pictures_bytes : (x : ℕ) (ps : List Picture) → AreKinds ps → All IsByte (pictures_text x ps)
+pub pictures_bytes : (x : ℕ) (ps : List Picture) → AreFit ps → All IsByte (pictures_text x ps)
 unfolding pictures_text
-pictures_bytes x [] kinds = All-nil IsByte
-pictures_bytes x (p ∷ ps) kinds =
-    All-append IsByte (picture_text x p) (pictures_text (state_behind_picture x p) ps) (picture_bytes x p kinds.0)
-    (pictures_bytes (state_behind_picture x p) ps kinds.1)
-
-kinds : AreKinds PICTURES
-kinds = (
-  omega arith,
-  (
-    omega arith,
-    (
-      omega arith,
-      (
-        omega arith,
-        (
-          omega arith,
-          (
-            omega arith,
-            (
-              omega arith,
-              (
-                omega arith,
-                (omega arith, (omega arith, tt)),
-              ),
-            ),
-          ),
-        ),
-      ),
-    ),
-  ),
-)
+pictures_bytes x [] fit = All-nil IsByte
+pictures_bytes x (p ∷ ps) fit =
+    All-append IsByte (picture_text x p) (pictures_text (state_behind_picture x p) ps) (picture_bytes x p fit.0.1)
+    (pictures_bytes (state_behind_picture x p) ps fit.1)
 
 header_bytes : All IsByte HEADERS
 header_bytes = search rules
@@ -171,5 +117,5 @@ unfolding sample_text group_text
 sample_bytes x zero = All-nil IsByte
 sample_bytes x (suc groups) =
     All-append IsByte (group_text x) (sample_text (state_behind_group x) groups)
-    (All-append IsByte HEADERS (pictures_text x PICTURES) header_bytes (pictures_bytes x PICTURES kinds))
+    (All-append IsByte HEADERS (pictures_text x PICTURES) header_bytes (pictures_bytes x PICTURES fit))
     (sample_bytes (state_behind_group x) groups)

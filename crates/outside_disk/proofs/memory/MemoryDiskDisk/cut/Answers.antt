@@ -1,4 +1,5 @@
-use Rattle.outside_disk.proofs.MemoryCalls.{same_cut, done_cut, kept_cut}
+use Rattle.std.proofs.Common.{refl}
+use Rattle.outside_disk.proofs.MemoryCalls.{same_cut, done_cut, kept_cut, kept_from}
 use Rattle.outside_disk.proofs.memory.MemoryDiskDisk.cut.Goals as goal
 
 pub returns-then-count-clause-images : goal.returns-then-count-clause-images
@@ -12,10 +13,4 @@ returns-in-Ok-clause-images c =
 pub returns-in-Err-clause-images : goal.returns-in-Err-clause-images
 returns-in-Err-clause-images c =
     kept_cut _ c.args.self.now c.shorten.new.self
-    (record {
-      first = c.in-Err.ensures.err.first;
-      current = c.in-Err.ensures.err.current;
-      synced =
-          c.in-Err.ensures.err.synced;
-      events = c.in-Err.ensures.err.events;
-    })
+    (kept_from c.args.self.now _ c.shorten.new.self refl refl refl refl c.in-Err.ensures.err)

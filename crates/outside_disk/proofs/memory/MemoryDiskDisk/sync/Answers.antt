@@ -1,4 +1,5 @@
-use Rattle.outside_disk.proofs.MemoryCalls.{same_leaves, done_synced, done_leaves, kept_leaves}
+use Rattle.std.proofs.Common.{refl}
+use Rattle.outside_disk.proofs.MemoryCalls.{same_leaves, done_synced, done_leaves, kept_leaves, kept_from}
 use Rattle.outside_disk.proofs.memory.MemoryDiskDisk.sync.Goals as goal
 
 pub returns-then-count-clause-same : goal.returns-then-count-clause-same
@@ -17,10 +18,4 @@ returns-in-Ok-clause-same c =
 pub returns-in-Err-clause-same : goal.returns-in-Err-clause-same
 returns-in-Err-clause-same c =
     kept_leaves c.args.self.now c.settle.new.self
-    (record {
-      first = c.in-Err.ensures.err.first;
-      current = c.in-Err.ensures.err.current;
-      synced =
-          c.in-Err.ensures.err.synced;
-      events = c.in-Err.ensures.err.events;
-    })
+    (kept_from c.args.self.now _ c.settle.new.self refl refl refl refl c.in-Err.ensures.err)

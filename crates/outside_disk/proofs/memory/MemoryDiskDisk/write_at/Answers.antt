@@ -1,4 +1,5 @@
-use Rattle.outside_disk.proofs.MemoryCalls.{same_torn, done_torn, kept_torn}
+use Rattle.std.proofs.Common.{refl}
+use Rattle.outside_disk.proofs.MemoryCalls.{same_torn, done_torn, kept_torn, kept_from}
 use Rattle.outside_disk.proofs.memory.MemoryDiskDisk.write_at.Goals as goal
 
 pub returns-then-count-clause-images : goal.returns-then-count-clause-images
@@ -11,10 +12,4 @@ returns-in-Ok-clause-images c = let d = c.in-Ok.ensures.done in
 pub returns-in-Err-clause-images : goal.returns-in-Err-clause-images
 returns-in-Err-clause-images c =
     kept_torn _ _ c.args.self.now c.write.new.self
-    (record {
-      first = c.in-Err.ensures.err.first;
-      current = c.in-Err.ensures.err.current;
-      synced =
-          c.in-Err.ensures.err.synced;
-      events = c.in-Err.ensures.err.events;
-    })
+    (kept_from c.args.self.now _ c.write.new.self refl refl refl refl c.in-Err.ensures.err)
