@@ -1,5 +1,5 @@
 -- Which cause each failure has on a way. This project's own.
-use Rattle.std.specs.Prelude.{◌≡◌, Bool, true, false}
+use Rattle.std.specs.Prelude.{◌≡◌, Bool, true, false, Option, None, Some}
 use Rattle.pet_base.specs.Causes.{Blames}
 use Rattle.pet_base.specs.declared.faults.Stop.{Stop}
 use Rattle.pet_base.specs.declared.faults.Stop.TheVariants as place
@@ -45,6 +45,11 @@ stop_of_a_link stop.NoMemory = false
 stop_of_a_link stop.Place = false
 stop_of_a_link stop.Link = true
 stop_of_a_link stop.Out = false
+
+-- whether a status tells of a failed call of this object, where this is the call that it tells of, if it tells of any
+abbrev pub tells_of : (RouteStop → Bool) → Option RouteStop → Bool
+tells_of of_object None = false
+tells_of of_object (Some failed) = of_object failed
 
 -- the stop that a place's is, and that a failure is
 abbrev pub stop_of_place : Stop → RouteStop

@@ -1,15 +1,17 @@
 -- What was sent on a way: entries at the end of a datagram file, or datagrams of a link. This project's own.
-use Rattle.std.specs.Prelude.{ℕ, ◌≡◌, ◌≤◌, true, List, [], ◌++◌, option_map}
-use Rattle.pet_base.specs.Causes.{Blames}
-use Rattle.pet_base.specs.Seen.{Seen, Names, HasNoOutput, KeepsInput, OnlyWrites, with_file, HadFault}
-use Rattle.pet_base.specs.LinkSeen.{LinkSeen, OnlyAims, OnlySends, HadFault as LinkHadFault}
+use Rattle.std.specs.Prelude.{ℕ, ◌≡◌, ◌≤◌, Bool, true, List, [], ◌++◌, option_map, Result, IfErr}
+use Rattle.pet_base.specs.Causes.{Blames, stops}
+use Rattle.pet_base.specs.Seen.{Seen, Names, HasNoOutput, KeepsInput, OnlyWrites, PlaceStops, with_file, HadFault}
+use Rattle.pet_base.specs.LinkSeen.{LinkSeen, LinkStops, OnlyAims, OnlySends, HadFault as LinkHadFault}
 use Rattle.pet_base.specs.declared.place.Place.{Ghosts as PlaceOf}
 use Rattle.pet_base.specs.declared.link.Link.{Ghosts as LinkOf}
 use Rattle.pet_base.specs.declared.place.Side.TheVariants.{Written}
 use Rattle.pet_base.specs.declared.link.LinkSide.TheVariants.{Aimed}
 use Rattle.pet_base.specs.Entries.{entries_of}
 use Rattle.outside_files.specs.Outputs.{Puts, PutsPart}
+use Rattle.outside_routes.specs.RouteFaults.{IsStop, stop_of_a_place, stop_of_a_link}
 use Rattle.outside_routes.specs.Way.{Way, OnFile, OnLink}
+use Rattle.outside_routes.specs.declared.fault.RouteStop.{RouteStop}
 
 -- what the files and the link that a way may lead to are seen as
 pub record Routes : Type 0 where
@@ -100,3 +102,15 @@ IsUnopened (OnLink address) old new = (new.place ≡ old.place) × (new.link.sen
 abbrev pub CreatingFailed : Way → Seen → Seen → Type 0
 CreatingFailed (OnFile name) old new = HadFault old new (λ b. b ≡ (Written, name))
 CreatingFailed (OnLink address) old new = ⊥
+
+-- What a call leaves that sends: only files and what was sent have changed; and where it tells of a failed call of the
+-- place, or of the link, that was the last one of it, and else none failed.
+pub record GrowsTold {T F : Type 0} (of_place of_link : F → Bool) (result : Result T F) (old new : Routes) : Type 0 where
+  pub others : OnlyGrows old new
+  pub once_place : PlaceStops (stops of_place result) old.place new.place
+  pub once_link : LinkStops (stops of_link result) old.link new.link
+
+-- and a stop has its cause
+pub record SendsTold {T : Type 0} (way : Way) (result : Result T RouteStop) (old new : Routes) : Type 0 where
+  pub grows : GrowsTold stop_of_a_place stop_of_a_link result old new
+  pub cause : IfErr result (IsStop (OutputFailed way old.place new.place) (SendingFailed way old.link new.link) ⊥)

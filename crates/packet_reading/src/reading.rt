@@ -22,7 +22,8 @@ ghost use Rattle.outside_routes.specs.RouteFaults.{stop_of_a_place, stop_of_a_li
 ghost use Rattle.packet_met.specs.LayersText.{order_after_in};
 ghost use Rattle.packet_met.specs.Records.{IsTextAtIn};
 ghost use Rattle.packet_met.specs.Steps.{steps_of_in};
-ghost use Rattle.packet_reading.specs.Begun.{IsBoundWhereStopped, LinkReceives, OnlyOpens, OutStops, stop_of_an_output};
+ghost use Rattle.packet_reading.specs.Begun.{IsBoundWhereStopped, LinkReceives, OnlyOpens, OutStops, StopsTold};
+ghost use Rattle.packet_reading.specs.Begun.{stop_of_an_output};
 ghost use Rattle.packet_reading.specs.Layers.{IsReadingOf, ReadsLayersIn, StopsReadingIn};
 ghost use Rattle.packet_reading.specs.Opened.{IsBoundTo, KeepsLink, PrintedPort};
 ghost use Rattle.packet_reading.specs.inside.Opened.{Opened};
@@ -137,12 +138,8 @@ fn read_opened<'f, P: Place, K: Link, S: Sink, L: Ledger, F: Rows>(
     ensures link { LinkReceives (way_of from.entry) (seen outside.old).link (seen outside.new).link }
     ensures link_later { (seen outside.old).link.faults ≤ (seen outside.new).link.faults }
     ensures out { OutStops (stops stop_of_an_output result) (seen outside.old) (seen outside.new) }
-    ensures later { (seen outside.old).out_faults ≤ (seen outside.new).out_faults }
+    ensures told { StopsTold stop_of_a_place stop_of_a_link result (seen outside.old) (seen outside.new) }
     ensures same { AreSame outside.old outside.new }
-    ensures once_place { PlaceStops (stops stop_of_a_place result) (seen outside.old).place
-        (seen outside.new).place }
-    ensures once_link { LinkStops (stops stop_of_a_link result) (seen outside.old).link
-        (seen outside.new).link }
 {
     let mut receiver = PacketReceiver::new(alloc, field, format, session, MAX_SESSION);
     let read = receive_all(

@@ -1,5 +1,6 @@
--- The payloads of no packets.
-use Rattle.std.proofs.Common.{◌≡◌, ◌*◌, ◌≤◌, [], length, ap, ◌∙◌, arith}
+-- The payloads of no packets, and the steps of some of a group's.
+use Rattle.std.proofs.Common.{◌≡◌, ℕ, ◌+◌, ◌*◌, ◌≤◌, [], length, ap, ◌∙◌, arith}
+use Rattle.std.proofs.lemmas.Nat.{mul-le}
 use Rattle.pet_base.specs.declared.limits.TheConstants.{MAX_PACKETS}
 use Rattle.field_elements.specs.Field.{Coding}
 use Rattle.stripe_plan.specs.Layers.{plan_ends}
@@ -21,3 +22,7 @@ module _ {E : Type 0} (c : Coding E) (e : Encoding) (made : MadeRange) where
       each = λ p l. absurd (omega (arith, count));
     };
   }
+
+-- the steps of so many packets are within those of all
+pub cost_within : (words n all old now : ℕ) → now ≤ old + n * words → n ≤ all → now ≤ old + all * words
+cost_within words n all old now cost within = omega (arith, cost, mul-le n words all words within (omega arith))

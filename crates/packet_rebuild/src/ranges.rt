@@ -68,6 +68,16 @@ pub fn at_once(table: &Table) -> u32
     (RANGE_ROOM / datagram_length(table)).max(1)
 }
 
+/// How many of the group's packets are made at once, from this one on.
+pub fn next_count<F: Field>(encoder: &Encoder<'_, F>, first: u16) -> u16
+    requires { first < encoder.now.header.table.packets }
+    ensures some { 0 < result }
+    ensures within { first + result ≤ encoder.now.header.table.packets }
+{
+    let table = &encoder.header().table;
+    at_once(table).min(u32::from(table.packets() - first)) as u16
+}
+
 /// Makes the payloads of a range of the group's packets, unless they are those that are kept.
 pub fn make_range<F: AllValues, L: Ledger>(
     encoder: &Encoder<'_, F>,

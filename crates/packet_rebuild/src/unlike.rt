@@ -9,7 +9,7 @@ ghost use Rattle.packet_rebuild.specs.MadeRange.{IsMadeRange};
 ghost use Rattle.packet_rebuild.specs.Repairs.{unlike_in, first_unlike_of};
 ghost use Rattle.stripe_plan.specs.Layers.{needs_of};
 
-use crate::ranges::{MadeRange, at_once, make_range};
+use crate::ranges::{MadeRange, make_range, next_count};
 use field_values::AllValues;
 use pet_base::{NoMemory, Steps};
 use pet_encode::Encoder;
@@ -50,13 +50,11 @@ pub fn find_unlike<F: AllValues, L: Ledger>(
         * length (needs_of encoder.now.header.table.layers) }
     ensures made { OnOk result (IsMadeRange F.coding encoder.now made.new) }
 {
-    let table = &encoder.header().table;
-    let packets = table.packets();
-    let most = at_once(table);
+    let packets = encoder.header().table.packets();
     made.clear();
     let mut first = 0;
     while first < packets {
-        let count = most.min(u32::from(packets - first)) as u16;
+        let count = next_count(encoder, first);
         let found = unlike_among(receiver, encoder, first, count, made, steps)?;
         if found.is_some() {
             return Ok(found);

@@ -1,7 +1,7 @@
 -- Why two receivers cannot be joined, as it is found step by step.
 use Rattle.std.specs.Prelude.{not, if◌then◌else◌, option_map}
 use Rattle.std.proofs.Common.{◌≡◌, ℕ, ◌==◌, ◌||◌, cond, Bool, true, false, List, [], ◌∷◌, length, Option, None, Some}
-use Rattle.std.proofs.Common.{nat_cmp, get_or, refl, sym, ap, ◌∙◌, subst}
+use Rattle.std.proofs.Common.{nat_cmp, get_or, refl, sym, ap, ap₂, ◌∙◌, subst}
 use Rattle.std.specs.Str.{bytes_eq}
 use Rattle.std.specs.List.{find, flat_map, filter_map, cons_option, range_with_len, AllByRecursion}
 use Rattle.std.specs.List.Sorted.{IsStrictlySortedBy}
@@ -9,6 +9,7 @@ use Rattle.std.specs.Option.{option_map_or, option_or}
 use Rattle.std.specs.BTreeMap.{is_at}
 use Rattle.std.proofs.lemmas.List.Elements.{recursion_from_All}
 use Rattle.std.proofs.lemmas.List.Folds.{find-append}
+use Rattle.field_elements.specs.Field.{Coding}
 use Rattle.stripe_plan.specs.Same.{same_table}
 use Rattle.packet_frame.specs.Frame.{Fields}
 use Rattle.packet_frame.specs.View.{fields_with}
@@ -16,14 +17,17 @@ use Rattle.packet_frame.specs.declared.frame.Header.{Header}
 use Rattle.packet_set.specs.Packets.{Packets, slot_at}
 use Rattle.packet_verdicts.specs.declared.union.Absorb.{Absorb}
 use Rattle.packet_verdicts.specs.declared.union.Absorb.TheVariants.{OtherSession, Clash, Full}
-use Rattle.packet_verdicts.specs.KeptSet.{KeptSet, IsKeptSet, told_by}
+use Rattle.packet_verdicts.specs.KeptSet.{KeptSet, IsKeptSet, IsKeptSetBy, told_by}
 use Rattle.packet_verdicts.specs.Verdicts.{clashes, tells_other_count}
 use Rattle.packet_receiver.specs.Arrivals.{GroupState, ReceiverState, kept_set}
-use Rattle.packet_verdicts.specs.Union.{frames_in_group, first_clash, first_full, then_clash, then_full, absorb_fault}
+use Rattle.packet_verdicts.specs.Union.{frames_in_group, first_clash, first_full, first_past, then_clash, then_full}
+use Rattle.packet_verdicts.specs.Union.{absorb_fault}
 use Rattle.packet_verdicts.specs.GroupClash.{is_other_payload, clashes_by}
-use Rattle.packet_receiver.specs.inside.Joining.{packets_of, packets_at, clash_or, clash_from}
+use Rattle.packet_receiver.specs.Receiving.{IsReceiver}
+use Rattle.packet_receiver.specs.inside.Joining.{packets_of, packets_at, clash_or, clash_from, new_of}
 use Rattle.packet_verdicts.specs.laws.EntryLaws.{lookup_values, keys_values, all_found}
 use Rattle.packet_verdicts.specs.laws.JoinedGroups.{Rises}
+use Rattle.packet_receiver.proofs.Fields.{same_by, other_by}
 use Rattle.packet_receiver.proofs.Received.{count_told}
 use Rattle.packet_receiver.proofs.Clashes.{clash_next, clash_end}
 
@@ -99,7 +103,7 @@ module _ {E : Type 0} (r : ReceiverState E) (told : Option ℕ) (kept : IsKeptSe
       ∙ or_map clash_of (find s (frames_in_group p)) (find s more)
       ∙ ap (option_map clash_of) (sym (find-append s (frames_in_group p) more))
 
-  pub clash_is : (o : ReceiverState E) → IsKeptSet (kept_set o)
+  clash_is : (o : ReceiverState E) → IsKeptSet (kept_set o)
       → clash_from told (packets_of r.groups) (packets_of o.groups)
       ≡ option_map clash_of (first_clash (kept_set r) (kept_set o))
   clash_is o other =
@@ -113,7 +117,7 @@ module _ {E : Type 0} (r : ReceiverState E) (told : Option ℕ) (kept : IsKeptSe
 -- ---- the answer
 
 module _ (a b : KeptSet) where
-  pub fault_session : bytes_eq a.session b.session ≡ false → absorb_fault a b ≡ Some OtherSession
+  fault_session : bytes_eq a.session b.session ≡ false → absorb_fault a b ≡ Some OtherSession
   unfolding absorb_fault
   fault_session e =
       ap (λ s. if not s then Some OtherSession else then_clash (first_clash a b) (then_full (first_full a b))) e
@@ -133,15 +137,58 @@ module _ (a b : KeptSet) where
   none_by None later e = refl
   none_by (Some f) later e = absurd (cc)
 
-  pub fault_clash : bytes_eq a.session b.session ≡ true → (x : Absorb) → Some x ≡ option_map clash_of (first_clash a b)
+  fault_clash : bytes_eq a.session b.session ≡ true → (x : Absorb) → Some x ≡ option_map clash_of (first_clash a b)
       → absorb_fault a b ≡ Some x
   fault_clash e x is = past_session e ∙ clash_by (first_clash a b) (then_full (first_full a b)) x is
 
-  pub fault_full : bytes_eq a.session b.session ≡ true → None ≡ option_map clash_of (first_clash a b) → (group : ℕ)
+  fault_full : bytes_eq a.session b.session ≡ true → None ≡ option_map clash_of (first_clash a b) → (group : ℕ)
       → first_full a b ≡ Some group → absorb_fault a b ≡ Some (Full group)
   fault_full e none group is =
       past_session e ∙ none_by (first_clash a b) (then_full (first_full a b)) none ∙ ap then_full is
 
-  pub fault_none : bytes_eq a.session b.session ≡ true → None ≡ option_map clash_of (first_clash a b)
+  fault_none : bytes_eq a.session b.session ≡ true → None ≡ option_map clash_of (first_clash a b)
       → first_full a b ≡ None → absorb_fault a b ≡ None
   fault_none e none is = past_session e ∙ none_by (first_clash a b) (then_full (first_full a b)) none ∙ ap then_full is
+
+-- ---- the answer by the fields of both, for the receivers as they are seen
+
+module _ {E : Type 0} {P : E → Type 0} {count : ℕ} {c : Coding E} {r o v w : ReceiverState E} {told there : Option ℕ}
+    {cost costs : ℕ} (two : c.width ≡ 2) (h : IsReceiver P count c r told cost) (ho : IsReceiver P count c o there costs)
+    (is : r ≡ v) (is_other : o ≡ w) (foreign : Bool) (test : foreign ≡ not (bytes_eq r.session o.session)) where
+  fault_of : (x : Option Absorb) → absorb_fault (kept_set r) (kept_set o) ≡ x
+      → absorb_fault (kept_set v) (kept_set w) ≡ x
+  fault_of x e = sym (ap₂ (λ (s t : ReceiverState E). absorb_fault (kept_set s) (kept_set t)) is is_other) ∙ e
+
+  pub session_refused : foreign ≡ true → absorb_fault (kept_set v) (kept_set w) ≡ Some OtherSession
+  session_refused e =
+      fault_of (Some OtherSession)
+      (fault_session (kept_set r) (kept_set o) (other_by foreign (bytes_eq r.session o.session) test e))
+
+  module _ (mine : foreign ≡ false) where
+    same : bytes_eq r.session o.session ≡ true
+    same = same_by foreign (bytes_eq r.session o.session) test mine
+
+    clash : clash_from told (packets_of r.groups) (packets_of o.groups)
+        ≡ option_map clash_of (first_clash (kept_set r) (kept_set o))
+    clash =
+        clash_is r told (subst (λ n. IsKeptSetBy n (kept_set r)) two h.set) h.told_is o
+        (subst (λ n. IsKeptSetBy n (kept_set o)) two ho.set)
+
+    pub clash_refused : (x : Absorb) → Some x ≡ clash_from told (packets_of r.groups) (packets_of o.groups)
+        → absorb_fault (kept_set v) (kept_set w) ≡ Some x
+    clash_refused x e = fault_of (Some x) (fault_clash (kept_set r) (kept_set o) same x (e ∙ clash))
+
+    module _ (none : None ≡ clash_from told (packets_of r.groups) (packets_of o.groups)) where
+      full : first_full (kept_set r) (kept_set o)
+          ≡ first_past r.limit cost (new_of (packets_of r.groups) (packets_of o.groups))
+      full = ap (λ n. first_past r.limit n (new_of (packets_of r.groups) (packets_of o.groups))) (sym h.cost_is)
+
+      pub full_refused : (group : ℕ)
+          → first_past r.limit cost (new_of (packets_of r.groups) (packets_of o.groups)) ≡ Some group
+          → absorb_fault (kept_set v) (kept_set w) ≡ Some (Full group)
+      full_refused group e =
+          fault_of (Some (Full group)) (fault_full (kept_set r) (kept_set o) same (none ∙ clash) group (full ∙ e))
+
+      pub all_fit : first_past r.limit cost (new_of (packets_of r.groups) (packets_of o.groups)) ≡ None
+          → absorb_fault (kept_set v) (kept_set w) ≡ None
+      all_fit e = fault_of None (fault_none (kept_set r) (kept_set o) same (none ∙ clash) (full ∙ e))

@@ -1,3 +1,4 @@
+pub mod Fields
 pub mod Received
 pub mod Sums
 pub mod Grown
@@ -7,5 +8,6 @@ pub mod Filling
 pub mod Joined
 pub mod Clashes
 pub mod Absorbed
+pub mod Taken
 pub mod Fitting
 pub mod Tagged

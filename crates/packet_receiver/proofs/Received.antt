@@ -31,6 +31,7 @@ use Rattle.packet_receiver.specs.Arrivals.{GroupState, ReceiverState, Order, Hol
 use Rattle.packet_receiver.specs.Arrivals.{numbers_of}
 use Rattle.packet_verdicts.specs.GroupVerdict.{verdict_at, verdict_in}
 use Rattle.packet_receiver.specs.Receiving.{IsReceiver}
+use Rattle.packet_receiver.proofs.Fields.{same_by, other_by}
 use Rattle.packet_receiver.specs.inside.Receiving.{IsReadyFor, HasGrown, verdict_new, verdict_by}
 use Rattle.packet_verdicts.specs.laws.EntryLaws.{lookup_here, lookup_other, lookup_values, insert_values, all_found}
 use Rattle.packet_verdicts.specs.laws.ToldLaws.{open_tells}
@@ -140,6 +141,36 @@ pub is_by : (word : ℕ) (set : KeptSet) (f : Fields) → bytes_eq f.session set
 is_by word set f same told None closed = is_new word set f same told closed
 is_by word set f same told (Some p) opened = is_in word set f p same told opened
 
+-- the steps of the verdict by the fields, at the receiver as it is seen
+module _ {E : Type 0} {r v : ReceiverState E} (is : r ≡ v) (word : ℕ) (f : Fields) (foreign : Bool)
+    (is_other : foreign ≡ not (bytes_eq f.session r.session)) where
+  verdict_of : (x : Verdict) → frame_verdict_by word (kept_set r) f ≡ x → x ≡ frame_verdict_by word (kept_set v) f
+  verdict_of x e = sym e ∙ ap (λ (t : ReceiverState E). frame_verdict_by word (kept_set t) f) is
+
+  pub foreign_seen : foreign ≡ true → Foreign ≡ frame_verdict_by word (kept_set v) f
+  foreign_seen e =
+      verdict_of Foreign (is_foreign word (kept_set r) f (other_by foreign (bytes_eq f.session r.session) is_other e))
+
+  module _ (mine : foreign ≡ false) (sound : IsKeptSetBy word (kept_set r)) (told : Option ℕ)
+      (told_is : told ≡ told_by (kept_set r)) (clash : Bool)
+      (counts : clash ≡ option_map_or (λ n. not (n == f.groups)) told false) where
+    same : bytes_eq f.session r.session ≡ true
+    same = same_by foreign (bytes_eq f.session r.session) is_other mine
+
+    tells : tells_other_count (kept_set r) f ≡ clash
+    tells =
+        count_told (kept_set r) sound f
+        ∙ ap (λ o. option_map_or (λ n. not (n == f.groups)) o false) (sym told_is) ∙ sym counts
+
+    pub clash_seen : clash ≡ true → Clash ≡ frame_verdict_by word (kept_set v) f
+    clash_seen e = verdict_of Clash (is_clash word (kept_set r) f same (tells ∙ e))
+
+    pub verdict_seen : clash ≡ false → (o : Option Packets) → o ≡ open_group (kept_set r) f.group
+        → verdict_by word f o r.limit (cost_kept (kept_set r)) ≡ frame_verdict_by word (kept_set v) f
+    verdict_seen e o opened =
+        verdict_of (verdict_by word f o r.limit (cost_kept (kept_set r)))
+        (is_by word (kept_set r) f same (tells ∙ e) o (sym opened))
+
 -- ---- one pair more in an order
 
 numbers_by : (order : Order) (group number at : ℕ) (b : Bool) → (group == at) ≡ b
@@ -182,6 +213,32 @@ pub count_is : {E : Type 0} (r : ReceiverState E) (group : ℕ)
 count_is r group =
     let count : Option Packets → ℕ = λ o. unwrap_or (option_map count_in o) 0 in
     count_through (state_of r group) ∙ ap count (sym (found_in r group))
+
+-- ---- a group that is found by the fields, at the receiver as it is seen
+
+module _ {E : Type 0} {r v : ReceiverState E} (is : r ≡ v) (group : ℕ) where
+  found_seen : (o : Option (GroupState E)) → o ≡ state_of r group
+      → open_group (kept_set v) group ≡ option_map (λ (g : GroupState E). g.packets) o
+  found_seen o found =
+      sym (ap (λ (t : ReceiverState E). open_group (kept_set t) group) is) ∙ found_in r group
+      ∙ ap (option_map (λ (g : GroupState E). g.packets)) (sym found)
+
+  pub closed_seen : None ≡ state_of r group → open_group (kept_set v) group ≡ None
+  closed_seen found = found_seen None found
+
+  module _ (state : GroupState E) (found : Some state ≡ state_of r group) where
+    pub opened_seen : open_group (kept_set v) group ≡ Some state.packets
+    opened_seen = found_seen (Some state) found
+
+    pub packets_seen : (p : Packets) → open_group (kept_set v) group ≡ Some p → state.packets ≡ p
+    packets_seen p opened = same_Some state.packets p (sym opened_seen ∙ opened)
+
+    pub holds_seen : (P : E → Type 0) (c : Coding E) (order : Order) → HasKept P c v order
+        → HoldsAfter P c state (numbers_of order group)
+    holds_seen P c order kept =
+        subst (λ o. MatchOption o (numbers_of order group ≡ [])
+        (λ (g : GroupState E). HoldsAfter P c g (numbers_of order group))) (sym found)
+        (subst (λ (t : ReceiverState E). HasKept P c t order) (sym is) kept group)
 
 -- where a group is open, and what of it is held
 pub is_some_of : {A : Type 0} (o : Option A) → is_some o ≡ true → (x : A) × (o ≡ Some x)

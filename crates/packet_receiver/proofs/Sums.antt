@@ -25,7 +25,7 @@ use Rattle.pet_base.specs.declared.limits.TheConstants.{MAX_GROUPS, MAX_PACKETS,
 use Rattle.stripe_plan.specs.Layers.{count_of}
 use Rattle.packet_set.specs.Packets.{Packets, count_in}
 use Rattle.packet_verdicts.specs.KeptSet.{KeptSet, IsKeptSetBy, open_group, told_by}
-use Rattle.packet_receiver.specs.Arrivals.{GroupState, layers_of}
+use Rattle.packet_receiver.specs.Arrivals.{GroupState, ReceiverState, kept_set, layers_of}
 use Rattle.packet_verdicts.specs.GroupLayers.{shown_in, is_whole, whole_in}
 use Rattle.packet_receiver.specs.ShownBytes.{IsShownIn, IsComplete, groups_told}
 use Rattle.packet_verdicts.specs.laws.EntryLaws.{all_found, rises_insert, sum_insert}
@@ -68,9 +68,12 @@ sum_states f (e ∷ es) =
       sum_states f es,
     )
 
-pub sum_is : {E : Type 0} (f : Packets → ℕ) (es : List (ℕ × GroupState E))
-    → sum_by (λ g. f g.packets) (values_of es) ≡ sum_by (λ (e : ℕ × Packets). f e.1) (map (λ e. (e.0, e.1.packets)) es)
-sum_is f es = sum_states f es
+-- the sum by the fields is that over the kept set of the receiver as it is seen
+pub sum_seen : {E : Type 0} (f : Packets → ℕ) {r v : ReceiverState E} → r ≡ v
+    → sum_by (λ g. f g.packets) (values_of r.groups) ≡ sum_by (λ (e : ℕ × Packets). f e.1) (kept_set v).groups
+sum_seen f {r} {v} is =
+    sum_states f r.groups
+    ∙ ap (λ (t : ReceiverState _). sum_by (λ (e : ℕ × Packets). f e.1) (kept_set t).groups) is
 
 -- a sum over a list that has come as far as an item: with this one, and that it is at most the whole
 pub sum_more : {X : Type 0} (f : X → ℕ) (total one whole : ℕ) (it : List X) (x : X) (rest : List X) → it ≡ x ∷ rest
@@ -277,16 +280,6 @@ fit_by set sound f most (Some n) told =
     let sum = sum_few set sound n told f MAX_PACKETS (most n) in
     omega (arith, few, first, sum)
 
--- no sum of these over the open groups is above 65,535 times 4,096
-pub sums_fit : {word : ℕ} (set : KeptSet) → IsKeptSetBy word set → (f : Packets → ℕ)
-    → ((n : ℕ) (e : ℕ × Packets) → IsLimited n e.0 e.1 → f e.1 ≤ MAX_PACKETS)
-    → sum_by (λ (e : ℕ × Packets). f e.1) set.groups < 2 ^ 32
-sums_fit set sound f most = fit_by set sound f most (told_by set) refl
-
-pub kept_fits : {word : ℕ} (set : KeptSet) → IsKeptSetBy word set
-    → sum_by (λ (e : ℕ × Packets). count_in e.1) set.groups < 2 ^ 32
-kept_fits set sound = sums_fit set sound count_in (λ n e l. omega (arith, l.packets))
-
 shown_few : (n group : ℕ) (p : Packets) → IsLimited n group p → shown_in p ≤ MAX_PACKETS
 shown_few n group p l =
     omega (
@@ -297,14 +290,23 @@ shown_few n group p l =
       l.layers,
     )
 
-pub shown_fits : {word : ℕ} (set : KeptSet) → IsKeptSetBy word set
-    → sum_by (λ (e : ℕ × Packets). shown_in e.1) set.groups < 2 ^ 32
-shown_fits set sound = sums_fit set sound shown_in (λ n e l. shown_few n e.0 e.1 l)
-
 whole_few : (p : Packets) → whole_in p ≤ MAX_PACKETS
 unfolding whole_in
 whole_few p = omega (arith, one-le (is_whole p))
 
-pub whole_fits : {word : ℕ} (set : KeptSet) → IsKeptSetBy word set
-    → sum_by (λ (e : ℕ × Packets). whole_in e.1) set.groups < 2 ^ 32
-whole_fits set sound = sums_fit set sound whole_in (λ n e l. whole_few e.1)
+-- no sum of these over the open groups is above 65,535 times 4,096
+module _ {E : Type 0} {word : ℕ} (r : ReceiverState E) (sound : IsKeptSetBy word (kept_set r)) where
+  sums_fit : (f : Packets → ℕ) → ((n : ℕ) (e : ℕ × Packets) → IsLimited n e.0 e.1 → f e.1 ≤ MAX_PACKETS)
+      → sum_by (λ g. f g.packets) (values_of r.groups) < 2 ^ 32
+  sums_fit f most =
+      let fits = fit_by (kept_set r) sound f most (told_by (kept_set r)) refl in
+      omega (arith, sum_states f r.groups, fits)
+
+  pub kept_fits : sum_by (λ g. count_in g.packets) (values_of r.groups) < 2 ^ 32
+  kept_fits = sums_fit count_in (λ n e l. omega (arith, l.packets))
+
+  pub shown_fits : sum_by (λ g. shown_in g.packets) (values_of r.groups) < 2 ^ 32
+  shown_fits = sums_fit shown_in (λ n e l. shown_few n e.0 e.1 l)
+
+  pub whole_fits : sum_by (λ g. whole_in g.packets) (values_of r.groups) < 2 ^ 32
+  whole_fits = sums_fit whole_in (λ n e l. whole_few e.1)

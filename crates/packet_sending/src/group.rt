@@ -1,21 +1,20 @@
 //! The packets of one group, sent on a route, in any format and over any field.
-ghost use Rattle.std.specs.Prelude.{◌≡◌, ◌∷◌, [], ◌+◌, ◌*◌, ◌<◌, ◌≤◌, length, OnOk, OnErr, IfErr};
+ghost use Rattle.std.specs.Prelude.{◌≡◌, ◌+◌, ◌*◌, ◌≤◌, length, OnOk, OnErr, IfErr};
 ghost use Rattle.stripe_plan.specs.Layers.{needs_of};
 ghost use Rattle.pet_base.specs.Causes.{stops};
 ghost use Rattle.pet_base.specs.Seen.{PlaceStops};
 ghost use Rattle.pet_base.specs.LinkSeen.{LinkStops};
 ghost use Rattle.outside_routes.specs.RouteFaults.{IsStop, stop_of_a_place, stop_of_a_link};
-ghost use Rattle.outside_routes.specs.Sending.{routes, Sends, SendsPart, IsOpen, OnlyGrows, OutputFailed, SendingFailed};
+ghost use Rattle.outside_routes.specs.Sending.{routes, Sends, SendsPart, SendsTold, IsOpen, OnlyGrows, OutputFailed, SendingFailed};
 ghost use Rattle.outside_routes.specs.Way.{way_of};
 ghost use Rattle.packet_frame.specs.Format.{IsFormat};
 ghost use Rattle.packet_session.specs.Datagrams.{group_datagrams_in, range_datagrams_in};
 ghost use Rattle.stripe_plan.specs.declared.bounds.TheConstants.{BOUNDS};
-ghost use Rattle.pet_base.specs.Entries.{entry_text};
 
 use field_values::AllValues;
-use outside_routes::{Route, RouteStop, put_entry};
+use outside_routes::{Route, RouteStop, put_datagram};
 use packet_encoder::PacketEncoder;
-use pet_base::{Link, MAX_DATAGRAM, NoMemory, Place, Steps};
+use pet_base::{Link, Place, Steps};
 use std::alloc::Global;
 use std::sync::ledger::Ledger;
 
@@ -99,15 +98,8 @@ fn put_range<P: Place, K: Link, F: AllValues, L: Ledger>(
         (routes P.Place K.Link place.old link.old) (routes P.Place K.Link place.new link.new)) }
     ensures part { OnErr result (SendsPart (way_of to.entry) (range_datagrams_in encoder.now.format F.coding encoder.now.encoding first count)
         (routes P.Place K.Link place.old link.old) (routes P.Place K.Link place.new link.new)) }
-    ensures others { OnlyGrows (routes P.Place K.Link place.old link.old)
+    ensures told { SendsTold (way_of to.entry) result (routes P.Place K.Link place.old link.old)
         (routes P.Place K.Link place.new link.new) }
-    ensures cause { IfErr result (IsStop
-        (OutputFailed (way_of to.entry) (P.seen place.old) (P.seen place.new))
-        (SendingFailed (way_of to.entry) (K.seen link.old) (K.seen link.new)) ⊥) }
-    ensures once_place { PlaceStops (stops stop_of_a_place result) (P.seen place.old)
-        (P.seen place.new) }
-    ensures once_link { LinkStops (stops stop_of_a_link result) (K.seen link.old)
-        (K.seen link.new) }
     ensures cost { steps.new ≤ steps.old + count * length (needs_of encoder.now.encoding.header.table.layers) }
 {
     let length = encoder.frame_length() as usize;
@@ -116,49 +108,8 @@ fn put_range<P: Place, K: Link, F: AllValues, L: Ledger>(
     let mut at = 0;
     for _ in 0..count {
         let end = at + length;
-        put_packet(to, place, link, &frames[at..end], entry)?;
+        put_datagram(to, place, link, &frames[at..end], entry)?;
         at = end;
     }
-    Ok(())
-}
-
-/// Sends one packet. The buffer is emptied first, and is then its entry.
-fn put_packet<P: Place, K: Link>(
-    to: Route<'_>,
-    place: &mut P,
-    link: &mut K,
-    packet: &[u8],
-    entry: &mut Vec<u8>,
-) -> Result<(), RouteStop>
-    requires open { IsOpen (way_of to) (routes P.Place K.Link place.old link.old) }
-    requires short { length packet.now ≤ MAX_DATAGRAM }
-    ensures sends { OnOk result (Sends (way_of to.entry) (packet.now ∷ [])
-        (routes P.Place K.Link place.old link.old) (routes P.Place K.Link place.new link.new)) }
-    ensures part { OnErr result (SendsPart (way_of to.entry) (packet.now ∷ [])
-        (routes P.Place K.Link place.old link.old) (routes P.Place K.Link place.new link.new)) }
-    ensures others { OnlyGrows (routes P.Place K.Link place.old link.old)
-        (routes P.Place K.Link place.new link.new) }
-    ensures cause { IfErr result (IsStop
-        (OutputFailed (way_of to.entry) (P.seen place.old) (P.seen place.new))
-        (SendingFailed (way_of to.entry) (K.seen link.old) (K.seen link.new)) ⊥) }
-    ensures once_place { PlaceStops (stops stop_of_a_place result) (P.seen place.old)
-        (P.seen place.new) }
-    ensures once_link { LinkStops (stops stop_of_a_link result) (K.seen link.old)
-        (K.seen link.new) }
-{
-    write_entry(packet, entry)?;
-    put_entry(to, place, link, entry)?;
-    Ok(())
-}
-
-/// Makes the buffer the entry of one packet.
-fn write_entry(packet: &[u8], entry: &mut Vec<u8>) -> Result<(), NoMemory>
-    requires { length packet.now ≤ MAX_DATAGRAM }
-    ensures { OnOk result (entry.new.items ≡ entry_text packet.now) }
-{
-    let length = packet.len() as u16;
-    entry.clear();
-    entry.extend_from_slice(&length.to_be_bytes())?;
-    entry.extend_from_slice(packet)?;
     Ok(())
 }

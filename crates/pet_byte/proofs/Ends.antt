@@ -4,16 +4,16 @@ use Rattle.pet_base.specs.declared.limits.TheConstants.{MAX_DATAGRAMS}
 use Rattle.pet_base.specs.LinkSeen.{LinkSeen}
 use Rattle.pet_base.specs.OutsideSeen.{OutsideSeen}
 use Rattle.outside_routes.specs.Way.{Way}
-use Rattle.outside_routes.specs.RouteFaults.{stop_of_a_place, stop_of_a_link}
+use Rattle.outside_routes.specs.RouteFaults.{tells_of}
 use Rattle.outside_routes.specs.declared.fault.RouteStop.{RouteStop}
 use Rattle.outside_routes.specs.declared.fault.RouteStop.TheVariants as stop
 use Rattle.packet_frame.specs.declared.format.TheConstants.{BYTE_FORMAT}
 use Rattle.packet_verdicts.specs.KeptSet.{KeptSet}
-use Rattle.packet_reading.specs.Begun.{IsBoundWhereStopped, stop_of_an_output}
+use Rattle.packet_reading.specs.Begun.{IsBoundWhereStopped}
 use Rattle.packet_reading.specs.Layers.{AreTotalsIn, IsReadingOf}
 use Rattle.packet_reading.specs.Opened.{IsBoundTo, PrintedPort}
 use Rattle.packet_reading.specs.declared.reading.Totals.{Totals}
-use Rattle.pet_byte.specs.Failures.{byte_of_place, byte_of_link, byte_of_output}
+use Rattle.pet_byte.specs.Failures.{failure_of, byte_of_place, byte_of_link, byte_of_output}
 use Rattle.pet_byte.specs.ReceivesBytes.{IsBoundAtByteEnd, ReadsBytes, StopsReadingBytes, EndsBytes}
 use Rattle.pet_byte.specs.declared.breceive.ByteEnd.{ByteEnd}
 use Rattle.pet_byte.specs.declared.breceive.ByteEnd.TheVariants.{Done, NoMemory, PlaceFault, LinkFault}
@@ -81,23 +81,12 @@ bound_at_stop from old new stop.Link bound = bound
 bound_at_stop from old new stop.Out bound = bound
 
 -- an end tells of the failure that stopped the command, and one with numbers of none
-pub place_alike : (s : RouteStop) → stop_of_a_place s ≡ byte_of_place (byte_end_of s)
-place_alike stop.NoMemory = refl
-place_alike stop.Place = refl
-place_alike stop.Link = refl
-place_alike stop.Out = refl
-
-pub link_alike : (s : RouteStop) → stop_of_a_link s ≡ byte_of_link (byte_end_of s)
-link_alike stop.NoMemory = refl
-link_alike stop.Place = refl
-link_alike stop.Link = refl
-link_alike stop.Out = refl
-
-pub output_alike : (s : RouteStop) → stop_of_an_output s ≡ byte_of_output (byte_end_of s)
-output_alike stop.NoMemory = refl
-output_alike stop.Place = refl
-output_alike stop.Link = refl
-output_alike stop.Out = refl
+pub alike : (of_object : RouteStop → Bool) → of_object stop.NoMemory ≡ false → (s : RouteStop)
+    → of_object s ≡ tells_of of_object (failure_of (byte_end_of s))
+alike of_object none stop.NoMemory = none
+alike of_object none stop.Place = refl
+alike of_object none stop.Link = refl
+alike of_object none stop.Out = refl
 
 pub calm_at : (totals : Totals) (complete : Bool) (end : ByteEnd) → IsByteEndOf totals complete end
     → (byte_of_place end ≡ false) × (byte_of_link end ≡ false) × (byte_of_output end ≡ false)

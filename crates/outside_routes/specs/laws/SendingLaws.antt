@@ -141,6 +141,23 @@ grows_then first before after p q = record {
   link_later = omega (arith, p.link_later, q.link_later);
 }
 
+-- what a loop that sends has left at each turn: only that, and no call has failed
+pub record GrowsCalmly (first now : Routes) : Type 0 where
+  pub others : OnlyGrows first now
+  pub place : now.place.faults ≡ first.place.faults
+  pub link : now.link.faults ≡ first.link.faults
+
+pub calm_same : (r : Routes) → GrowsCalmly r r
+calm_same r = record { others = grows_same r; place = refl; link = refl }
+
+pub calm_then : (first before after : Routes) → GrowsCalmly first before → OnlyGrows before after
+    → after.place.faults ≡ before.place.faults → after.link.faults ≡ before.link.faults → GrowsCalmly first after
+calm_then first before after calm others place link = record {
+  others = grows_then first before after calm.others others;
+  place = place ∙ calm.place;
+  link = link ∙ calm.link;
+}
+
 -- a way that is open stays so
 pub grows_open : (way : Way) (old new : Routes) → OnlyGrows old new → IsOpen way old → IsOpen way new
 grows_open (OnFile name) old new grows is = grows.place.has_output ∙ is

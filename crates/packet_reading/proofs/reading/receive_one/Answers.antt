@@ -4,14 +4,16 @@ use Rattle.pet_base.specs.laws.Through.{on_any_err}
 use Rattle.field_elements.specs.Field.{Coding}
 use Rattle.packet_frame.specs.Planned.{planned_fields}
 use Rattle.packet_frame.specs.laws.Laws.{reads_heads_in}
-use Rattle.packet_receiver.specs.Arrivals.{ReceiverState, HasKept, kept_set}
+use Rattle.packet_receiver.specs.Arrivals.{Order, ReceiverState, HasKept, kept_set}
 use Rattle.packet_verdicts.specs.declared.verdict.Verdict.{Verdict}
 use Rattle.packet_verdicts.specs.declared.verdict.Verdict.TheVariants.{Damaged, Foreign, Clash, Repeated, Full, Kept}
 use Rattle.packet_verdicts.specs.declared.verdict.LayerSet.{LayerSet}
 use Rattle.packet_verdicts.specs.KeptSet.{KeptSet, IsKeptSetBy, open_group, group_with_by}
 use Rattle.packet_receiver.specs.ShownBytes.{IsShown}
+use Rattle.packet_verdicts.specs.Group.{group_in}
 use Rattle.packet_verdicts.specs.Verdicts.{verdict_in, is_kept, after_in}
 use Rattle.outside_files.specs.laws.OutputLaws.{puts_nothing}
+use Rattle.packet_met.specs.Records.{AreShownText, IsTextAtIn, layers_in}
 use Rattle.packet_met.specs.laws.KeptDatagram.{KeptShowsIn, kept_shows_in, text_at, nothing_at}
 use Rattle.packet_reading.specs.inside.SoFar.{CanRead}
 use Rattle.packet_reading.proofs.reading.receive_one.Goals as goal
@@ -22,6 +24,16 @@ kept_by : {E : Type 0} (c : Coding E) (r : ReceiverState E) (d : List ℕ) (show
 kept_by c r d shown ready is =
     kept_shows_in r.format ready.format ready.plan (kept_set r) d shown
     (subst (λ (w : ℕ). IsKeptSetBy w (kept_set r)) (sym ready.word) ready.sound) is
+
+-- and its text
+text_by : {E : Type 0} (P : E → Type 0) (c : Coding E) (r now : ReceiverState E) (arrival group : ℕ) (d text : List ℕ)
+    (shown : LayerSet) → CanRead c r → Kept shown ≡ verdict_in r.format (kept_set r) d → group ≡ group_in d
+    → kept_set now ≡ after_in r.format (kept_set r) d
+    → ((order : Order) → HasKept P c r order → HasKept P c now
+    (order ++ ((planned_fields r.format d).group, (planned_fields r.format d).number) ∷ []))
+    → AreShownText P c now arrival group (layers_in shown) text → IsTextAtIn P c r.format r arrival d text
+text_by P c r now arrival group d text shown ready is =
+    text_at r.format P c r now arrival group d text shown (kept_by c r d shown ready is)
 
 pub named_group-group-requires : goal.named_group-group-requires
 named_group-group-requires g c =
@@ -61,29 +73,26 @@ put_shown-requires-clause-narrow g c =
 
 pub returns-in-Kept-clause-puts : goal.returns-in-Kept-clause-puts
 returns-in-Kept-clause-puts g c =
-    let d = c.args.datagram.now in
-    let t = c.args.receiver.now.format in
-    let S = kept_set c.args.receiver.now in
-    let k = kept_by g.F.Field.coding c.args.receiver.now c.args.datagram.now c.in-Kept.shown c.requires.ready
-    (sym c.in-Kept.is ∙ c.in_ok-verdict.ensures.verdict) in
-    let text = λ (x : List ℕ). text_at t g.F.Field.is_element g.F.Field.coding c.args.receiver.now c.accept.new.self
-    c.args.arrival c.named_group-group.result d x c.in-Kept.shown k c.named_group-group.ensures c.in_ok-verdict.ensures.kept
-    (c.in_ok-verdict.ensures.order (ap is_kept c.in-Kept.is)) in
-    let p = c.in_ok-put_shown.ensures.puts in
-    (p.0, text p.0 p.1, p.2)
+    let p = c.in_ok-put_shown.ensures.puts in (
+      p.0,
+      text_by g.F.Field.is_element g.F.Field.coding c.args.receiver.now c.accept.new.self c.args.arrival
+          c.named_group-group.result c.args.datagram.now p.0 c.in-Kept.shown c.requires.ready
+          (sym c.in-Kept.is ∙ c.in_ok-verdict.ensures.verdict) c.named_group-group.ensures c.in_ok-verdict.ensures.kept
+          (c.in_ok-verdict.ensures.order (ap is_kept c.in-Kept.is)) p.1,
+      p.2,
+    )
 
 pub returns-in_err-put_shown-clause-part : goal.returns-in_err-put_shown-clause-part
 returns-in_err-put_shown-clause-part g c =
-    let d = c.args.datagram.now in
-    let t = c.args.receiver.now.format in
-    let S = kept_set c.args.receiver.now in
-    let k = kept_by g.F.Field.coding c.args.receiver.now c.args.datagram.now c.in-Kept.shown c.requires.ready
-    (sym c.in-Kept.is ∙ c.in_ok-verdict.ensures.verdict) in
-    let text = λ (x : List ℕ). text_at t g.F.Field.is_element g.F.Field.coding c.args.receiver.now c.accept.new.self
-    c.args.arrival c.named_group-group.result d x c.in-Kept.shown k c.named_group-group.ensures c.in_ok-verdict.ensures.kept
-    (c.in_ok-verdict.ensures.order (ap is_kept c.in-Kept.is)) in
     let p = c.in_err-put_shown.ensures.part in
-    on_any_err c.from_residual-in_err-put_shown.result (inr (p.0, text p.0 p.1, p.2))
+    on_any_err c.from_residual-in_err-put_shown.result (inr (
+      p.0,
+      text_by g.F.Field.is_element g.F.Field.coding c.args.receiver.now c.accept.new.self c.args.arrival
+          c.named_group-group.result c.args.datagram.now p.0 c.in-Kept.shown c.requires.ready
+          (sym c.in-Kept.is ∙ c.in_ok-verdict.ensures.verdict) c.named_group-group.ensures c.in_ok-verdict.ensures.kept
+          (c.in_ok-verdict.ensures.order (ap is_kept c.in-Kept.is)) p.1,
+      p.2,
+    ))
 
 not_kept : (v : Verdict) → ((shown : LayerSet) → v ≡ Kept shown → ⊥) → is_kept v ≡ false
 not_kept Damaged none = refl

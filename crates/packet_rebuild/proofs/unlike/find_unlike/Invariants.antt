@@ -7,7 +7,7 @@ use Rattle.packet_rebuild.proofs.unlike.find_unlike.Given as goal
 
 abbrev pub invariant-loop-first : goal.invariant-loop-first
 invariant-loop-first g l = record {
-  within : l.first ≤ l.packets;
+  within : l.first ≤ l.encoder.header.table.packets;
   none : unlike_in g.F.Field.coding (kept_set l.receiver) l.encoder 0 l.first ≡ None;
   made : IsMadeRange g.F.Field.coding l.encoder l.made;
   cost : l.steps ≤ l.initial.steps + l.first * length (needs_of l.encoder.header.table.layers);

@@ -5,7 +5,7 @@ use Rattle.packet_frame.specs.declared.frame.Header.{Header}
 use Rattle.stripe_plan.specs.Layers.{needs_of}
 use Rattle.outside_routes.specs.Sending.{routes}
 use Rattle.outside_routes.specs.Way.{way_of}
-use Rattle.outside_routes.specs.laws.SendingLaws.{sends_nothing, grows_same, grows_then}
+use Rattle.outside_routes.specs.laws.SendingLaws.{sends_nothing, calm_same, calm_then}
 use Rattle.packet_sending.specs.laws.DatagramLaws.{sends_range, part_range}
 use Rattle.packet_sending.proofs.group.put_group.Goals as goal
 
@@ -15,9 +15,7 @@ loop-first-init g c =
     record {
       within = omega arith;
       sends = sends_nothing (way_of c.args.to) r r refl refl;
-      others = grows_same r;
-      calm_place = refl;
-      calm_link = refl;
+      calm = calm_same r;
       cost = omega arith;
     }
 
@@ -33,7 +31,7 @@ returns-in_err-put_range-clause-part g c =
     (routes g.P.Place g.K.Link c.args.place.now c.args.link.now)
     (routes g.P.Place g.K.Link c.loop-first.place c.loop-first.link)
     (routes g.P.Place g.K.Link c.put_range.new.place c.put_range.new.link)
-    within c.loop-first.invariant.others.place.target c.loop-first.invariant.sends c.in_err-put_range.ensures.part)
+    within c.loop-first.invariant.calm.others.place.target c.loop-first.invariant.sends c.in_err-put_range.ensures.part)
 
 pub returns-in_err-put_range-clause-cost : goal.returns-in_err-put_range-clause-cost
 returns-in_err-put_range-clause-cost g c =
@@ -57,13 +55,12 @@ loop-first-preserved g c =
     let first = routes g.P.Place g.K.Link c.args.place.now c.args.link.now in
     let before = routes g.P.Place g.K.Link c.loop-first.place c.loop-first.link in
     let after = routes g.P.Place g.K.Link c.put_range.new.place c.put_range.new.link in
+    let told = c.in_ok-put_range.ensures.told.grows in
     record {
       within = omega (arith, c.min-count.ensures, c.from.ensures, c.loop-first.invariant.within);
       sends =
           sends_range c.args.encoder.now.format g.F.Field.coding (way_of c.args.to) e c.loop-first.first c.min-count.result first before after
-          c.loop-first.invariant.others.place.target c.loop-first.invariant.sends c.in_ok-put_range.ensures.sends;
-      others = grows_then first before after c.loop-first.invariant.others c.put_range.ensures.others;
-      calm_place = c.in_ok-put_range.ensures.once_place ∙ c.loop-first.invariant.calm_place;
-      calm_link = c.in_ok-put_range.ensures.once_link ∙ c.loop-first.invariant.calm_link;
+          c.loop-first.invariant.calm.others.place.target c.loop-first.invariant.sends c.in_ok-put_range.ensures.sends;
+      calm = calm_then first before after c.loop-first.invariant.calm told.others told.once_place told.once_link;
       cost = omega (arith, c.loop-first.invariant.cost, c.put_range.ensures.cost);
     }

@@ -2,7 +2,7 @@ use Rattle.std.proofs.Common.{◌+◌, ◌-◌, ◌<◌, ◌≤◌, length, take
 use Rattle.pet_base.specs.laws.Through.{on_any_err}
 use Rattle.outside_routes.specs.Sending.{routes}
 use Rattle.outside_routes.specs.Way.{way_of}
-use Rattle.outside_routes.specs.laws.SendingLaws.{part_nothing, sends_nothing, grows_same, grows_then}
+use Rattle.outside_routes.specs.laws.SendingLaws.{part_nothing, sends_nothing, calm_same, calm_then}
 use Rattle.packet_session.specs.Datagrams.{range_datagrams_in}
 use Rattle.packet_sending.specs.laws.DatagramLaws.{sends_packet, part_packet}
 use Rattle.packet_sending.proofs.Pieces.{piece_within, piece_is}
@@ -20,13 +20,11 @@ loop-init g c =
     record {
       place = omega arith;
       sends = sends_nothing (way_of c.args.to) r r refl refl;
-      others = grows_same r;
-      calm_place = refl;
-      calm_link = refl;
+      calm = calm_same r;
     }
 
-pub slice_bounds-put_packet-end : goal.slice_bounds-put_packet-end
-slice_bounds-put_packet-end g c =
+pub slice_bounds-put_datagram-end : goal.slice_bounds-put_datagram-end
+slice_bounds-put_datagram-end g c =
     let len = c.frame_length-length.result in
     let room : c.loop.at + len ≤ length c.deref.result.now =
     piece_within c.args.encoder.now.format g.F.Field.coding c.requires.format c.requires.bare c.args.encoder.now.encoding c.args.first c.args.count len
@@ -35,8 +33,8 @@ slice_bounds-put_packet-end g c =
     c.loop.at (omega arith) c.loop.invariant.place in
     search rules
 
-pub returns-in_err-put_packet-clause-part : goal.returns-in_err-put_packet-clause-part
-returns-in_err-put_packet-clause-part g c =
+pub returns-in_err-put_datagram-clause-part : goal.returns-in_err-put_datagram-clause-part
+returns-in_err-put_datagram-clause-part g c =
     let e = c.args.encoder.now.encoding in
     let len = c.frame_length-length.result in
     let at = c.loop.at in
@@ -46,12 +44,12 @@ returns-in_err-put_packet-clause-part g c =
     c.in_ok-range.ensures.ranges c.frame_length-length.ensures.value
     _ _ c.deref.result.now c.clear.ensures.items c.in_ok-range.ensures.ok c.deref.ensures.value c.loop.counter at
     (at + len - at) l c.loop.invariant.place (omega arith) in
-    on_any_err c.from_residual-in_err-put_packet.result
+    on_any_err c.from_residual-in_err-put_datagram.result
     (part_packet c.args.encoder.now.format g.F.Field.coding (way_of c.args.to) e c.args.first c.loop.counter c.args.count
     (take (at + len - at) (drop at c.deref.result.now))
     (routes g.P.Place g.K.Link c.args.place.now c.args.link.now) (routes g.P.Place g.K.Link c.loop.place c.loop.link)
-    (routes g.P.Place g.K.Link c.put_packet.new.place c.put_packet.new.link)
-    piece l c.loop.invariant.others.place.target c.loop.invariant.sends c.in_err-put_packet.ensures.part)
+    (routes g.P.Place g.K.Link c.put_datagram.new.place c.put_datagram.new.link)
+    piece l c.loop.invariant.calm.others.place.target c.loop.invariant.sends c.in_err-put_datagram.ensures.part)
 
 pub loop-preserved : goal.loop-preserved
 loop-preserved g c =
@@ -59,7 +57,7 @@ loop-preserved g c =
     let at = c.loop.at in
     let first = routes g.P.Place g.K.Link c.args.place.now c.args.link.now in
     let before = routes g.P.Place g.K.Link c.loop.place c.loop.link in
-    let after = routes g.P.Place g.K.Link c.put_packet.new.place c.put_packet.new.link in
+    let after = routes g.P.Place g.K.Link c.put_datagram.new.place c.put_datagram.new.link in
     record {
       place = omega (arith, c.loop.invariant.place);
       sends =
@@ -69,8 +67,8 @@ loop-preserved g c =
           c.in_ok-range.ensures.ranges c.frame_length-length.ensures.value
           _ _ c.deref.result.now c.clear.ensures.items c.in_ok-range.ensures.ok c.deref.ensures.value c.loop.counter at
           (at + len - at) (omega arith) c.loop.invariant.place (omega arith))
-          c.loop.invariant.others.place.target c.loop.invariant.sends c.in_ok-put_packet.ensures.sends;
-      others = grows_then first before after c.loop.invariant.others c.put_packet.ensures.others;
-      calm_place = c.in_ok-put_packet.ensures.once_place ∙ c.loop.invariant.calm_place;
-      calm_link = c.in_ok-put_packet.ensures.once_link ∙ c.loop.invariant.calm_link;
+          c.loop.invariant.calm.others.place.target c.loop.invariant.sends c.in_ok-put_datagram.ensures.sends;
+      calm =
+          calm_then first before after c.loop.invariant.calm c.put_datagram.ensures.others
+          c.in_ok-put_datagram.ensures.once_place c.in_ok-put_datagram.ensures.once_link;
     }

@@ -1,6 +1,7 @@
 use Rattle.std.proofs.Common.{◌≡◌, ◌*◌}
-use Rattle.outside_routes.specs.Sending.{routes, Sends, OnlyGrows}
+use Rattle.outside_routes.specs.Sending.{routes, Sends}
 use Rattle.outside_routes.specs.Way.{way_of}
+use Rattle.outside_routes.specs.laws.SendingLaws.{GrowsCalmly}
 use Rattle.packet_session.specs.Datagrams.{range_datagrams_in}
 use Rattle.packet_sending.proofs.group.put_range.Given as goal
 
@@ -9,8 +10,6 @@ invariant-loop g l = record {
   place : l.at ≡ l.counter * l.length;
   sends : Sends (way_of l.to) (range_datagrams_in l.encoder.format g.F.Field.coding l.encoder.encoding l.first l.counter)
       (routes g.P.Place g.K.Link l.initial.place l.initial.link) (routes g.P.Place g.K.Link l.place l.link);
-  others : OnlyGrows (routes g.P.Place g.K.Link l.initial.place l.initial.link)
+  calm : GrowsCalmly (routes g.P.Place g.K.Link l.initial.place l.initial.link)
       (routes g.P.Place g.K.Link l.place l.link);
-  calm_place : (g.P.Place.seen l.place).faults ≡ (g.P.Place.seen l.initial.place).faults;
-  calm_link : (g.K.Link.seen l.link).faults ≡ (g.K.Link.seen l.initial.link).faults;
 }

@@ -1,4 +1,4 @@
-use Rattle.std.proofs.Common.{Bool, sym, ap, subst, ◌∙◌}
+use Rattle.std.proofs.Common.{Bool, refl, sym, ap, subst, ◌∙◌}
 use Rattle.pet_base.specs.Seen.{PlaceStops}
 use Rattle.pet_base.specs.LinkSeen.{LinkStops}
 use Rattle.pet_base.specs.Lent.{seen}
@@ -6,9 +6,9 @@ use Rattle.outside_routes.specs.Way.{Way, way_of}
 use Rattle.packet_receiver.specs.Arrivals.{kept_set}
 use Rattle.pet_byte.specs.Failures.{byte_of_place, byte_of_link}
 use Rattle.pet_byte.specs.ReceivesBytes.{ReceivesBytes}
-use Rattle.packet_reading.specs.Begun.{OutStops}
-use Rattle.pet_byte.proofs.Ends.{bound_at_any, bound_at_stop, calm_at, ends_read, ends_stopped, link_alike, output_alike}
-use Rattle.pet_byte.proofs.Ends.{place_alike}
+use Rattle.packet_reading.specs.Begun.{OutStops, stop_of_an_output}
+use Rattle.outside_routes.specs.RouteFaults.{stop_of_a_place, stop_of_a_link}
+use Rattle.pet_byte.proofs.Ends.{alike, bound_at_any, bound_at_stop, calm_at, ends_read, ends_stopped}
 use Rattle.pet_byte.proofs.breceive.breceive.Goals as goal
 
 pub returns-in-Ok-clause-receives : goal.returns-in-Ok-clause-receives
@@ -44,7 +44,9 @@ returns-in-Err-clause-receives g c =
       link = c.read_layers.ensures.link;
       bound = bound_at_stop from before.link after.link c.in-Err.stop c.in-Err.ensures.bound;
       later = c.read_layers.ensures.later;
-      out = subst (λ (failed : Bool). OutStops failed before after) (output_alike c.in-Err.stop) c.in-Err.ensures.out;
+      out =
+          subst (λ (failed : Bool). OutStops failed before after) (alike stop_of_an_output refl c.in-Err.stop)
+          c.in-Err.ensures.out;
       ends = ends_stopped c.in-Err.stop from c.args.session c.args.layers.now before after c.in-Err.ensures.stop;
     }))
 
@@ -63,9 +65,9 @@ returns-in-Ok-clause-once_link g c =
 pub returns-in-Err-clause-once_place : goal.returns-in-Err-clause-once_place
 returns-in-Err-clause-once_place g c =
     subst (λ (failed : Bool). PlaceStops failed (seen c.args.outside.now).place (seen c.read_layers.new.outside).place)
-    (place_alike c.in-Err.stop ∙ ap byte_of_place (sym c.stopped.ensures)) c.in-Err.ensures.once_place
+    (alike stop_of_a_place refl c.in-Err.stop ∙ ap byte_of_place (sym c.stopped.ensures)) c.in-Err.ensures.once_place
 
 pub returns-in-Err-clause-once_link : goal.returns-in-Err-clause-once_link
 returns-in-Err-clause-once_link g c =
     subst (λ (failed : Bool). LinkStops failed (seen c.args.outside.now).link (seen c.read_layers.new.outside).link)
-    (link_alike c.in-Err.stop ∙ ap byte_of_link (sym c.stopped.ensures)) c.in-Err.ensures.once_link
+    (alike stop_of_a_link refl c.in-Err.stop ∙ ap byte_of_link (sym c.stopped.ensures)) c.in-Err.ensures.once_link

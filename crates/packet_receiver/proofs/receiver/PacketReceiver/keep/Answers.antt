@@ -8,6 +8,7 @@ use Rattle.packet_receiver.specs.Arrivals.{GroupState, ReceiverState, HasKept, k
 use Rattle.packet_receiver.specs.Receiving.{IsReceiver}
 use Rattle.packet_receiver.proofs.Received.{HasKeptOne, keepable_at, is_ready, kept_one, found_in, count_is}
 use Rattle.packet_receiver.proofs.receiver.PacketReceiver.keep.Given.{Over}
+use Rattle.packet_receiver.proofs.Fields.{receiver_of, receiver_with}
 use Rattle.packet_receiver.proofs.receiver.PacketReceiver.keep.Goals as goal
 use Rattle.packet_receiver.proofs.receiver.PacketReceiver.keep.Goals.{In_ok-more}
 
@@ -18,13 +19,7 @@ on_err (Err x) P p = p
 pub keep_frame-requires-clause-ready : goal.keep_frame-requires-clause-ready
 keep_frame-requires-clause-ready g c =
     let F = g.F.Field in
-    let r : ReceiverState g.row.F-Elem.Denot =
-    record {
-      format = c.self.inside.format;
-      session = c.self.inside.session;
-      limit = c.self.inside.limit;
-      groups = c.self.inside.groups.entries;
-    } in
+    let r = receiver_of c.self.inside in
     let f = view c.args.frame.now in
     let k = keepable_at r c.args.self.now f c.self.view_is c.requires.kept in
     is_ready F.is_element F.COUNT F.coding r c.self.inside.told c.self.inside.cost c.self.invariant f c.requires.frame
@@ -32,32 +27,15 @@ keep_frame-requires-clause-ready g c =
 
 pub returns-in_err-more-clause-err : goal.returns-in_err-more-clause-err
 returns-in_err-more-clause-err g c =
-    let r : ReceiverState g.row.F-Elem.Denot =
-    record {
-      format = c.self.inside.format;
-      session = c.self.inside.session;
-      limit = c.self.inside.limit;
-      groups = c.self.inside.groups.entries;
-    } in
+    let r = receiver_of c.self.inside in
     let f = view c.args.frame.now in
     let e = c.in_err-more.ensures.err in
     let none : open_group (kept_set r) f.group ≡ None =
     found_in r f.group ∙ ap (option_map (λ (s : GroupState g.row.F-Elem.Denot). s.packets)) e.2 in
-    let after : ReceiverState g.row.F-Elem.Denot =
-    record {
-      format = c.self.inside.format;
-      session = c.self.inside.session;
-      limit = c.self.inside.limit;
-      groups = c.keep_frame.new.groups.entries;
-    } in
+    let after = receiver_with c.self.inside c.keep_frame.new.groups.entries in
     let all : (after ≡ c.args.self.now) × (c.keep_frame.new.steps ≡ c.args.steps.now)
     × (opens (kept_set c.args.self.now) f ≡ true) = (
-      ap (λ (es : List (ℕ × GroupState g.row.F-Elem.Denot)). record {
-        format = c.self.inside.format;
-        session = c.self.inside.session;
-        limit = c.self.inside.limit;
-        groups = es;
-      }) e.0 ∙ c.self.view_is,
+      ap (λ (es : List (ℕ × GroupState g.row.F-Elem.Denot)). receiver_with c.self.inside es) e.0 ∙ c.self.view_is,
       e.1,
       subst (λ (v : ReceiverState g.row.F-Elem.Denot). opens (kept_set v) f ≡ true) c.self.view_is (ap is_none none),
     ) in
@@ -69,12 +47,7 @@ returns-in_err-more-clause-err g c =
 -- the receiver before the call, as its fields say
 abbrev before : (g : Over) → In_ok-more g → ReceiverState g.row.F-Elem.Denot
 before g c =
-    record {
-      format = c.self.inside.format;
-      session = c.self.inside.session;
-      limit = c.self.inside.limit;
-      groups = c.self.inside.groups.entries;
-    }
+    receiver_of c.self.inside
 
 after : (g : Over) (c : In_ok-more g)
     → HasKeptOne g.F.Field.is_element g.F.Field.COUNT g.F.Field.coding (before g c) c.self.inside.cost
@@ -95,12 +68,8 @@ pub invariant_of-self-2 : goal.invariant_of-self-2
 invariant_of-self-2 g c =
     let F = g.F.Field in
     subst (λ n. IsReceiver F.is_element F.COUNT F.coding
-    (record {
-      format = c.self.inside.format;
-      session = c.self.inside.session;
-      limit = c.self.inside.limit;
-      groups = c.keep_frame.new.groups.entries;
-    }) (Some c.args.frame.now.header.groups) (c.self.inside.cost + n))
+    (receiver_with c.self.inside c.keep_frame.new.groups.entries) (Some c.args.frame.now.header.groups)
+    (c.self.inside.cost + n))
     (sym c.in_ok-more.ensures.more) (after g (goal.at.invariant_of-self-2 g c).In_ok-more).again
 
 pub returns-clause-kept : goal.returns-clause-kept
@@ -117,13 +86,7 @@ returns-clause-order g c order kept =
 
 pub returns-clause-cost : goal.returns-clause-cost
 returns-clause-cost g c =
-    let r : ReceiverState g.row.F-Elem.Denot =
-    record {
-      format = c.self.inside.format;
-      session = c.self.inside.session;
-      limit = c.self.inside.limit;
-      groups = c.self.inside.groups.entries;
-    } in
+    let r = receiver_of c.self.inside in
     let f = view c.args.frame.now in
     let count = count_is r f.group
     ∙ ap (λ (v : ReceiverState g.row.F-Elem.Denot). count_kept (kept_set v) f.group) c.self.view_is in
