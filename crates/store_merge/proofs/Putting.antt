@@ -1,32 +1,24 @@
--- A store that is put entry by entry: what was put so far, a front of it where a put fails, and what was hashed.
-use Rattle.std.specs.Prelude.{option_map, option_and_then, unwrap_or, OnErr, Result, Ok, Err}
-use Rattle.std.proofs.Common.{◌≡◌, ◌≤◌, ℕ, ◌+◌, ◌-◌, zero, suc, List, [], ◌∷◌, ◌++◌, length, take, Option, None, Some, refl}
-use Rattle.std.proofs.Common.{sym, ap, ◌∙◌, subst, arith, append_assoc}
-use Rattle.std.specs.Int.{w32, to_be_bytes}
+-- The entries of a store, one after the other: the first of some frames stand at the front, and those of a group.
+use Rattle.std.specs.Prelude.{option_map, option_and_then, unwrap_or}
+use Rattle.std.proofs.Common.{◌≡◌, ◌≤◌, ℕ, ◌+◌, ◌-◌, zero, suc, List, [], ◌∷◌, ◌++◌, length, Option, None, Some, refl}
+use Rattle.std.proofs.Common.{sym, ap, ◌∙◌, subst, arith}
 use Rattle.std.specs.Option.{option_map_or}
 use Rattle.std.specs.List.{flat_map, filter_map, cons_option, range_with_len}
 use Rattle.std.proofs.lemmas.List.{append-nil}
 use Rattle.std.proofs.lemmas.List.Elements.{filter_map-append}
 use Rattle.std.proofs.lemmas.Grind.{flat_map-append}
 use Rattle.std.proofs.lemmas.Option.{same_Some}
-use Rattle.sha2.specs.Hashers.{Holds256}
-use Rattle.sha2.specs.declared.Sha256.{Sha256}
 use Rattle.pet_base.specs.Entries.{entry_text}
-use Rattle.pet_base.specs.Seen.{Seen}
-use Rattle.outside_files.specs.Outputs.{IsPrefix, Puts, PutsPart}
-use Rattle.outside_files.specs.laws.OutputLaws.{puts_then}
-use Rattle.outside_files.specs.laws.PartLaws.{part_after, part_within, part_of_take}
-use Rattle.packet_frame.specs.Frame.{Fields, text, tag_of}
+use Rattle.outside_files.specs.Outputs.{IsPrefix}
+use Rattle.packet_frame.specs.Frame.{Fields, text}
 use Rattle.packet_frame.specs.View.{fields_with}
-use Rattle.packet_frame.specs.declared.format.TheConstants.{FORMAT}
 use Rattle.packet_frame.specs.declared.frame.Header.{Header}
 use Rattle.packet_set.specs.Packets.{Packets, slot_at}
 use Rattle.packet_session.specs.Datagrams.{entries_text}
 use Rattle.packet_verdicts.specs.KeptSet.{KeptSet, IsKeptSet, told_by, open_group}
 use Rattle.packet_verdicts.specs.Union.{frames_in, frames_in_group}
 use Rattle.packet_verdicts.specs.laws.FramesLaws.{frames_of, first_frames, frame_at}
-use Rattle.store_text.specs.Store.{text_before_tag, store_of, store_of_in}
-use Rattle.store_text.specs.declared.format.TheConstants.{MARK}
+use Rattle.store_text.specs.laws.PuttingLaws.{entries_append}
 use Rattle.store_merge.proofs.Appended.{all_groups}
 
 -- ---- the first of some frames stand at the front
@@ -48,9 +40,6 @@ range_front n all l =
     let here : 0 + n ≡ n = omega arith in
     ap (λ k. range_with_len 0 k) parts ∙ range_split 0 n (all - n)
     ∙ ap (λ b. range_with_len 0 n ++ range_with_len b (all - n)) here
-
-entries_append : (fs gs : List Fields) → entries_text (fs ++ gs) ≡ entries_text fs ++ entries_text gs
-entries_append fs gs = flat_map-append (λ (f : Fields). entry_text (text f)) fs gs
 
 -- of the packets of a group
 pub numbers_front : (p : Packets) (n all : ℕ) → n ≤ all
@@ -81,40 +70,6 @@ pub told_front : (set : KeptSet) → IsKeptSet set → (told : Option ℕ) (n gr
 told_front set sound told n groups is many l =
     subst (λ (fs : List Fields). IsPrefix (entries_text (flat_map (frames_of set) (range_with_len 0 n))) (entries_text fs))
     (all_groups set sound told groups is many) (groups_front set n groups l)
-
--- ---- further frames
-
-pub puts_more : (fs gs all : List Fields) (first before after : Seen) → all ≡ fs ++ gs → before.target ≡ first.target
-    → Puts (entries_text fs) first before → Puts (entries_text gs) before after → Puts (entries_text all) first after
-puts_more fs gs all first before after is same p q =
-    subst (λ (t : List ℕ). Puts t first after) (sym (entries_append fs gs) ∙ ap entries_text (sym is))
-    (puts_then (entries_text fs) (entries_text gs) first before after same p q)
-
-pub part_more : (fs gs all : List Fields) (whole : List ℕ) (first before after : Seen) → all ≡ fs ++ gs
-    → IsPrefix (entries_text all) whole → before.target ≡ first.target → Puts (entries_text fs) first before
-    → PutsPart (entries_text gs) before after → PutsPart whole first after
-part_more fs gs all whole first before after is within same p part =
-    part_within (entries_text all) whole first after within
-    (subst (λ (t : List ℕ). PutsPart t first after) (sym (entries_append fs gs) ∙ ap entries_text (sym is))
-    (part_after (entries_text fs) (entries_text gs) first before after same p part))
-
--- the hasher has taken in these bytes
-abbrev pub Hashes : List ℕ → Sha256 → Sha256 → Type 0
-Hashes bytes old new = (m : List ℕ) → Holds256 old m → Holds256 new (m ++ bytes)
-
-pub hashes_nothing : (h : Sha256) → Hashes [] h h
-hashes_nothing h m holds = subst (Holds256 h) (sym (append-nil m)) holds
-
-pub hashes_then : (a b : List ℕ) (first before after : Sha256) → Hashes a first before → Hashes b before after
-    → Hashes (a ++ b) first after
-hashes_then a b first before after p q m holds = subst (Holds256 after) (append_assoc m a b) (q (m ++ a) (p m holds))
-
-pub hashes_more : (fs gs all : List Fields) (first before after : Sha256) → all ≡ fs ++ gs
-    → Hashes (entries_text fs) first before → Hashes (entries_text gs) before after
-    → Hashes (entries_text all) first after
-hashes_more fs gs all first before after is p q =
-    subst (λ (t : List ℕ). Hashes t first after) (sym (entries_append fs gs) ∙ ap entries_text (sym is))
-    (hashes_then (entries_text fs) (entries_text gs) first before after p q)
 
 -- ---- a group
 
@@ -160,71 +115,3 @@ module _ (o : Option Packets) (p : Packets) (number : ℕ) (opened : o ≡ Some 
       (slot_is (Some payload) there)
       ∙ append-nil (entry_text (text (fields_with p.header number payload)))
       ∙ ap (λ (h : Header). entry_text (text (fields_with h number payload))) same
-
--- ---- the tag
-
-pub tag_front : {A E : Type 0} (r : Result A E) (bytes : List ℕ) (old new : Seen) (h : Sha256)
-    → ((m : List ℕ) → Holds256 h m → bytes ≡ tag_of FORMAT m)
-    → OnErr r ((k : ℕ) × Puts (take k bytes) old new)
-    → OnErr r ((m : List ℕ) → Holds256 h m → PutsPart (tag_of FORMAT m) old new)
-tag_front (Ok x) bytes old new h is part = tt
-tag_front (Err e) bytes old new h is part =
-    λ m holds. subst (λ (t : List ℕ). PutsPart t old new) (is m holds) (part_of_take part.0 bytes old new part.1)
-
--- ---- the whole
-
-abbrev pub head_of : List ℕ → ℕ → List ℕ
-head_of session count = MARK ++ session ++ to_be_bytes w32 count
-
-module _ (session : List ℕ) (frames : List Fields) where
-  abbrev before_tag : List ℕ
-  before_tag = text_before_tag session frames
-
-  pub store_part : (first after : Seen) → PutsPart before_tag first after → PutsPart (store_of session frames) first after
-  unfolding store_of_in
-  store_part first after part =
-      part_within before_tag (store_of session frames) first after (tag_of FORMAT before_tag, refl) part
-
-  module _ (shown : List ℕ) (kept : ℕ) (is : shown ≡ session) (many : kept ≡ length frames) where
-    head_is : head_of shown kept ≡ head_of session (length frames)
-    head_is = ap (λ (s : List ℕ). head_of s kept) is ∙ ap (head_of session) many
-
-    pub head_part : (first after : Seen) → PutsPart (head_of shown kept) first after
-        → PutsPart (store_of session frames) first after
-    head_part first after part =
-        store_part first after
-        (part_within (head_of session (length frames)) before_tag first after (entries_text frames, refl)
-        (subst (λ (t : List ℕ). PutsPart t first after) head_is part))
-
-    module _ (first before : Seen) (same : before.target ≡ first.target) (puts : Puts (head_of shown kept) first before) where
-      pub entries_part : (after : Seen) → PutsPart (entries_text frames) before after
-          → PutsPart (store_of session frames) first after
-      entries_part after part =
-          store_part first after
-          (part_after (head_of session (length frames)) (entries_text frames) first before after same
-          (subst (λ (t : List ℕ). Puts t first before) head_is puts) part)
-
-      module _ (h0 h1 h2 : Sha256) (new : Holds256 h0 []) (hashed : Hashes (head_of shown kept) h0 h1)
-          (more : Hashes (entries_text frames) h1 h2) (last : Seen) (kept_target : last.target ≡ before.target)
-          (entries : Puts (entries_text frames) before last) where
-        holds : Holds256 h2 before_tag
-        holds = more (head_of session (length frames)) (subst (Holds256 h1) head_is (hashed [] new))
-
-        so_far : Puts before_tag first last
-        so_far =
-            puts_then (head_of session (length frames)) (entries_text frames) first before last same
-            (subst (λ (t : List ℕ). Puts t first before) head_is puts) entries
-
-        pub tag_puts : (after : Seen) → ((m : List ℕ) → Holds256 h2 m → Puts (tag_of FORMAT m) last after)
-            → Puts (store_of session frames) first after
-        unfolding store_of_in
-        tag_puts after tag =
-            puts_then before_tag (tag_of FORMAT before_tag) first last after (kept_target ∙ same) so_far
-            (tag before_tag holds)
-
-        pub tag_part : (after : Seen) → ((m : List ℕ) → Holds256 h2 m → PutsPart (tag_of FORMAT m) last after)
-            → PutsPart (store_of session frames) first after
-        unfolding store_of_in
-        tag_part after tag =
-            part_after before_tag (tag_of FORMAT before_tag) first last after (kept_target ∙ same) so_far
-            (tag before_tag holds)

@@ -1,6 +1,5 @@
 //! A store put to the output of a place, entry by entry.
-ghost use Rattle.std.specs.Prelude.{◌≡◌, ◌≤◌, ℕ, List, [], ◌∷◌, ◌++◌, None, Some, true, option_map, is_err, IfOk, IfSome, OnOk, OnErr, vec_capacity};
-ghost use Rattle.std.specs.Int.{w32, to_be_bytes};
+ghost use Rattle.std.specs.Prelude.{◌≡◌, ◌≤◌, ℕ, List, [], ◌++◌, None, Some, true, option_map, is_err, IfOk, IfSome, OnOk, OnErr, vec_capacity};
 ghost use Rattle.std.specs.List.{cons_option};
 ghost use Rattle.sha2.specs.Hashers.{Holds256};
 ghost use Rattle.pet_base.specs.declared.limits.TheConstants.{MAX_ENTRY};
@@ -9,9 +8,8 @@ ghost use Rattle.pet_base.specs.Causes.{Blames};
 ghost use Rattle.pet_base.specs.Entries.{entry_text};
 ghost use Rattle.pet_base.specs.Seen.{Seen, OnlyWrites, HasBlame, PlaceStops};
 ghost use Rattle.outside_files.specs.Outputs.{Puts, PutsPart};
-ghost use Rattle.packet_frame.specs.Frame.{IsFrame, tag_of, text};
+ghost use Rattle.packet_frame.specs.Frame.{IsFrame, text};
 ghost use Rattle.packet_frame.specs.View.{fields_with};
-ghost use Rattle.packet_frame.specs.declared.format.TheConstants.{FORMAT};
 ghost use Rattle.packet_set.specs.Packets.{Packets};
 ghost use Rattle.packet_session.specs.Datagrams.{entries_text};
 ghost use Rattle.packet_verdicts.specs.KeptSet.{IsKeptSet, open_group};
@@ -20,15 +18,15 @@ ghost use Rattle.packet_verdicts.specs.laws.FramesLaws.{frames_of, frame_at};
 ghost use Rattle.pet_receive.specs.Arrivals.{kept_set};
 ghost use Rattle.pet_receive.specs.Tags.{frame_tag};
 ghost use Rattle.store_text.specs.Store.{store_text};
-ghost use Rattle.store_text.specs.declared.format.TheConstants.{MARK};
 
-use crate::write::{append_entry, write_head};
+use crate::write::append_entry;
 use field_rows::Rows;
-use packet_frame::{FORMAT, Header};
+use packet_frame::Header;
 use pet_base::{Failed, MAX_ENTRY, NoMemory, Place};
 use pet_receive::Receiver;
 use sha2::{Digest, Sha256};
 use std::alloc::Global;
+use store_text::{put_hashed, put_head, put_tag};
 
 /// Room for the longest entry.
 pub(crate) fn entry_room(alloc: Global) -> Result<Vec<u8>, NoMemory>
@@ -57,40 +55,9 @@ pub(crate) fn put_store<F: Rows, P: Place>(
     ensures once { PlaceStops (is_err result) (P.seen place.old) (P.seen place.new) }
 {
     let mut hasher = Sha256::new();
-    put_head(
-        &receiver.session(),
-        receiver.kept(),
-        entry,
-        &mut hasher,
-        place,
-    )?;
+    put_head(&receiver.session(), receiver.kept(), &mut hasher, place)?;
     put_groups(receiver, entry, &mut hasher, place)?;
     put_tag(hasher, place)
-}
-
-/// Puts all that is before the entries.
-fn put_head<P: Place>(
-    session: &[u8; 8],
-    kept: u32,
-    buffer: &mut Vec<u8>,
-    hasher: &mut Sha256,
-    place: &mut P,
-) -> Result<(), Failed>
-    requires output { (P.seen place.old).has_output ≡ true }
-    requires room { MAX_ENTRY ≤ vec_capacity buffer.old }
-    ensures puts { OnOk result (Puts (MARK ++ session.now ++ to_be_bytes w32 kept) (P.seen place.old) (P.seen place.new)) }
-    ensures part { OnErr result (PutsPart (MARK ++ session.now ++ to_be_bytes w32 kept) (P.seen place.old) (P.seen place.new)) }
-    ensures hashed { OnOk result ((m : List ℕ) → Holds256 hasher.old m
-        → Holds256 hasher.new (m ++ (MARK ++ session.now ++ to_be_bytes w32 kept))) }
-    ensures room { MAX_ENTRY ≤ vec_capacity buffer.new }
-    ensures others { OnlyWrites (P.seen place.old) (P.seen place.new) }
-    ensures cause { HasBlame (P.seen place.old) (P.seen place.new) result
-        (Blames Written (P.seen place.old).target) }
-    ensures once { PlaceStops (is_err result) (P.seen place.old) (P.seen place.new) }
-{
-    buffer.clear();
-    write_head(session, kept, buffer);
-    put_hashed(buffer, hasher, place)
 }
 
 /// Puts the entries of all groups.
@@ -259,33 +226,4 @@ fn fill_entry(
         Ok(()) => {}
         Err(_) => unreachable!(),
     }
-}
-
-/// Puts bytes to the output, and hashes them.
-fn put_hashed<P: Place>(bytes: &[u8], hasher: &mut Sha256, place: &mut P) -> Result<(), Failed>
-    requires output { (P.seen place.old).has_output ≡ true }
-    ensures puts { OnOk result (Puts bytes.now (P.seen place.old) (P.seen place.new)) }
-    ensures part { OnErr result (PutsPart bytes.now (P.seen place.old) (P.seen place.new)) }
-    ensures hashed { (m : List ℕ) → Holds256 hasher.old m → Holds256 hasher.new (m ++ bytes.now) }
-    ensures others { OnlyWrites (P.seen place.old) (P.seen place.new) }
-    ensures cause { HasBlame (P.seen place.old) (P.seen place.new) result
-        (Blames Written (P.seen place.old).target) }
-    ensures once { PlaceStops (is_err result) (P.seen place.old) (P.seen place.new) }
-{
-    hasher.update(bytes);
-    place.put(bytes)
-}
-
-/// Puts the tag of what was hashed.
-fn put_tag<P: Place>(hasher: Sha256, place: &mut P) -> Result<(), Failed>
-    requires output { (P.seen place.old).has_output ≡ true }
-    ensures puts { OnOk result ((m : List ℕ) → Holds256 hasher m → Puts (tag_of FORMAT m) (P.seen place.old) (P.seen place.new)) }
-    ensures part { OnErr result ((m : List ℕ) → Holds256 hasher m → PutsPart (tag_of FORMAT m) (P.seen place.old) (P.seen place.new)) }
-    ensures others { OnlyWrites (P.seen place.old) (P.seen place.new) }
-    ensures cause { HasBlame (P.seen place.old) (P.seen place.new) result
-        (Blames Written (P.seen place.old).target) }
-    ensures once { PlaceStops (is_err result) (P.seen place.old) (P.seen place.new) }
-{
-    let digest = hasher.finalize();
-    place.put(&digest[..FORMAT.tag])
 }

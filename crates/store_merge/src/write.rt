@@ -113,7 +113,7 @@ fn append_head(session: &[u8; 8], kept: u32, into: &mut Vec<u8>) -> Result<(), N
 }
 
 /// Appends all that is before the entries, for which there is room.
-pub(crate) fn write_head(session: &[u8; 8], kept: u32, into: &mut Vec<u8>)
+fn write_head(session: &[u8; 8], kept: u32, into: &mut Vec<u8>)
     requires room { vec_len into.old + HEAD_LENGTH ≤ vec_capacity into.old }
     ensures items { into.new.items
         ≡ into.old.items ++ (MARK ++ session.now ++ to_be_bytes w32 kept) }

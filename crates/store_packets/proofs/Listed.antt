@@ -45,6 +45,15 @@ pub frames_next : (t : StoreForm) (many : ℕ) (bytes : List ℕ)
 unfolding frames_at
 frames_next t many bytes = refl
 
+-- the same of what was read of the first
+pub frames_then : (t : StoreForm) (rest : List ℕ) {datagram after : List ℕ} → datagram ≡ datagram_in rest
+    → after ≡ drop (entry_length rest) rest → (many : ℕ)
+    → frames_at t (suc many) rest ≡ frame_of t datagram ∷ frames_at t many after
+frames_then t rest {datagram} {after} is behind many =
+    frames_next t many rest
+    ∙ ap (λ d. frame_of t d ∷ frames_at t many (drop (entry_length rest) rest)) (sym is)
+    ∙ ap (λ l. frame_of t datagram ∷ frames_at t many l) (sym behind)
+
 pub frames_many : (t : StoreForm) (many : ℕ) (bytes : List ℕ) → length (frames_at t many bytes) ≡ many
 unfolding frames_at
 frames_many t zero bytes = refl

@@ -9,10 +9,11 @@ use Rattle.std.proofs.lemmas.Bool.{le-ltb, lt-ltb, cases_lt}
 use Rattle.std.proofs.lemmas.List.{length-append, take_at, drop_at, take-take, take-append-le, take_all, length-take}
 use Rattle.pet_base.specs.declared.limits.TheConstants.{HEAD_LENGTH, MAX_DATAGRAM}
 use Rattle.pet_base.specs.Entries.{entry_text}
-use Rattle.stripe_plan.specs.Sizes.{cost_of, datagram_length_of}
+use Rattle.stripe_plan.specs.Sizes.{cost_of, datagram_length_of, length_over, planned}
 use Rattle.packet_frame.specs.declared.format.Format.{Format}
 use Rattle.packet_frame.specs.declared.format.TheConstants.{FORMAT, OLD_FORMAT}
-use Rattle.packet_frame.specs.Frame.{Fields, layer_text, tag_of, text, text_in, text_before_tag}
+use Rattle.packet_frame.specs.Format.{payload_length_in}
+use Rattle.packet_frame.specs.Frame.{Fields, IsFrameIn, layer_text, tag_of, text, text_in, text_before_tag}
 use Rattle.packet_frame.specs.Refusals.{fields_in, first_fault_in}
 use Rattle.packet_frame.specs.laws.Again.{length-tag}
 use Rattle.packet_frame.specs.laws.Formats.{format_is, old_format_is}
@@ -31,6 +32,29 @@ shifted c a b = elim (cases_lt a b) [
   | inl lt ↦ lt-ltb (c + a) (c + b) (omega (arith, lt)) ∙ sym (lt-ltb a b lt)
   | inr le ↦ le-ltb (c + a) (c + b) (omega (arith, le)) ∙ sym (le-ltb a b le)
 ]
+
+-- a frame of a format is one of another that has room for it
+pub of_other : (t u : Format) → t.bounds.packets ≤ u.bounds.packets → t.bounds.layers ≤ u.bounds.layers
+    → t.bounds.bytes ≤ u.bounds.bytes → (f : Fields) → payload_length_in t f.layers ≡ payload_length_in u f.layers
+    → length_over u.bounds.bare (planned u.bounds f.layers) ≤ MAX_DATAGRAM → IsFrameIn t f → IsFrameIn u f
+of_other t u packets layers bytes f payload narrow is = record {
+  session = is.session;
+  some_groups = is.some_groups;
+  few_groups = is.few_groups;
+  group = is.group;
+  number = is.number;
+  table = record {
+    some_packets = is.table.some_packets;
+    few_packets = omega (arith, packets, is.table.few_packets);
+    some_layers = is.table.some_layers;
+    few_layers = omega (arith, layers, is.table.few_layers);
+    needed = is.table.needed;
+    within = is.table.within;
+    few_bytes = omega (arith, bytes, is.table.few_bytes);
+    narrow = narrow;
+  };
+  payload = is.payload ∙ payload;
+}
 
 -- ---- the fields behind the mark
 

@@ -9,3 +9,4 @@ pub mod ManyFrames
 pub mod WrittenLaws
 pub mod LengthLaws
 pub mod FileLaws
+pub mod PuttingLaws

@@ -11,7 +11,7 @@ use Rattle.store_text.specs.Store.{entries_in}
 use Rattle.store_packets.specs.inside.Reading.{frame_of}
 use Rattle.store_packets.specs.inside.Listed.{AreListed, frames_at}
 use Rattle.store_union.specs.inside.Merging.{is_before, is_pair, passed, left_from, last_before, without}
-use Rattle.store_packets.proofs.Listed.{Left, left_first, left_whole, left_fine, left_next, frames_none, frames_next}
+use Rattle.store_packets.proofs.Listed.{Left, left_first, left_whole, left_fine, left_next, frames_none, frames_then}
 
 -- ---- one frame more at the front
 
@@ -91,27 +91,21 @@ module _ (g : Fields) (count : ℕ) (last0 : Option Fields) (bytes : List ℕ) w
       abbrev f : Fields
       f = frame_of STORE_FORM datagram
 
-      frames_are : (many : ℕ) → frames_at STORE_FORM (suc many) rest ≡ f ∷ frames_at STORE_FORM many after
-      frames_are many =
-          frames_next STORE_FORM many rest
-          ∙ ap (λ d. frame_of STORE_FORM d ∷ frames_at STORE_FORM many (drop (entry_length rest) rest)) (sym is)
-          ∙ ap (λ l. f ∷ frames_at STORE_FORM many l) (sym behind)
-
       pub passes_next : is_before f g ≡ true → PassesOn g count last0 bytes (done + 1) (Some f) after
       passes_next e = record {
         listed = left_next STORE_FORM count done rest p.listed low after behind;
         left = λ many m.
-            sym (left_more g f (frames_at STORE_FORM many after) e) ∙ ap (left_from g) (sym (frames_are many))
+            sym (left_more g f (frames_at STORE_FORM many after) e) ∙ ap (left_from g) (sym (frames_then STORE_FORM rest is behind many))
             ∙ p.left (suc many) (omega (arith, m));
         before = λ many m.
             sym (last_more g f (frames_at STORE_FORM many after) last e)
-            ∙ ap (last_before g last) (sym (frames_are many))
+            ∙ ap (last_before g last) (sym (frames_then STORE_FORM rest is behind many))
             ∙ p.before (suc many) (omega (arith, m));
         front = p.front ++ entry_text (text f);
         is = p.is ∙ ap (λ l. p.front ++ l) entry ∙ sym (append_assoc p.front (entry_text (text f)) after);
         comes = λ many m.
             p.comes (suc many) (omega (arith, m))
-            ∙ ap (λ fs. p.front ++ entries_in STORE_FORM (passed g fs)) (frames_are many)
+            ∙ ap (λ fs. p.front ++ entries_in STORE_FORM (passed g fs)) (frames_then STORE_FORM rest is behind many)
             ∙ ap (λ fs. p.front ++ entries_in STORE_FORM fs) (passed_more g f (frames_at STORE_FORM many after) e)
             ∙ sym (append_assoc p.front (entry_text (text f))
             (entries_in STORE_FORM (passed g (frames_at STORE_FORM many after))));
@@ -122,7 +116,7 @@ module _ (g : Fields) (count : ℕ) (last0 : Option Fields) (bytes : List ℕ) w
         at = omega (arith, low, many)
 
         frames_here : frames_at STORE_FORM left rest ≡ f ∷ frames_at STORE_FORM (left - 1) after
-        frames_here = ap (λ n. frames_at STORE_FORM n rest) (sym at) ∙ frames_are (left - 1)
+        frames_here = ap (λ n. frames_at STORE_FORM n rest) (sym at) ∙ frames_then STORE_FORM rest is behind (left - 1)
 
         pub stop_left : frames_at STORE_FORM left rest ≡ left_from g (frames_at STORE_FORM count bytes)
         stop_left =
@@ -181,10 +175,7 @@ module _ (count : ℕ) (bytes : List ℕ) (stands : AreListed STORE_FORM count b
           ≡ frame_of STORE_FORM datagram ∷ frames_at STORE_FORM (count - 1) after
       first_frames =
           let one : count ≡ suc (count - 1) = omega (arith, some) in
-          ap (λ n. frames_at STORE_FORM n bytes) one ∙ frames_next STORE_FORM (count - 1) bytes
-          ∙ ap (λ d. frame_of STORE_FORM d ∷ frames_at STORE_FORM (count - 1) (drop (entry_length bytes) bytes))
-          (sym is)
-          ∙ ap (λ l. frame_of STORE_FORM datagram ∷ frames_at STORE_FORM (count - 1) l) (sym behind)
+          ap (λ n. frames_at STORE_FORM n bytes) one ∙ frames_then STORE_FORM bytes is behind (count - 1)
 
 pub none_stands : (count : ℕ) (bytes : List ℕ) → count ≡ 0 → frames_at STORE_FORM count bytes ≡ []
 none_stands count bytes none = ap (λ n. frames_at STORE_FORM n bytes) none ∙ frames_none STORE_FORM bytes

@@ -1,6 +1,5 @@
 //! The store of what two stores have together, put to a file.
 ghost use Rattle.std.specs.Prelude.{◌≡◌, ◌⊎◌, ◌<◌, ℕ, List, [], ◌∷◌, ◌++◌, length, None, Some, true, is_err, IfOk, OnOk, OnErr, get_or};
-ghost use Rattle.std.specs.Int.{w32, to_be_bytes};
 ghost use Rattle.sha2.specs.Hashers.{Holds256};
 ghost use Rattle.pet_base.specs.declared.place.Side.TheVariants.{Written};
 ghost use Rattle.pet_base.specs.Causes.{Blames};
@@ -14,8 +13,7 @@ ghost use Rattle.packet_frame.specs.Refusals.{first_fault};
 ghost use Rattle.packet_verdicts.specs.KeptSet.{KeptSet, kept_in_all};
 ghost use Rattle.packet_verdicts.specs.Union.{union};
 ghost use Rattle.store_text.specs.Files.{store_file};
-ghost use Rattle.store_text.specs.Form.{store_tag};
-ghost use Rattle.store_text.specs.Store.{head_in, entries_in};
+ghost use Rattle.store_text.specs.Store.{entries_in};
 ghost use Rattle.store_text.specs.declared.format.TheConstants.{STORE_FORM};
 ghost use Rattle.store_packets.specs.Packets.{HasPackets};
 ghost use Rattle.store_union.specs.Joined.{AreJoined};
@@ -27,7 +25,7 @@ use crate::union::{StorePlace, begin, pass, skip};
 use pet_base::{Failed, Place};
 use sha2::{Digest, Sha256};
 use store_packets::StorePackets;
-use store_text::{HEAD_LENGTH, STORE_FORM};
+use store_text::{put_hashed, put_head, put_tag};
 
 /// Writes the store of all packets that the one or the other has, which are so many, to the file of this name. Where it
 /// cannot be written, no file is changed, or a front of the store stands there.
@@ -82,36 +80,6 @@ fn put_union<P: Place>(
 fn known(bytes: &[u8])
     ensures { (i : ℕ) → get_or bytes.now i 0 < 256 }
 {}
-
-/// Puts all that is before the entries.
-fn put_head<P: Place>(
-    session: &[u8; 8],
-    count: u32,
-    hasher: &mut Sha256,
-    place: &mut P,
-) -> Result<(), Failed>
-    requires output { (P.seen place.old).has_output ≡ true }
-    ensures puts { OnOk result (Puts (head_in STORE_FORM session.now count) (P.seen place.old) (P.seen place.new)) }
-    ensures part { OnErr result (PutsPart (head_in STORE_FORM session.now count) (P.seen place.old) (P.seen place.new)) }
-    ensures hashed { OnOk result ((m : List ℕ) → Holds256 hasher.old m
-        → Holds256 hasher.new (m ++ head_in STORE_FORM session.now count)) }
-    ensures others { OnlyWrites (P.seen place.old) (P.seen place.new) }
-    ensures cause { HasBlame (P.seen place.old) (P.seen place.new) result
-        (Blames Written (P.seen place.old).target) }
-    ensures once { PlaceStops (is_err result) (P.seen place.old) (P.seen place.new) }
-{
-    put_hashed(&head_of(session, count), hasher, place)
-}
-
-/// All that is before the entries.
-fn head_of(session: &[u8; 8], count: u32) -> [u8; HEAD_LENGTH]
-    ensures { result ≡ head_in STORE_FORM session.now count }
-{
-    let [a, b, c, d] = STORE_FORM.mark;
-    let [e, f, g, h, i, j, k, l] = *session;
-    let [m, n, o, p] = count.to_be_bytes();
-    [a, b, c, d, e, f, g, h, i, j, k, l, m, n, o, p]
-}
 
 /// Puts the entries of both, by group, then number.
 fn put_entries<P: Place>(
@@ -208,38 +176,4 @@ fn put_both<P: Place>(
 {
     put_hashed(first, hasher, place)?;
     put_hashed(second, hasher, place)
-}
-
-/// Puts bytes to the output, if there are any, and hashes them.
-fn put_hashed<P: Place>(bytes: &[u8], hasher: &mut Sha256, place: &mut P) -> Result<(), Failed>
-    requires output { (P.seen place.old).has_output ≡ true }
-    ensures puts { OnOk result (Puts bytes.now (P.seen place.old) (P.seen place.new)) }
-    ensures part { OnErr result (PutsPart bytes.now (P.seen place.old) (P.seen place.new)) }
-    ensures hashed { (m : List ℕ) → Holds256 hasher.old m → Holds256 hasher.new (m ++ bytes.now) }
-    ensures others { OnlyWrites (P.seen place.old) (P.seen place.new) }
-    ensures cause { HasBlame (P.seen place.old) (P.seen place.new) result
-        (Blames Written (P.seen place.old).target) }
-    ensures once { PlaceStops (is_err result) (P.seen place.old) (P.seen place.new) }
-{
-    if bytes.is_empty() {
-        return Ok(());
-    }
-    hasher.update(bytes);
-    place.put(bytes)
-}
-
-/// Puts the tag of what was hashed.
-fn put_tag<P: Place>(hasher: Sha256, place: &mut P) -> Result<(), Failed>
-    requires output { (P.seen place.old).has_output ≡ true }
-    ensures puts { OnOk result ((m : List ℕ) → Holds256 hasher m
-        → Puts (store_tag STORE_FORM m) (P.seen place.old) (P.seen place.new)) }
-    ensures part { OnErr result ((m : List ℕ) → Holds256 hasher m
-        → PutsPart (store_tag STORE_FORM m) (P.seen place.old) (P.seen place.new)) }
-    ensures others { OnlyWrites (P.seen place.old) (P.seen place.new) }
-    ensures cause { HasBlame (P.seen place.old) (P.seen place.new) result
-        (Blames Written (P.seen place.old).target) }
-    ensures once { PlaceStops (is_err result) (P.seen place.old) (P.seen place.new) }
-{
-    let digest = hasher.finalize();
-    place.put(&digest[..STORE_FORM.tag])
 }

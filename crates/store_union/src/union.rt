@@ -1,5 +1,5 @@
 //! Two stores of one session, joined: whether they contradict each other, and how many packets both have.
-ghost use Rattle.std.specs.Prelude.{ℕ, nat_lt, if◌then◌else◌, ◌≡◌, ◌≤◌, ◌<◌, ◌+◌, ◌^◌, ◌++◌, ◌||◌, None, Some, IfOk, IfErr, IfSome, option_map};
+ghost use Rattle.std.specs.Prelude.{ℕ, ◌≡◌, ◌≤◌, ◌<◌, ◌+◌, ◌^◌, ◌++◌, ◌||◌, None, Some, IfOk, IfErr, IfSome, option_map};
 ghost use Rattle.packet_frame.specs.Refusals.{first_fault};
 ghost use Rattle.packet_verdicts.specs.KeptSet.{KeptSet, kept_in_all};
 ghost use Rattle.packet_verdicts.specs.Union.{union, absorb_fault};
@@ -13,7 +13,7 @@ use crate::told::{
     comes_before, cost_at, first_frame, group_at, has_pair, is_double, number_at, tells_otherwise,
 };
 use packet_verdicts::Absorb;
-use store_packets::StorePackets;
+use store_packets::{StorePackets, full_behind};
 
 /// A place among the packets of a store: the last that was passed, and what is left.
 #[derive(Clone, Copy)]
@@ -242,22 +242,9 @@ fn behind(met: Met, at: &StorePlace<'_>, next: &[u8]) -> Met
         budget: Budget {
             last: Some(group),
             left,
-            full: full_behind(met.budget, group, cost),
+            full: full_behind(met.budget.full, met.budget.left, group, cost),
         },
         new,
-    }
-}
-
-/// The first group for which too little was left, this one among them.
-fn full_behind(budget: Budget, group: u32, cost: u64) -> Option<u32>
-    ensures some { (first : ℕ) → budget.full ≡ Some first → result ≡ Some first }
-    ensures none { budget.full ≡ None
-        → result ≡ (if nat_lt budget.left cost then Some group else None) }
-{
-    match budget.full {
-        Some(first) => Some(first),
-        None if budget.left < cost => Some(group),
-        None => None,
     }
 }
 

@@ -45,16 +45,16 @@ value_of : Result KeptSet BadStore → KeptSet → KeptSet
 value_of (Ok set) d = set
 value_of (Err fault) d = d
 
-same_Ok : (a b : KeptSet) → ◌≡◌ {A = Result KeptSet BadStore} (Ok a) (Ok b) → a ≡ b
+pub same_Ok : (a b : KeptSet) → ◌≡◌ {A = Result KeptSet BadStore} (Ok a) (Ok b) → a ≡ b
 unfolding value_of
 same_Ok a b e = ap (λ r. value_of r a) e
 
-goes_on : (at : ℕ) (o : Option StoreKind) (next : Result KeptSet BadStore) (target : KeptSet)
+pub goes_on : (at : ℕ) (o : Option StoreKind) (next : Result KeptSet BadStore) (target : KeptSet)
     → then_next at o next ≡ Ok target → (o ≡ None) × (next ≡ Ok target)
 goes_on at None next target e = (refl, e)
 goes_on at (Some kind) next target e = absurd (cc)
 
-passes_both : (o : Option FrameFault) (kind : StoreKind) (rest : Option StoreKind)
+pub passes_both : (o : Option FrameFault) (kind : StoreKind) (rest : Option StoreKind)
     → (if is_some o then Some kind else rest) ≡ None → (o ≡ None) × (rest ≡ None)
 passes_both None kind rest e = (refl, e)
 passes_both (Some fault) kind rest e = absurd (cc)

@@ -21,7 +21,7 @@ use Rattle.store_text.specs.Store.{store_text, store_of_in, entries_in, text_bef
 use Rattle.store_text.specs.Refusals.{tag_place, then_tag_in, ends_in_store_tag, session_of, many_of, entries_of}
 use Rattle.store_text.specs.Refusals.{costs_in, read_entries_in, read_text_in, read_text}
 use Rattle.store_text.specs.laws.FormLaws.{store_form_is, length-store_tag}
-use Rattle.store_text.specs.laws.Leading.{Leads, leads_read}
+use Rattle.store_text.specs.laws.Leading.{Leads, leads_read, same_Ok}
 use Rattle.store_text.specs.laws.InOrder.{in_order, AreAllFrames}
 use Rattle.store_text.specs.laws.ManyFrames.{few_frames}
 
@@ -144,14 +144,6 @@ pub written_is_read : (set : KeptSet) (limit : ℕ) → IsKeptSet set → length
 written_is_read set limit sound eight fits =
     written_is_read_in STORE_FORM store_form_is (λ f is. is) set limit sound eight fits
 
-read_set : Result KeptSet BadStore → KeptSet → KeptSet
-read_set (Ok set) d = set
-read_set (Err fault) d = d
-
-same_sets : (a b : KeptSet) → ◌≡◌ {A = Result KeptSet BadStore} (Ok a) (Ok b) → a ≡ b
-unfolding read_set
-same_sets a b e = ap (λ r. read_set r a) e
-
 -- what equal texts tell
 pub record AreSame (a b : KeptSet) : Type 0 where
   pub session : a.session ≡ b.session
@@ -163,7 +155,7 @@ pub equal_texts : (a b : KeptSet) → IsKeptSet a → IsKeptSet b → length a.s
 equal_texts a b sound_a sound_b eight_a eight_b same =
     let limit = cost_kept a + cost_kept b in
     let both : record a { limit = limit } ≡ record b { limit = limit } =
-    same_sets (record a { limit = limit }) (record b { limit = limit })
+    same_Ok (record a { limit = limit }) (record b { limit = limit })
     (sym (written_is_read a limit sound_a eight_a (omega arith)) ∙ ap (read_text limit) same
     ∙ written_is_read b limit sound_b eight_b (omega arith)) in
     record { session = ap (λ (s : KeptSet). s.session) both; groups = ap (λ (s : KeptSet). s.groups) both }

@@ -1,6 +1,5 @@
 use Rattle.std.proofs.Common.{◌≡◌, ◌≤◌, Some}
 use Rattle.std.specs.Prelude.{vec_capacity}
-use Rattle.pet_base.specs.Seen.{OnlyWrites}
 use Rattle.pet_base.specs.declared.limits.TheConstants.{MAX_ENTRY}
 use Rattle.outside_files.specs.Outputs.{Puts}
 use Rattle.packet_set.specs.Packets.{Packets}
@@ -8,7 +7,7 @@ use Rattle.packet_session.specs.Datagrams.{entries_text}
 use Rattle.packet_verdicts.specs.KeptSet.{open_group}
 use Rattle.packet_verdicts.specs.laws.FramesLaws.{first_frames}
 use Rattle.pet_receive.specs.Arrivals.{kept_set}
-use Rattle.store_merge.proofs.Putting.{Hashes}
+use Rattle.store_text.specs.laws.PuttingLaws.{Hashes, PutsCalmly}
 use Rattle.store_merge.proofs.put.put_group.Given as goal
 
 abbrev pub invariant-loop-number : goal.invariant-loop-number
@@ -18,8 +17,5 @@ invariant-loop-number g l = record {
   hashed : (p : Packets) → open_group (kept_set l.receiver) l.group ≡ Some p
       → Hashes (entries_text (first_frames p l.number)) l.initial.hasher l.hasher;
   room : MAX_ENTRY ≤ vec_capacity l.entry;
-  others : OnlyWrites (g.P.Place.seen l.initial.place) (g.P.Place.seen l.place);
-  later : (g.P.Place.seen l.initial.place).faults ≤ (g.P.Place.seen l.place).faults;
-  calm : (g.P.Place.seen l.place).faults ≡ (g.P.Place.seen l.initial.place).faults;
-  blamed : (g.P.Place.seen l.place).blamed ≡ (g.P.Place.seen l.initial.place).blamed;
+  calmly : PutsCalmly (g.P.Place.seen l.initial.place) (g.P.Place.seen l.place);
 }

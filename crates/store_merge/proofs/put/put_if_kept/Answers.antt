@@ -6,7 +6,8 @@ use Rattle.packet_frame.specs.Frame.{Fields}
 use Rattle.packet_session.specs.Datagrams.{entries_text}
 use Rattle.packet_verdicts.specs.KeptSet.{open_group}
 use Rattle.pet_receive.specs.Arrivals.{kept_set}
-use Rattle.store_merge.proofs.Putting.{Hashes, hashes_nothing, none_here, some_here}
+use Rattle.store_text.specs.laws.PuttingLaws.{Hashes, hashes_nothing}
+use Rattle.store_merge.proofs.Putting.{none_here, some_here}
 use Rattle.store_merge.proofs.Tagged.{told_tag}
 use Rattle.store_merge.proofs.put.put_if_kept.Goals as goal
 

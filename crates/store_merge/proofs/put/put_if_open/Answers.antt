@@ -5,7 +5,8 @@ use Rattle.packet_frame.specs.Frame.{Fields}
 use Rattle.packet_session.specs.Datagrams.{entries_text}
 use Rattle.packet_verdicts.specs.KeptSet.{open_group}
 use Rattle.pet_receive.specs.Arrivals.{kept_set}
-use Rattle.store_merge.proofs.Putting.{Hashes, hashes_nothing, no_group}
+use Rattle.store_text.specs.laws.PuttingLaws.{Hashes, hashes_nothing}
+use Rattle.store_merge.proofs.Putting.{no_group}
 use Rattle.store_merge.proofs.put.put_if_open.Goals as goal
 
 pub returns-in-None-clause-puts : goal.returns-in-None-clause-puts

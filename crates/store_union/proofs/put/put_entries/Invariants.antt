@@ -1,11 +1,10 @@
-use Rattle.std.proofs.Common.{◌≡◌, ◌≤◌}
-use Rattle.pet_base.specs.Seen.{OnlyWrites}
 use Rattle.outside_files.specs.Outputs.{Puts}
 use Rattle.store_text.specs.declared.format.TheConstants.{STORE_FORM}
 use Rattle.store_text.specs.Store.{entries_in}
 use Rattle.store_union.specs.inside.Merging.{IsPlace, IsSpelled, left_at, frames_of}
 use Rattle.store_packets.proofs.Listed.{Left}
-use Rattle.store_union.proofs.Putting.{Hashes, MergedTo}
+use Rattle.store_text.specs.laws.PuttingLaws.{Hashes, PutsCalmly}
+use Rattle.store_union.proofs.Putting.{MergedTo}
 use Rattle.store_union.proofs.put.put_entries.Given as goal
 
 abbrev pub invariant-loop : goal.invariant-loop
@@ -16,8 +15,5 @@ invariant-loop g l = record {
   walk : MergedTo (frames_of l.mine) (frames_of l.theirs) l.theirs.count l.counter (left_at l.at) l.rest;
   puts : Puts (entries_in STORE_FORM walk.front) (g.P.Place.seen l.initial.place) (g.P.Place.seen l.place);
   hashed : Hashes (entries_in STORE_FORM walk.front) l.initial.hasher l.hasher;
-  others : OnlyWrites (g.P.Place.seen l.initial.place) (g.P.Place.seen l.place);
-  later : (g.P.Place.seen l.initial.place).faults ≤ (g.P.Place.seen l.place).faults;
-  calm : (g.P.Place.seen l.place).faults ≡ (g.P.Place.seen l.initial.place).faults;
-  blamed : (g.P.Place.seen l.place).blamed ≡ (g.P.Place.seen l.initial.place).blamed;
+  calmly : PutsCalmly (g.P.Place.seen l.initial.place) (g.P.Place.seen l.place);
 }

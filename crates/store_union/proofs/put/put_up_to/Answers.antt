@@ -4,7 +4,8 @@ use Rattle.outside_files.specs.Outputs.{Puts, PutsPart}
 use Rattle.store_text.specs.declared.format.TheConstants.{STORE_FORM}
 use Rattle.store_packets.specs.inside.Reading.{frame_of}
 use Rattle.store_union.specs.inside.Merging.{left_at, passed}
-use Rattle.store_union.proofs.Putting.{Hashes, up_to_text, left_spelled}
+use Rattle.store_text.specs.laws.PuttingLaws.{Hashes}
+use Rattle.store_union.proofs.Putting.{up_to_text, left_spelled}
 use Rattle.store_union.proofs.put.put_up_to.Goals as goal
 
 pub returns-in_err-put_both-clause-part : goal.returns-in_err-put_both-clause-part

@@ -1,6 +1,6 @@
 use Rattle.std.proofs.Common.{◌∷◌, [], List, ℕ, get_or, ap, ◌∙◌}
-use Rattle.store_union.proofs.Putting.{eight}
-use Rattle.store_union.proofs.put.head_of.Goals as goal
+use Rattle.store_text.proofs.Bytes.{eight}
+use Rattle.store_text.proofs.put.head_of.Goals as goal
 
 pub returns : goal.returns
 returns c =

@@ -1,16 +1,14 @@
-use Rattle.std.proofs.Common.{List, ℕ, length, take, refl, subst}
+use Rattle.std.proofs.Common.{List, ℕ, take, refl, subst}
 use Rattle.outside_files.specs.Outputs.{Puts}
 use Rattle.outside_files.specs.laws.OutputLaws.{on_err, puts_nothing}
 use Rattle.outside_files.specs.laws.PartLaws.{part_of_take}
-use Rattle.store_packets.proofs.Walk.{no_bytes as none_long}
-use Rattle.store_union.proofs.Putting.{no_bytes}
-use Rattle.store_union.proofs.put.put_hashed.Goals as goal
+use Rattle.store_text.proofs.Bytes.{no_bytes}
+use Rattle.store_text.proofs.put.put_hashed.Goals as goal
 
 pub returns-then-is_empty-clause-puts : goal.returns-then-is_empty-clause-puts
 returns-then-is_empty-clause-puts g c =
     let s = g.P.Place.seen c.args.place.now in
-    subst (λ (bytes : List ℕ). Puts bytes s s)
-    (no_bytes c.args.bytes.now (none_long (length c.args.bytes.now) c.if-is_empty.ensures)) (puts_nothing s s refl)
+    subst (λ (bytes : List ℕ). Puts bytes s s) (no_bytes c.args.bytes.now c.if-is_empty.ensures) (puts_nothing s s refl)
 
 pub returns-clause-part : goal.returns-clause-part
 returns-clause-part g c =

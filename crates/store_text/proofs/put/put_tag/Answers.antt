@@ -1,7 +1,7 @@
 use Rattle.std.proofs.Common.{ap, take}
 use Rattle.store_text.specs.declared.format.TheConstants.{STORE_FORM}
-use Rattle.store_union.proofs.Putting.{tag_front}
-use Rattle.store_union.proofs.put.put_tag.Goals as goal
+use Rattle.store_text.specs.laws.PuttingLaws.{tag_front}
+use Rattle.store_text.proofs.put.put_tag.Goals as goal
 
 pub returns-clause-part : goal.returns-clause-part
 returns-clause-part g c =
