@@ -1,8 +1,9 @@
 -- The packets of a group that are not kept are sent and kept one after the other, and range by range.
-use Rattle.std.proofs.Common.{◌≡◌, ℕ, ◌+◌, ◌-◌, ◌≤◌, true, false, List, [], ◌∷◌, ◌++◌, length-append, map, None}
-use Rattle.std.proofs.Common.{refl, sym, ap, subst, ◌∙◌, arith}
-use Rattle.std.specs.Prelude.{is_none}
+use Rattle.std.proofs.Common.{◌≡◌, ℕ, ◌+◌, ◌-◌, ◌<◌, ◌≤◌, Bool, true, false, List, [], ◌∷◌, ◌++◌, length-append, map}
+use Rattle.std.proofs.Common.{None, refl, sym, ap, subst, ◌∙◌, arith}
+use Rattle.std.specs.Prelude.{is_none, is_some}
 use Rattle.field_elements.specs.Gf16.{gf16_coding}
+use Rattle.packet_frame.specs.declared.frame.Header.{Header}
 use Rattle.packet_frame.specs.Frame.{IsFrame, text}
 use Rattle.packet_frame.specs.Refusals.{fields_of}
 use Rattle.packet_frame.specs.laws.Laws.{reads_frames}
@@ -13,11 +14,13 @@ use Rattle.packet_verdicts.specs.Verdicts.{verdict_of, is_kept, after}
 use Rattle.packet_verdicts.specs.laws.KeptSetLaws.{keepable, all_keep, after_kept, verdict_read}
 use Rattle.packet_rebuild.specs.Rebuilding.{HasRebuilt, IsOpenFor}
 use Rattle.packet_rebuild.specs.Repairs.{made_again, keep_all}
-use Rattle.packet_rebuild.specs.laws.RebuiltLaws.{rebuilt_none, rebuilt_then, rebuilt_had, rebuilt_one, verdict_kept}
+use Rattle.packet_rebuild.specs.laws.RebuiltLaws.{none_kept, rebuilt_none, rebuilt_then, rebuilt_had, rebuilt_one}
+use Rattle.packet_rebuild.specs.laws.RebuiltLaws.{verdict_kept}
+use Rattle.pet_receive.specs.Arrivals.{Order, ReceiverState, HasKept, kept_set}
 use Rattle.outside_routes.specs.Way.{Way}
 use Rattle.outside_routes.specs.Sending.{Routes, AreFirstDatagrams, Sends, SendsPart}
 use Rattle.outside_routes.specs.laws.SendingLaws.{sends_nothing, sends_then, part_after, part_within}
-use Rattle.pet_repair.specs.inside.Arrivals.{SendsAgain}
+use Rattle.pet_repair.specs.inside.Arrivals.{SendsAgain, StandsIn}
 
 -- one packet more is kept
 pub kept_more : (set : KeptSet) (d : List ℕ) → IsKeptSet set → is_kept (verdict_of set d) ≡ true
@@ -27,6 +30,17 @@ kept_more set d sound kept =
     ap kept_in_all (after_kept set d kept)
     ∙ all_keep set sound (fields_of d) (reads_frames d fine)
     (keepable set (fields_of d) (ap is_kept (sym (verdict_read set d fine)) ∙ kept))
+
+-- a receiver that has kept some packets in this order
+pub stands_with : (r : ReceiverState ℕ) (order : Order) → HasKept (λ a. a < 65536) gf16_coding r order
+    → IsKeptSet (kept_set r) → StandsIn r
+stands_with r order held sound = record { order = order; held = held; sound = sound }
+
+-- a packet that is not kept
+pub absent_in : (e : Encoding) (set : KeptSet) (n : ℕ) (h : Header) (has : Bool) → h ≡ e.header
+    → (is_some (payload_of set h.group n) ≡ true → has ≡ true) → has ≡ false → payload_of set e.header.group n ≡ None
+absent_in e set n h has same each lacks =
+    ap (λ (h : Header). payload_of set h.group n) (sym same) ∙ none_kept (payload_of set h.group n) has each lacks
 
 module _ (way : Way) (e : Encoding) where
   pub again_none : (set : KeptSet) (first : ℕ) (now : Routes) → SendsAgain way set e first 0 set now now

@@ -1,5 +1,5 @@
 -- What `relay` leaves of the link, where FROM is a file.
-use Rattle.std.proofs.Common.{ℕ, List, [], ◌∷◌, refl, ap, ◌∙◌}
+use Rattle.std.proofs.Common.{ℕ, List, [], ◌∷◌, ap, ◌∙◌}
 use Rattle.pet_base.specs.LinkSeen.{LinkSeen}
 use Rattle.outside_routes.specs.Coming.{OnlyTakes}
 use Rattle.outside_routes.specs.Sending.{Routes, IsOpened, IsUnopened, OnlyGrows, OnlyOpens, Sends, SendsPart}
@@ -10,11 +10,6 @@ use Rattle.pet_repair.specs.Relays.{KeepsLinkBetween}
 use Rattle.pet_repair.specs.declared.arriving.RelayStop.{RelayStop}
 use Rattle.pet_repair.specs.declared.arriving.RelayStop.TheVariants.{Route, Unlike}
 use Rattle.pet_repair.specs.inside.Arrivals.{StopsArrival}
-
-pub between_same : (from to : Way) (l : LinkSeen) → KeepsLinkBetween from to l l
-between_same (OnFile name) (OnFile other) l = refl
-between_same (OnFile name) (OnLink address) l = refl
-between_same (OnLink address) to l = tt
 
 pub between_then : (from to : Way) (a b c : LinkSeen) → KeepsLinkBetween from to a b → KeepsLinkBetween from to b c
     → KeepsLinkBetween from to a c
@@ -29,7 +24,7 @@ between_begun (OnFile name) (OnLink address) old new keeps = ap (λ (l : LinkSee
 between_begun (OnLink address) to old new keeps = tt
 
 -- TO was made ready, or not
-pub between_opened : (from to : Way) (old new : Routes) → IsOpened to old new → OnlyOpens old new
+between_opened : (from to : Way) (old new : Routes) → IsOpened to old new → OnlyOpens old new
     → KeepsLinkBetween from to old.link new.link
 between_opened (OnFile name) (OnFile other) old new is opens = is.link
 between_opened (OnFile name) (OnLink address) old new is opens = opens.link.bound
@@ -41,12 +36,24 @@ between_unopened (OnFile name) (OnFile other) old new is opens = is.1
 between_unopened (OnFile name) (OnLink address) old new is opens = opens.link.bound
 between_unopened (OnLink address) to old new is opens = tt
 
+-- and then something was sent
+pub between_sending : (from to : Way) (old opened : Routes) (new : LinkSeen) → IsOpened to old opened
+    → OnlyOpens old opened → KeepsLinkBetween from to opened.link new → KeepsLinkBetween from to old.link new
+between_sending from to old opened new is opens =
+    between_then from to old.link opened.link new (between_opened from to old opened is opens)
+
 -- a datagram came, or none
-pub between_taken : (from to : Way) (old new : Routes) → OnlyTakes from old.place old.link new.place new.link
+between_taken : (from to : Way) (old new : Routes) → OnlyTakes from old.place old.link new.place new.link
     → KeepsLinkBetween from to old.link new.link
 between_taken (OnFile name) (OnFile other) old new takes = takes.other
 between_taken (OnFile name) (OnLink address) old new takes = takes.link.bound
 between_taken (OnLink address) to old new takes = tt
+
+-- behind others
+pub between_more : (from to : Way) (first : LinkSeen) (old new : Routes) → KeepsLinkBetween from to first old.link
+    → OnlyTakes from old.place old.link new.place new.link → KeepsLinkBetween from to first new.link
+between_more from to first old new kept takes =
+    between_then from to first old.link new.link kept (between_taken from to old new takes)
 
 -- what it gives was sent, or a front
 pub between_sent : (from to : Way) (ds : List (List ℕ)) (old new : Routes) → OnlyGrows old new → Sends to ds old new

@@ -1,7 +1,7 @@
 -- What was relayed since FROM was begun and TO made ready, seen from before the command began.
 use Rattle.std.proofs.Common.{◌≡◌, ◌↔◌, ℕ, ◌≤◌, List, [], ◌∷◌, ◌++◌, Option, Bool, true, false, Ok, Err}
 use Rattle.std.proofs.Common.{refl, sym, ap, subst, ◌∙◌, arith, inl, inr}
-use Rattle.std.specs.Prelude.{IsTrue, IfSome, IsErrAnd, Result, option_map}
+use Rattle.std.specs.Prelude.{IsTrue, IfErr, IfSome, IsErrAnd, Result, option_map}
 use Rattle.pet_base.specs.Causes.{stops}
 use Rattle.std.specs.Io.KnownBytes.{append_known}
 use Rattle.pet_base.specs.declared.place.Side.TheVariants.{Read, Written}
@@ -14,7 +14,7 @@ use Rattle.outside_files.specs.Uses.{writing}
 use Rattle.outside_files.specs.laws.PrintedLaws.{Rose-since}
 use Rattle.outside_routes.specs.Bound.{bound_text}
 use Rattle.outside_routes.specs.Coming.{coming, HasInput, HasReadUntil, HaveCome, KeepsFeed}
-use Rattle.outside_routes.specs.RouteFaults.{AimedFailed, InputFailed, IsFailure, stop_of_route}
+use Rattle.outside_routes.specs.RouteFaults.{AimedFailed, InputFailed, IsFailure, stop_of_route, tells_of}
 use Rattle.outside_routes.specs.Sending.{Routes, AreFirstDatagrams, IsOpened, IsUnopened, OnlyOpens, CreatingFailed}
 use Rattle.outside_routes.specs.Sending.{IsOpen, OutputFailed}
 use Rattle.outside_routes.specs.Way.{Way, OnFile, OnLink}
@@ -32,7 +32,8 @@ use Rattle.pet_receive.specs.ShownBytes.{IsComplete}
 use Rattle.packet_met.specs.Kept.{nothing_of}
 use Rattle.packet_verdicts.specs.KeptSet.{kept_in_all}
 use Rattle.pet_repair.specs.Repaired.{on_end}
-use Rattle.pet_repair.specs.Relays.{Relays, RelaysFront, RelaysToUnlike, RelaysUntilFault, HasNotBegun, WritingFailed}
+use Rattle.pet_repair.specs.Relays.{Relayed, Relays, RelaysFront, RelaysToUnlike, RelaysUntilFault, HasNotBegun}
+use Rattle.pet_repair.specs.Relays.{WritingFailed}
 use Rattle.pet_repair.specs.Relays.{routes_of, EndsRelay, FailsBeforeTo, IsBoundAtRelayEnd, DoesRelay}
 use Rattle.pet_repair.specs.SentTo.{SentTo, SentFront}
 use Rattle.pet_repair.specs.declared.arriving.RelayStop.{RelayStop}
@@ -40,12 +41,14 @@ use Rattle.pet_repair.specs.declared.arriving.RelayStop.TheVariants.{Route, Unli
 use Rattle.pet_repair.specs.declared.relay.RelayEnd.{RelayEnd}
 use Rattle.pet_repair.specs.declared.relay.RelayEnd.TheVariants as end
 use Rattle.pet_repair.specs.declared.relaying.Relaying.{Relaying}
-use Rattle.pet_repair.specs.Failures.{relay_end_of_place, relay_end_of_link, relay_end_of_output}
-use Rattle.pet_repair.specs.inside.Arrivals.{StandsIn, relay_of_place, relay_of_link, relay_of_output}
+use Rattle.pet_repair.specs.Failures.{failure_of}
+use Rattle.pet_repair.specs.inside.Arrivals.{HaveArrivedIn, StandsIn, relay_of_output, relay_tells}
 use Rattle.pet_repair.specs.inside.Handed.{Handed, HandedPart}
 use Rattle.pet_repair.specs.inside.RelayEnds.{OnlyBegins, IsRelayingOf, IsEndOf, end_of_relay}
 use Rattle.pet_repair.specs.inside.RelaySoFar.{RelayedAll, CameFirst, CameTo, RelayedPart, RelayedTo, RelayedUntil}
 use Rattle.pet_repair.specs.inside.RelaySoFar.{KeepsAddresses, StopsRelaying}
+use Rattle.pet_repair.specs.laws.SessionRelayed.{nothing_relayed}
+use Rattle.pet_repair.proofs.ArrivalMade.{err_is}
 use Rattle.pet_repair.proofs.HandedOn.{sent_to, sent_front, sent_since, front_since, aimed_failed}
 use Rattle.pet_repair.proofs.RelayedMore.{receiving_since}
 
@@ -189,6 +192,12 @@ module _ (from : Way) (session : List ℕ) (to : Way) (before mid : OutsideSeen)
           (sent_kept from before.link mid.link only.others.link) (aimed_kept from before.link mid.link only.others.link)
           (sent_front to ds (routes_of mid) opened (routes_of new) is_opened keeps.aimed handed)
 
+      -- what was relayed of the session
+      abbrev as_relayed : (read : List (List ℕ)) (sent : List (List (List ℕ))) (now : ReceiverState ℕ)
+          → HaveArrivedIn start read sent now → Relayed session read
+      as_relayed read sent now arrived =
+          record { start = start; stands = stands; empty = empty; sent = sent; now = now; arrived = arrived }
+
       -- all datagrams of FROM
       pub relays : (n : ℕ) (r : ReceiverState ℕ) → RelayedAll from to start n opened (routes_of new) r
           → Relays from session to before new
@@ -201,14 +210,7 @@ module _ (from : Way) (session : List ℕ) (to : Way) (before mid : OutsideSeen)
                 is_read from n so_far.read before mid new new begins.begun refl so_far.many
                 (subst (λ (o : Option (List (List ℕ))). HaveCome so_far.read o (coming from new.place new.link))
                 (coming_opened from (routes_of mid) opened opens) so_far.rest) all.ended;
-            relayed = record {
-              start = start;
-              stands = stands;
-              empty = empty;
-              sent = so_far.sent;
-              now = r;
-              arrived = so_far.arrived;
-            };
+            relayed = as_relayed so_far.read so_far.sent r so_far.arrived;
             sent = sent_all (on_end so_far.sent) so_far.handed;
           }
 
@@ -253,14 +255,7 @@ module _ (from : Way) (session : List ℕ) (to : Way) (before mid : OutsideSeen)
         one = part.one;
         few = part.few;
         input = input_first from (part.read ++ part.next) begins.begun only.untouched.feed part.came;
-        relayed = record {
-          start = start;
-          stands = stands;
-          empty = empty;
-          sent = part.sent;
-          now = part.state;
-          arrived = part.arrived;
-        };
+        relayed = as_relayed part.read part.sent part.state part.arrived;
         more = part.more;
         may = part.may;
         sent = sent_part (on_end part.sent ++ part.more) part.handed;
@@ -273,14 +268,7 @@ module _ (from : Way) (session : List ℕ) (to : Way) (before mid : OutsideSeen)
         last = is.last;
         few = is.few;
         input = input_to from (is.read ++ is.last ∷ []) begins.begun only.untouched.feed is.came;
-        relayed = record {
-          start = start;
-          stands = stands;
-          empty = empty;
-          sent = is.sent;
-          now = is.state;
-          arrived = is.arrived;
-        };
+        relayed = as_relayed is.read is.sent is.state is.arrived;
         stopped = is.stopped;
         sent = sent_all (on_end is.sent ++ is.last ∷ []) is.handed;
       }
@@ -290,14 +278,7 @@ module _ (from : Way) (session : List ℕ) (to : Way) (before mid : OutsideSeen)
         read = is.read;
         few = is.few;
         come = input_to from is.read begins.begun only.untouched.feed is.came;
-        relayed = record {
-          start = start;
-          stands = stands;
-          empty = empty;
-          sent = is.sent;
-          now = is.state;
-          arrived = is.arrived;
-        };
+        relayed = as_relayed is.read is.sent is.state is.arrived;
         sent = sent_all (on_end is.sent) is.handed;
       }
 
@@ -410,40 +391,25 @@ bound_at_stop from old new stop.Link bound = bound
 bound_at_stop from old new stop.Out bound = bound
 
 -- an end with numbers tells of no failure
-pub no_place : (x : Relaying) (e : RelayEnd) → IsEndOf x e → relay_end_of_place e ≡ false
-no_place x (end.Done read sent) is = refl
-no_place x (end.Incomplete read sent) is = refl
-no_place x (end.TurnsSpent read sent) is = refl
-no_place x end.NoMemory is = absurd is
-no_place x end.PlaceFault is = absurd is
-no_place x end.LinkFault is = absurd is
-no_place x end.OutFault is = absurd is
-no_place x (end.Unlike group number) is = absurd is
-
-pub no_link : (x : Relaying) (e : RelayEnd) → IsEndOf x e → relay_end_of_link e ≡ false
-no_link x (end.Done read sent) is = refl
-no_link x (end.Incomplete read sent) is = refl
-no_link x (end.TurnsSpent read sent) is = refl
-no_link x end.NoMemory is = absurd is
-no_link x end.PlaceFault is = absurd is
-no_link x end.LinkFault is = absurd is
-no_link x end.OutFault is = absurd is
-no_link x (end.Unlike group number) is = absurd is
+pub no_failure : (x : Relaying) (e : RelayEnd) (of_object : RouteStop → Bool) → IsEndOf x e
+    → tells_of of_object (failure_of e) ≡ false
+no_failure x (end.Done read sent) of_object is = refl
+no_failure x (end.Incomplete read sent) of_object is = refl
+no_failure x (end.TurnsSpent read sent) of_object is = refl
+no_failure x end.NoMemory of_object is = absurd is
+no_failure x end.PlaceFault of_object is = absurd is
+no_failure x end.LinkFault of_object is = absurd is
+no_failure x end.OutFault of_object is = absurd is
+no_failure x (end.Unlike group number) of_object is = absurd is
 
 -- and that of a stop of what the stop does
-pub stop_place : (s : RelayStop) → relay_end_of_place (end_of_relay s) ≡ relay_of_place s
-stop_place (Route stop.NoMemory) = refl
-stop_place (Route stop.Place) = refl
-stop_place (Route stop.Link) = refl
-stop_place (Route stop.Out) = refl
-stop_place (Unlike group number) = refl
-
-pub stop_link : (s : RelayStop) → relay_end_of_link (end_of_relay s) ≡ relay_of_link s
-stop_link (Route stop.NoMemory) = refl
-stop_link (Route stop.Place) = refl
-stop_link (Route stop.Link) = refl
-stop_link (Route stop.Out) = refl
-stop_link (Unlike group number) = refl
+pub stop_tells : (of_object : RouteStop → Bool) → of_object stop.NoMemory ≡ false → (s : RelayStop)
+    → relay_tells of_object s ≡ tells_of of_object (failure_of (end_of_relay s))
+stop_tells of_object none (Route stop.NoMemory) = none
+stop_tells of_object none (Route stop.Place) = refl
+stop_tells of_object none (Route stop.Link) = refl
+stop_tells of_object none (Route stop.Out) = refl
+stop_tells of_object none (Unlike group number) = refl
 
 -- by the texts of the ends
 pub relays_at : (from a to b : Way) (session : List ℕ) (before after : OutsideSeen) (e : RelayEnd) → from ≡ a → to ≡ b
@@ -451,24 +417,6 @@ pub relays_at : (from a to b : Way) (session : List ℕ) (before after : Outside
 relays_at from a to b session before after e p q does =
     subst (λ (w : Way). DoesRelay w session b before after e) p
     (subst (λ (w : Way). DoesRelay from session w before after e) q does)
-
--- which end tells of a failure of the output
-pub no_output : (x : Relaying) (e : RelayEnd) → IsEndOf x e → relay_end_of_output e ≡ false
-no_output x (end.Done read sent) is = refl
-no_output x (end.Incomplete read sent) is = refl
-no_output x (end.TurnsSpent read sent) is = refl
-no_output x end.NoMemory is = absurd is
-no_output x end.PlaceFault is = absurd is
-no_output x end.LinkFault is = absurd is
-no_output x end.OutFault is = absurd is
-no_output x (end.Unlike group number) is = absurd is
-
-pub stop_output : (s : RelayStop) → relay_of_output s ≡ relay_end_of_output (end_of_relay s)
-stop_output (Route stop.NoMemory) = refl
-stop_output (Route stop.Place) = refl
-stop_output (Route stop.Link) = refl
-stop_output (Route stop.Out) = refl
-stop_output (Unlike group number) = refl
 
 pub route_output : (f : RouteFailed) → false ≡ relay_of_output (Route (stop_of_route f))
 route_output failed.Place = refl
@@ -481,6 +429,19 @@ relaying_output from to start first now (Route stop.Place) stops = refl
 relaying_output from to start first now (Route stop.Link) stops = refl
 relaying_output from to start first now (Route stop.Out) stops = absurd stops
 relaying_output from to start first now (Unlike group number) stops = refl
+
+-- want of memory before anything was done
+module _ (from : Way) (session : List ℕ) (to : Way) (now : OutsideSeen) {T : Type 0} (result : Result T RelayStop)
+    (is : IsErrAnd result (λ s. s ≡ Route stop.NoMemory)) where
+  pub unused_stopped : IfErr result (λ s. EndsRelay from session to now now (end_of_relay s))
+  unused_stopped =
+      err_is (λ s. EndsRelay from session to now now (end_of_relay s)) result (Route stop.NoMemory) is
+      (nothing_relayed from session to now).ends
+
+  pub unused_bound : IfErr result (λ s. IsBoundAtRelayEnd from now.link now.link (end_of_relay s))
+  unused_bound =
+      err_is (λ s. IsBoundAtRelayEnd from now.link now.link (end_of_relay s)) result (Route stop.NoMemory) is
+      (nothing_relayed from session to now).bound
 
 -- the output failed in this call exactly where the answer tells so
 pub out_of : {T : Type 0} (result : Result T RelayStop) (why : RelayStop) (broken : Bool) (before after : OutsideSeen)

@@ -1,5 +1,5 @@
 -- What was repaired since the store was read and TO made ready, seen from before.
-use Rattle.std.proofs.Common.{◌≡◌, ℕ, ◌≤◌, List, length, sym, ap, subst, ◌∙◌, arith, inl, inr}
+use Rattle.std.proofs.Common.{◌≡◌, ℕ, ◌≤◌, List, length, map, sym, ap, subst, ◌∙◌, arith, inl, inr}
 use Rattle.std.specs.Prelude.{Result, Ok, Err, IfErr, IsErrAnd}
 use Rattle.pet_base.specs.LinkSeen.{LinkSeen}
 use Rattle.pet_base.specs.Seen.{Seen, Blame, HadFault}
@@ -11,8 +11,12 @@ use Rattle.outside_routes.specs.Sending.{CreatingFailed}
 use Rattle.outside_routes.specs.Way.{Way, OnFile, OnLink}
 use Rattle.outside_routes.specs.declared.fault.RouteFailed.{RouteFailed}
 use Rattle.outside_routes.specs.declared.fault.RouteFailed.TheVariants as failed
-use Rattle.pet_receive.specs.Arrivals.{kept_set}
+use Rattle.packet_met.specs.Gf16.{HasKeptIn}
+use Rattle.packet_verdicts.specs.KeptSet.{IsKeptSet}
+use Rattle.packet_verdicts.specs.Union.{frames_in}
+use Rattle.pet_receive.specs.Arrivals.{ReceiverState, kept_set}
 use Rattle.pet_receive.specs.ShownBytes.{groups_told}
+use Rattle.store_text.specs.Files.{HasStore}
 use Rattle.store_merge.specs.Files.{IsStop}
 use Rattle.store_merge.specs.declared.read_files.StoreStop.{StoreStop}
 use Rattle.store_merge.specs.declared.read_files.StoreStop.TheVariants as unread
@@ -31,6 +35,18 @@ pub repair_end_is : {T : Type 0} (P : RepairEnd → Type 0) (result : Result T R
     → IsErrAnd result (λ x. x ≡ e) → P e → IfErr result P
 repair_end_is P (Ok x) e is p = tt
 repair_end_is P (Err x) e is p = subst P (sym is) p
+
+-- the receiver that has read the store
+abbrev pub state_read : (store : List ℕ) (old : Seen) (r : ReceiverState ℕ)
+    → HasKeptIn r (map (λ f. (f.group, f.number)) (frames_in (kept_set r))) → IsKeptSet (kept_set r)
+    → HasStore old.files store (kept_set r) → HasState store old
+state_read store old r stands sound file = record {
+  state = r;
+  order = map (λ f. (f.group, f.number)) (frames_in (kept_set r));
+  stands = stands;
+  sound = sound;
+  file = file;
+}
 
 -- the store may be blamed, and TO once it was read
 blames_store : (way : Way) (store : List ℕ) (old : Seen) (b : Blame) → b ≡ reading store → MayBlame store way old b

@@ -1,5 +1,6 @@
 pub mod Failures
 pub mod SentTo
+pub mod Relay
 pub mod Repaired
 pub mod Repairs
 pub mod Arrival

@@ -10,7 +10,7 @@ use Rattle.packet_frame.specs.Frame.{text}
 use Rattle.packet_frame.specs.declared.format.TheConstants.{FORMAT}
 use Rattle.packet_session.specs.Session.{Session}
 use Rattle.packet_met.specs.Met.{Pair, all_shown, met_in}
-use Rattle.packet_relay.specs.Relay.{output_from, arrivals_of, packets_at}
+use Rattle.pet_repair.specs.Relay.{output_from, arrivals_of, packets_at}
 use Rattle.packet_rebuild.specs.Message.{HaveZeroEnds}
 use Rattle.packet_reading.specs.Opened.{IsBoundTo, PrintedPort}
 use Rattle.packet_reading.specs.SessionRead.{HasPacketsOfIn}

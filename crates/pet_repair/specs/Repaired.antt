@@ -9,7 +9,7 @@ use Rattle.packet_session.specs.Session.{Session, packets_of_group}
 use Rattle.packet_verdicts.specs.KeptSet.{KeptSet}
 use Rattle.pet_receive.specs.Arrivals.{ReceiverState, kept_set}
 use Rattle.packet_met.specs.Met.{Pair}
-use Rattle.packet_relay.specs.Relay.{all_layers}
+use Rattle.pet_repair.specs.Relay.{all_layers}
 use Rattle.packet_rebuild.specs.Repairs.{repair_fault, IsEncoderOf, first_unlike_of}
 
 -- all layers of the group are shown

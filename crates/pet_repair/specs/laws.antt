@@ -1,3 +1,6 @@
+pub mod RelayLaws
+pub mod WholeLaws
+pub mod RelayRows
 pub mod SessionRelay
 pub mod RepairLaws
 pub mod SessionRepaired

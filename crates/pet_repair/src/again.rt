@@ -1,10 +1,6 @@
 //! The packets of a group that are not kept, made again, sent and kept.
-ghost use Rattle.std.specs.Prelude.{◌+◌, ◌<◌, ◌≤◌, map, OnOk, OnErr, IfErr};
-ghost use Rattle.pet_base.specs.Causes.{stops};
-ghost use Rattle.pet_base.specs.LinkSeen.{LinkStops};
-ghost use Rattle.pet_base.specs.Seen.{PlaceStops};
-ghost use Rattle.outside_routes.specs.RouteFaults.{IsStop, stop_of_a_place, stop_of_a_link};
-ghost use Rattle.outside_routes.specs.Sending.{routes, SendsPart, IsOpen, OnlyGrows, OutputFailed, SendingFailed};
+ghost use Rattle.std.specs.Prelude.{◌+◌, ◌<◌, ◌≤◌, map, OnOk, OnErr};
+ghost use Rattle.outside_routes.specs.Sending.{routes, SendsPart, SendsTold, IsOpen};
 ghost use Rattle.outside_routes.specs.Way.{way_of};
 ghost use Rattle.field_elements.specs.Gf16.{gf16_coding};
 ghost use Rattle.packet_frame.specs.Frame.{text};
@@ -14,9 +10,8 @@ ghost use Rattle.packet_rebuild.specs.Rebuilding.{IsOpenFor};
 ghost use Rattle.packet_rebuild.specs.Repairs.{made_again};
 ghost use Rattle.pet_repair.specs.inside.Arrivals.{SendsAgain, StandsIn};
 
-use crate::sending::put_datagram;
-use outside_routes::{Route, RouteStop};
-use packet_rebuild::{MadeRange, at_once, make_frame, make_range};
+use outside_routes::{Route, RouteStop, put_datagram};
+use packet_rebuild::{MadeRange, make_frame, make_range, next_count};
 use pet_base::{Link, Place, Steps};
 use pet_encode::Encoder;
 use pet_field::Gf16Tables;
@@ -48,21 +43,14 @@ pub(crate) fn put_others<P: Place, K: Link, L: Ledger>(
     ensures part { OnErr result (SendsPart (way_of to.entry)
         (map text (made_again gf16_coding (kept_set receiver.old) encoder.now 0 encoder.now.header.table.packets))
         (routes P.Place K.Link place.old link.old) (routes P.Place K.Link place.new link.new)) }
-    ensures others { OnlyGrows (routes P.Place K.Link place.old link.old)
+    ensures told { SendsTold (way_of to.entry) result (routes P.Place K.Link place.old link.old)
         (routes P.Place K.Link place.new link.new) }
-    ensures cause { IfErr result (IsStop
-        (OutputFailed (way_of to.entry) (P.seen place.old) (P.seen place.new))
-        (SendingFailed (way_of to.entry) (K.seen link.old) (K.seen link.new)) ⊥) }
-    ensures once_place { PlaceStops (stops stop_of_a_place result) (P.seen place.old) (P.seen place.new) }
-    ensures once_link { LinkStops (stops stop_of_a_link result) (K.seen link.old) (K.seen link.new) }
 {
-    let table = &encoder.header().table;
-    let packets = table.packets();
-    let most = at_once(table);
+    let packets = encoder.header().table.packets();
     let mut frame = Vec::new(alloc);
     let mut first = 0;
     while first < packets {
-        let count = most.min(u32::from(packets - first)) as u16;
+        let count = next_count(encoder, first);
         make_range(encoder, first, count, made, steps)?;
         put_others_of(
             to, receiver, encoder, made, &mut frame, entry, place, link, steps,
@@ -96,13 +84,8 @@ fn put_others_of<P: Place, K: Link, L: Ledger>(
     ensures part { OnErr result (SendsPart (way_of to.entry)
         (map text (made_again gf16_coding (kept_set receiver.old) encoder.now made.now.first made.now.count))
         (routes P.Place K.Link place.old link.old) (routes P.Place K.Link place.new link.new)) }
-    ensures others { OnlyGrows (routes P.Place K.Link place.old link.old)
+    ensures told { SendsTold (way_of to.entry) result (routes P.Place K.Link place.old link.old)
         (routes P.Place K.Link place.new link.new) }
-    ensures cause { IfErr result (IsStop
-        (OutputFailed (way_of to.entry) (P.seen place.old) (P.seen place.new))
-        (SendingFailed (way_of to.entry) (K.seen link.old) (K.seen link.new)) ⊥) }
-    ensures once_place { PlaceStops (stops stop_of_a_place result) (P.seen place.old) (P.seen place.new) }
-    ensures once_link { LinkStops (stops stop_of_a_link result) (K.seen link.old) (K.seen link.new) }
 {
     for p in 0..made.count {
         let number = made.first + p;
@@ -140,20 +123,15 @@ fn put_other<P: Place, K: Link, L: Ledger>(
     ensures part { OnErr result (SendsPart (way_of to.entry)
         (map text (made_again gf16_coding (kept_set receiver.old) encoder.now number 1))
         (routes P.Place K.Link place.old link.old) (routes P.Place K.Link place.new link.new)) }
-    ensures others { OnlyGrows (routes P.Place K.Link place.old link.old)
+    ensures told { SendsTold (way_of to.entry) result (routes P.Place K.Link place.old link.old)
         (routes P.Place K.Link place.new link.new) }
-    ensures cause { IfErr result (IsStop
-        (OutputFailed (way_of to.entry) (P.seen place.old) (P.seen place.new))
-        (SendingFailed (way_of to.entry) (K.seen link.old) (K.seen link.new)) ⊥) }
-    ensures once_place { PlaceStops (stops stop_of_a_place result) (P.seen place.old) (P.seen place.new) }
-    ensures once_link { LinkStops (stops stop_of_a_link result) (K.seen link.old) (K.seen link.new) }
 {
     if receiver.has(encoder.header().group, number) {
         return Ok(());
     }
     make_frame(encoder, made, number, frame)?;
     let datagram = frame.as_slice();
-    put_datagram(to, datagram, entry, place, link)?;
+    put_datagram(to, place, link, datagram, entry)?;
     receiver.accept(datagram, steps)?;
     Ok(())
 }

@@ -1,18 +1,14 @@
 //! One arrival of a relay.
 ghost use Rattle.std.specs.Prelude.{◌≡◌, ◌≢◌, ◌≤◌, length, OnOk, IfErr};
-ghost use Rattle.pet_base.specs.Causes.{stops};
-ghost use Rattle.pet_base.specs.LinkSeen.{LinkStops};
-ghost use Rattle.pet_base.specs.Seen.{PlaceStops};
 ghost use Rattle.pet_base.specs.declared.limits.TheConstants.{MAX_ENTRY};
-ghost use Rattle.outside_routes.specs.Sending.{routes, IsOpen, OnlyGrows};
+ghost use Rattle.outside_routes.specs.Sending.{routes, GrowsTold, IsOpen};
 ghost use Rattle.outside_routes.specs.Way.{way_of};
 ghost use Rattle.pet_receive.specs.Arrivals.{kept_set};
 ghost use Rattle.packet_rebuild.specs.Rebuilding.{IsOpenFor};
 ghost use Rattle.pet_repair.specs.inside.Arrivals.{StandsIn, SendsLike, StopsLike, SendsCompletion, StopsCompletion, SendsArrival, StopsArrival, relay_of_place, relay_of_link};
 
 use crate::again::put_others;
-use crate::sending::put_datagram;
-use outside_routes::{Route, RouteFailed, RouteStop};
+use outside_routes::{Route, RouteFailed, RouteStop, put_datagram};
 use packet_rebuild::{MadeRange, RepairFault, encoder_of, find_unlike};
 use packet_verdicts::{Verdict, group_of};
 use pet_base::{Link, NoMemory, Place, Steps};
@@ -60,10 +56,7 @@ impl From<RouteFailed> for RelayStop {
     ghost from_gives = { λ failed end. end ≡ Route (stop_of_route failed) };
 
     fn from(failed: RouteFailed) -> RelayStop {
-        match failed {
-            RouteFailed::Place => RelayStop::Route(RouteStop::Place),
-            RouteFailed::Link => RelayStop::Route(RouteStop::Link),
-        }
+        RelayStop::Route(RouteStop::from(failed))
     }
 }
 
@@ -97,14 +90,12 @@ pub(crate) fn relay_one<P: Place, K: Link, L: Ledger>(
         (routes P.Place K.Link place.old link.old) (routes P.Place K.Link place.new link.new)) }
     ensures stopped { IfErr result (StopsArrival (way_of to.entry) receiver.old datagram.now
         (routes P.Place K.Link place.old link.old) (routes P.Place K.Link place.new link.new)) }
-    ensures others { OnlyGrows (routes P.Place K.Link place.old link.old)
+    ensures told { GrowsTold relay_of_place relay_of_link result (routes P.Place K.Link place.old link.old)
         (routes P.Place K.Link place.new link.new) }
-    ensures once_place { PlaceStops (stops relay_of_place result) (P.seen place.old) (P.seen place.new) }
-    ensures once_link { LinkStops (stops relay_of_link result) (K.seen link.old) (K.seen link.new) }
 {
     match receiver.accept(datagram, steps)? {
         Verdict::Kept(shown) => {
-            put_datagram(to, datagram, entry, place, link)?;
+            put_datagram(to, place, link, datagram, entry)?;
             if shown.bits == 0 {
                 return Ok(());
             }
@@ -133,10 +124,8 @@ fn complete<P: Place, K: Link, L: Ledger>(
         (routes P.Place K.Link place.old link.old) (routes P.Place K.Link place.new link.new)) }
     ensures stopped { IfErr result (StopsCompletion (way_of to.entry) receiver.old group
         (routes P.Place K.Link place.old link.old) (routes P.Place K.Link place.new link.new)) }
-    ensures others { OnlyGrows (routes P.Place K.Link place.old link.old)
+    ensures told { GrowsTold relay_of_place relay_of_link result (routes P.Place K.Link place.old link.old)
         (routes P.Place K.Link place.new link.new) }
-    ensures once_place { PlaceStops (stops relay_of_place result) (P.seen place.old) (P.seen place.new) }
-    ensures once_link { LinkStops (stops relay_of_link result) (K.seen link.old) (K.seen link.new) }
 {
     match encoder_of(alloc, field, receiver, group) {
         Ok(encoder) => make_whole(
@@ -177,10 +166,8 @@ fn make_whole<P: Place, K: Link, L: Ledger>(
         (routes P.Place K.Link place.old link.old) (routes P.Place K.Link place.new link.new)) }
     ensures stopped { IfErr result (StopsLike (way_of to.entry) receiver.old encoder.now group
         (routes P.Place K.Link place.old link.old) (routes P.Place K.Link place.new link.new)) }
-    ensures others { OnlyGrows (routes P.Place K.Link place.old link.old)
+    ensures told { GrowsTold relay_of_place relay_of_link result (routes P.Place K.Link place.old link.old)
         (routes P.Place K.Link place.new link.new) }
-    ensures once_place { PlaceStops (stops relay_of_place result) (P.seen place.old) (P.seen place.new) }
-    ensures once_link { LinkStops (stops relay_of_link result) (K.seen link.old) (K.seen link.new) }
 {
     let mut made = MadeRange::new(alloc);
     match find_unlike(receiver, encoder, &mut made, steps)? {

@@ -4,8 +4,8 @@
 //! stands in `specs/Repairs.antt`; over packets of one session that is all packets of the session's complete groups. `relay` reads
 //! datagrams and sends each that is kept at its arrival, and the other packets of its group where with it the group is complete. What it
 //! leaves at each of its ends stands in `specs/Relays.antt`, and arrival by arrival in `specs/Arrival.antt`; over packets of one session
-//! that is what the rule of `packet_relay` sends. The encoder of a kept group, and the check of what is kept against it, are those of
-//! `packet_rebuild`.
+//! that is what the rule of `specs/Relay.antt` sends. The encoder of a kept group, and the check of what is kept against it, are
+//! those of `packet_rebuild`.
 #![tactic(auto)]
 
 mod again;
@@ -14,7 +14,6 @@ mod relay;
 mod relaying;
 mod repair;
 mod repairing;
-mod sending;
 mod whole;
 
 pub use packet_rebuild::{RepairFault, encoder_of, first_unlike};

@@ -9,7 +9,7 @@ ghost use Rattle.pet_base.specs.Seen.{PlaceStops};
 ghost use Rattle.outside_routes.specs.Coming.{HasInput};
 ghost use Rattle.outside_routes.specs.Sending.{routes, IsOpen};
 ghost use Rattle.outside_routes.specs.Way.{way_of};
-ghost use Rattle.packet_reading.specs.Begun.{Begins, OutStops};
+ghost use Rattle.packet_reading.specs.Begun.{Begins, OutStops, StopsTold};
 ghost use Rattle.packet_reading.specs.Opened.{IsBoundTo, PrintedPort};
 ghost use Rattle.packet_verdicts.specs.KeptSet.{kept_in_all};
 ghost use Rattle.pet_receive.specs.Arrivals.{kept_set};
@@ -58,13 +58,9 @@ pub(crate) fn relay<P: Place, K: Link, S: Sink, L: Ledger>(
         (seen outside.new).link (end_of_relay stop)) }
     ensures kept { KeepsLinkBetween (way_of from.entry) (way_of to.entry) (seen outside.old).link
         (seen outside.new).link }
-    ensures later { (seen outside.old).out_faults ≤ (seen outside.new).out_faults }
+    ensures told { StopsTold relay_of_place relay_of_link result (seen outside.old) (seen outside.new) }
     ensures out { OutStops (stops relay_of_output result) (seen outside.old) (seen outside.new) }
     ensures same { AreSame outside.old outside.new }
-    ensures once_place { PlaceStops (stops relay_of_place result) (seen outside.old).place
-        (seen outside.new).place }
-    ensures once_link { LinkStops (stops relay_of_link result) (seen outside.old).link
-        (seen outside.new).link }
 {
     let mut buffer = room(alloc)?;
     let field = Gf16Tables::new(alloc)?;
@@ -105,12 +101,8 @@ fn relay_begun<P: Place, K: Link, S: Sink, L: Ledger>(
         (seen outside.new).link }
     ensures bound { (seen outside.new).link.bound ≡ (seen outside.old).link.bound }
     ensures out { OutStops (stops relay_of_output result) (seen outside.old) (seen outside.new) }
-    ensures later { (seen outside.old).out_faults ≤ (seen outside.new).out_faults }
+    ensures told { StopsTold relay_of_place relay_of_link result (seen outside.old) (seen outside.new) }
     ensures same { AreSame outside.old outside.new }
-    ensures once_place { PlaceStops (stops relay_of_place result) (seen outside.old).place
-        (seen outside.new).place }
-    ensures once_link { LinkStops (stops relay_of_link result) (seen outside.old).link
-        (seen outside.new).link }
 {
     open_route(to, outside.place, outside.link)?;
     let mut receiver = Receiver::new(alloc, field, session, MAX_SESSION);

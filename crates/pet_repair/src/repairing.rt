@@ -3,7 +3,7 @@ ghost use Rattle.std.specs.Prelude.{◌≡◌, ◌≢◌, ◌≤◌, length, IfO
 ghost use Rattle.pet_base.specs.Causes.{stops};
 ghost use Rattle.pet_base.specs.LinkSeen.{LinkStops};
 ghost use Rattle.pet_base.specs.Seen.{PlaceStops};
-ghost use Rattle.outside_routes.specs.Sending.{routes, IsOpen, OnlyGrows};
+ghost use Rattle.outside_routes.specs.Sending.{routes, GrowsTold, IsOpen};
 ghost use Rattle.outside_routes.specs.Way.{way_of};
 ghost use Rattle.packet_verdicts.specs.KeptSet.{IsKeptSet};
 ghost use Rattle.pet_receive.specs.Arrivals.{kept_set};
@@ -52,10 +52,7 @@ impl From<RouteFailed> for RepairEnd {
     ghost from_gives = { λ failed end. end ≡ end_of_failed failed };
 
     fn from(failed: RouteFailed) -> RepairEnd {
-        match failed {
-            RouteFailed::Place => RepairEnd::PlaceFault,
-            RouteFailed::Link => RepairEnd::LinkFault,
-        }
+        RepairEnd::from(RouteStop::from(failed))
     }
 }
 
@@ -129,10 +126,8 @@ fn repair_groups<P: Place, K: Link, L: Ledger>(
         (routes P.Place K.Link place.new link.new)) }
     ensures stop { IfErr result (StopsInGroups (way_of to.entry) receiver.now
         (routes P.Place K.Link place.old link.old) (routes P.Place K.Link place.new link.new)) }
-    ensures others { OnlyGrows (routes P.Place K.Link place.old link.old)
+    ensures told { GrowsTold repair_of_place repair_of_link result (routes P.Place K.Link place.old link.old)
         (routes P.Place K.Link place.new link.new) }
-    ensures once_place { PlaceStops (stops repair_of_place result) (P.seen place.old) (P.seen place.new) }
-    ensures once_link { LinkStops (stops repair_of_link result) (K.seen link.old) (K.seen link.new) }
 {
     let groups = receiver.groups().unwrap_or(0);
     let mut done = Repaired {
@@ -165,10 +160,8 @@ fn repair_group<P: Place, K: Link, L: Ledger>(
     ensures few { IfOk result (λ n. (n.groups ≤ 1) × (n.datagrams ≤ MAX_PACKETS)) }
     ensures stop { IfErr result (StopsAtGroup (way_of to.entry) receiver.now group
         (routes P.Place K.Link place.old link.old) (routes P.Place K.Link place.new link.new)) }
-    ensures others { OnlyGrows (routes P.Place K.Link place.old link.old)
+    ensures told { GrowsTold repair_of_place repair_of_link result (routes P.Place K.Link place.old link.old)
         (routes P.Place K.Link place.new link.new) }
-    ensures once_place { PlaceStops (stops repair_of_place result) (P.seen place.old) (P.seen place.new) }
-    ensures once_link { LinkStops (stops repair_of_link result) (K.seen link.old) (K.seen link.new) }
 {
     match encoder_of(alloc, field, receiver, group) {
         Ok(encoder) => send_whole(alloc, to, receiver, &encoder, group, place, link, steps),
@@ -208,10 +201,8 @@ fn send_whole<P: Place, K: Link, L: Ledger>(
     ensures few { IfOk result (λ n. (n.groups ≤ 1) × (n.datagrams ≤ MAX_PACKETS)) }
     ensures stop { IfErr result (StopsEncoded (way_of to.entry) receiver.now encoder.now group
         (routes P.Place K.Link place.old link.old) (routes P.Place K.Link place.new link.new)) }
-    ensures others { OnlyGrows (routes P.Place K.Link place.old link.old)
+    ensures told { GrowsTold repair_of_place repair_of_link result (routes P.Place K.Link place.old link.old)
         (routes P.Place K.Link place.new link.new) }
-    ensures once_place { PlaceStops (stops repair_of_place result) (P.seen place.old) (P.seen place.new) }
-    ensures once_link { LinkStops (stops repair_of_link result) (K.seen link.old) (K.seen link.new) }
 {
     let mut made = MadeRange::new(alloc);
     match find_unlike(receiver, encoder, &mut made, steps)? {

@@ -1,19 +1,14 @@
 //! All packets of a group, sent on a route.
-ghost use Rattle.std.specs.Prelude.{OnOk, OnErr, IfErr};
-ghost use Rattle.pet_base.specs.Causes.{stops};
-ghost use Rattle.pet_base.specs.LinkSeen.{LinkStops};
-ghost use Rattle.pet_base.specs.Seen.{PlaceStops};
-ghost use Rattle.outside_routes.specs.RouteFaults.{IsStop, stop_of_a_place, stop_of_a_link};
-ghost use Rattle.outside_routes.specs.Sending.{routes, Sends, SendsPart, IsOpen, OnlyGrows, OutputFailed, SendingFailed};
+ghost use Rattle.std.specs.Prelude.{OnOk, OnErr};
+ghost use Rattle.outside_routes.specs.Sending.{routes, Sends, SendsPart, SendsTold, IsOpen};
 ghost use Rattle.outside_routes.specs.Way.{way_of};
 ghost use Rattle.field_elements.specs.Gf16.{gf16_coding};
 ghost use Rattle.packet_rebuild.specs.MadeRange.{IsMadeRange};
 ghost use Rattle.pet_repair.specs.Repaired.{all_datagrams};
 ghost use Rattle.pet_repair.specs.inside.Groups.{range_datagrams};
 
-use crate::sending::put_datagram;
-use outside_routes::{Route, RouteStop};
-use packet_rebuild::{MadeRange, at_once, make_frame, make_range};
+use outside_routes::{Route, RouteStop, put_datagram};
+use packet_rebuild::{MadeRange, make_frame, make_range, next_count};
 use pet_base::{Link, Place, Steps};
 use pet_encode::Encoder;
 use pet_field::Gf16Tables;
@@ -37,22 +32,15 @@ pub(crate) fn put_whole<P: Place, K: Link, L: Ledger>(
         (routes P.Place K.Link place.old link.old) (routes P.Place K.Link place.new link.new)) }
     ensures part { OnErr result (SendsPart (way_of to.entry) (all_datagrams gf16_coding encoder.now)
         (routes P.Place K.Link place.old link.old) (routes P.Place K.Link place.new link.new)) }
-    ensures others { OnlyGrows (routes P.Place K.Link place.old link.old)
+    ensures told { SendsTold (way_of to.entry) result (routes P.Place K.Link place.old link.old)
         (routes P.Place K.Link place.new link.new) }
-    ensures cause { IfErr result (IsStop
-        (OutputFailed (way_of to.entry) (P.seen place.old) (P.seen place.new))
-        (SendingFailed (way_of to.entry) (K.seen link.old) (K.seen link.new)) ⊥) }
-    ensures once_place { PlaceStops (stops stop_of_a_place result) (P.seen place.old) (P.seen place.new) }
-    ensures once_link { LinkStops (stops stop_of_a_link result) (K.seen link.old) (K.seen link.new) }
 {
-    let table = &encoder.header().table;
-    let packets = table.packets();
-    let most = at_once(table);
+    let packets = encoder.header().table.packets();
     let mut frame = Vec::new(alloc);
     let mut entry = Vec::new(alloc);
     let mut first = 0;
     while first < packets {
-        let count = most.min(u32::from(packets - first)) as u16;
+        let count = next_count(encoder, first);
         make_range(encoder, first, count, made, steps)?;
         put_range(to, encoder, made, &mut frame, &mut entry, place, link)?;
         first += count;
@@ -78,17 +66,12 @@ fn put_range<P: Place, K: Link>(
     ensures part { OnErr result (SendsPart (way_of to.entry)
         (range_datagrams encoder.now made.now.first made.now.count)
         (routes P.Place K.Link place.old link.old) (routes P.Place K.Link place.new link.new)) }
-    ensures others { OnlyGrows (routes P.Place K.Link place.old link.old)
+    ensures told { SendsTold (way_of to.entry) result (routes P.Place K.Link place.old link.old)
         (routes P.Place K.Link place.new link.new) }
-    ensures cause { IfErr result (IsStop
-        (OutputFailed (way_of to.entry) (P.seen place.old) (P.seen place.new))
-        (SendingFailed (way_of to.entry) (K.seen link.old) (K.seen link.new)) ⊥) }
-    ensures once_place { PlaceStops (stops stop_of_a_place result) (P.seen place.old) (P.seen place.new) }
-    ensures once_link { LinkStops (stops stop_of_a_link result) (K.seen link.old) (K.seen link.new) }
 {
     for p in 0..made.count {
         make_frame(encoder, made, made.first + p, frame)?;
-        put_datagram(to, frame, entry, place, link)?;
+        put_datagram(to, place, link, frame, entry)?;
     }
     Ok(())
 }

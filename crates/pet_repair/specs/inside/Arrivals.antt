@@ -3,6 +3,7 @@ use Rattle.std.specs.Prelude.{◌≡◌, ◌⊎◌, ℕ, ◌+◌, ◌<◌, Bool,
 use Rattle.outside_routes.specs.RouteFaults.{IsStop, stop_of_a_place, stop_of_a_link}
 use Rattle.outside_routes.specs.Sending.{Routes, Sends, SendsPart, OutputFailed, SendingFailed}
 use Rattle.outside_routes.specs.Way.{Way}
+use Rattle.outside_routes.specs.declared.fault.RouteStop.{RouteStop}
 use Rattle.field_elements.specs.Gf16.{gf16_coding}
 use Rattle.packet_reading.specs.Begun.{stop_of_an_output}
 use Rattle.packet_frame.specs.Frame.{Fields, text}
@@ -32,18 +33,19 @@ MayGiveIn r d sent = MayGive (λ a. a < 65536) gf16_coding r d sent
 abbrev pub HaveArrivedIn : ReceiverState ℕ → List (List ℕ) → List (List (List ℕ)) → ReceiverState ℕ → Type 0
 HaveArrivedIn r ds sent now = HaveArrived (λ a. a < 65536) gf16_coding r ds sent now
 
--- which stops tell of a failed call of the place, which of one of the link, and which of one of the output
+-- which stops tell of a failed call of an object: of the place, of the link, and of the output
+abbrev pub relay_tells : (RouteStop → Bool) → RelayStop → Bool
+relay_tells of_object (Route stop) = of_object stop
+relay_tells of_object (Unlike group number) = false
+
 abbrev pub relay_of_place : RelayStop → Bool
-relay_of_place (Route stop) = stop_of_a_place stop
-relay_of_place (Unlike group number) = false
+relay_of_place stop = relay_tells stop_of_a_place stop
 
 abbrev pub relay_of_link : RelayStop → Bool
-relay_of_link (Route stop) = stop_of_a_link stop
-relay_of_link (Unlike group number) = false
+relay_of_link stop = relay_tells stop_of_a_link stop
 
 abbrev pub relay_of_output : RelayStop → Bool
-relay_of_output (Route stop) = stop_of_an_output stop
-relay_of_output (Unlike group number) = false
+relay_of_output stop = relay_tells stop_of_an_output stop
 
 -- a stop tells its cause and what was sent, and an unlike packet is told by its numbers
 abbrev pub StopsRelay : Way → Routes → Routes → Type 0 → (ℕ → ℕ → Type 0) → RelayStop → Type 0

@@ -1,10 +1,10 @@
 -- What the sending of a store's groups has done, and where it stops. This project's own.
 use Rattle.std.specs.Prelude.{◌≡◌, ◌⊎◌, ◌<◌, ℕ, List, [], length, None, Some, if◌then◌else◌, map}
 use Rattle.std.specs.List.{range_with_len}
+use Rattle.outside_routes.specs.RouteFaults.{stop_of_route}
 use Rattle.outside_routes.specs.Sending.{Routes, Sends, SendsPart, OutputFailed, SendingFailed}
 use Rattle.outside_routes.specs.Way.{Way}
 use Rattle.outside_routes.specs.declared.fault.RouteFailed.{RouteFailed}
-use Rattle.outside_routes.specs.declared.fault.RouteFailed.TheVariants as failed
 use Rattle.outside_routes.specs.declared.fault.RouteStop.{RouteStop}
 use Rattle.outside_routes.specs.declared.fault.RouteStop.TheVariants as stop
 use Rattle.field_elements.specs.Gf16.{gf16_coding}
@@ -24,15 +24,14 @@ abbrev pub range_datagrams : Encoding → ℕ → ℕ → List (List ℕ)
 range_datagrams e first many = map (λ number. text (frame_of gf16_coding e number)) (range_with_len first many)
 
 -- the end of a command that stops at each of these
-abbrev pub end_of_failed : RouteFailed → RepairEnd
-end_of_failed failed.Place = end.PlaceFault
-end_of_failed failed.Link = end.LinkFault
-
 abbrev pub end_of_stop : RouteStop → RepairEnd
 end_of_stop stop.NoMemory = end.NoMemory
 end_of_stop stop.Place = end.PlaceFault
 end_of_stop stop.Link = end.LinkFault
 end_of_stop stop.Out = end.NoMemory
+
+abbrev pub end_of_failed : RouteFailed → RepairEnd
+end_of_failed failed = end_of_stop (stop_of_route failed)
 
 abbrev pub end_of_store : StoreStop → RepairEnd
 end_of_store store.NoMemory = end.NoMemory

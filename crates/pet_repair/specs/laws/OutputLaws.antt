@@ -16,9 +16,9 @@ use Rattle.packet_verdicts.specs.KeptSet.{KeptSet}
 use Rattle.packet_met.specs.Met.{Pair, pair_in, met_in, shows}
 use Rattle.packet_met.specs.laws.DatagramMore.{made, IsPlain}
 use Rattle.packet_met.specs.laws.KeptIsMet.{Follows}
-use Rattle.packet_relay.specs.Relay.{sends_at, output_from, arrivals_of, pairs_of, packet_at, packets_at}
+use Rattle.pet_repair.specs.Relay.{sends_at, output_from, arrivals_of, pairs_of, packet_at, packets_at}
 use Rattle.pet_repair.specs.laws.RelayIsRule.{IsRelayed, told}
-use Rattle.packet_relay.specs.laws.RelayLaws.{IsPairOf, Within, each_of_session, keeps_up, shows_more, output_append}
+use Rattle.pet_repair.specs.laws.RelayLaws.{IsPairOf, Within, each_of_session, keeps_up, shows_more, output_append}
 
 -- the datagrams of the rule's output for some datagrams were handed out, and what is kept follows all that was sent
 pub record HasRelayed {E : Type 0} (c : Coding E) (s : Session) (limit : ℕ) (pairs : List Pair) (ds sent : List (List ℕ)) (now : KeptSet) : Type 0 where

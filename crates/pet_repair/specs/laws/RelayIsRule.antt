@@ -24,7 +24,7 @@ use Rattle.packet_met.specs.laws.KeptDatagram.{kept_frame}
 use Rattle.packet_met.specs.laws.KeptIsMet.{Follows}
 use Rattle.packet_met.specs.laws.PacketVerdict.{verdict_is}
 use Rattle.packet_rebuild.specs.declared.fault.RepairFault.{RepairFault}
-use Rattle.packet_relay.specs.Relay.{all_layers, lacking, remaining, rebuilt, pair_sends, sends_at, packets_at}
+use Rattle.pet_repair.specs.Relay.{all_layers, lacking, remaining, rebuilt, pair_sends, sends_at, packets_at}
 use Rattle.packet_rebuild.specs.Message.{HaveZeroEnds}
 use Rattle.packet_rebuild.specs.Repairs.{repair_fault, keep_all}
 use Rattle.pet_repair.specs.Arrival.{completes, IsArrival, IsStopped}

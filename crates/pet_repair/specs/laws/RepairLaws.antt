@@ -25,7 +25,7 @@ use Rattle.packet_met.specs.laws.DatagramMore.{made}
 use Rattle.packet_met.specs.laws.KeptIsMet.{Follows}
 use Rattle.packet_rebuild.specs.declared.fault.RepairFault.TheVariants as repair
 use Rattle.packet_rebuild.specs.Message.{HaveZeroEnds}
-use Rattle.packet_relay.specs.Relay.{all_layers}
+use Rattle.pet_repair.specs.Relay.{all_layers}
 use Rattle.pet_repair.specs.Repaired.{IsRepaired, AreRepaired, is_whole, count_whole, on_end}
 use Rattle.pet_repair.specs.Repaired.{complete_packets, complete_groups}
 use Rattle.packet_rebuild.specs.Repairs.{fault_in, repair_fault, IsEncoderOf}

@@ -30,7 +30,7 @@ use Rattle.packet_met.specs.laws.DatagramMore.{made, is_made, agrees}
 use Rattle.packet_met.specs.laws.KeptIsMet.{header_in, HasMet, Follows}
 use Rattle.packet_met.specs.laws.PacketMore.{follows_keep}
 use Rattle.packet_met.specs.laws.PacketText.{count_kept_is}
-use Rattle.packet_relay.specs.Relay.{all_layers, lacking}
+use Rattle.pet_repair.specs.Relay.{all_layers, lacking}
 use Rattle.packet_rebuild.specs.Message.{HasZeroEnds, HaveZeroEnds}
 use Rattle.packet_rebuild.specs.Repairs.{fault_in, repair_fault, IsEncoderOf, is_unlike, first_unlike_of, not_kept}
 use Rattle.packet_rebuild.specs.Repairs.{made_again, keep_all}

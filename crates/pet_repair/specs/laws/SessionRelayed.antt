@@ -9,10 +9,11 @@ use Rattle.std.proofs.lemmas.List.Elements.{All-nil, All-cons, All-head, All-tai
 use Rattle.pet_base.specs.Causes.{Rose}
 use Rattle.pet_base.specs.declared.limits.TheConstants.{MAX_SESSION, MAX_DATAGRAMS}
 use Rattle.outside_routes.specs.laws.ComingLaws.{until_first}
+use Rattle.pet_base.specs.LinkSeen.{LinkSeen}
 use Rattle.pet_base.specs.OutsideSeen.{OutsideSeen}
 use Rattle.pet_base.specs.Seen.{Files}
 use Rattle.outside_routes.specs.Way.{Way, OnFile, OnLink}
-use Rattle.outside_routes.specs.Coming.{HasReadUntil, HaveCome}
+use Rattle.outside_routes.specs.Coming.{HasReadUntil, HaveCome, KeepsFeed}
 use Rattle.store_text.specs.Files.{HasFile}
 use Rattle.packet_reading.specs.Layers.{HaveComeFirst}
 use Rattle.packet_reading.specs.Opened.{PortFailed}
@@ -30,13 +31,13 @@ use Rattle.packet_met.specs.Met.{Pair, pair_in, all_shown, met_in}
 use Rattle.packet_met.specs.laws.CountsAreMet.{complete_is}
 use Rattle.packet_met.specs.laws.DatagramMore.{made, IsPlain}
 use Rattle.packet_met.specs.laws.KeptIsMet.{Follows, follows_nothing}
-use Rattle.packet_relay.specs.Relay.{all_layers, sends_at, output_from, arrivals_of, packet_at, packets_at}
-use Rattle.packet_relay.specs.laws.CompleteLaws.{whole_alike}
+use Rattle.pet_repair.specs.Relay.{all_layers, sends_at, output_from, arrivals_of, packet_at, packets_at}
+use Rattle.pet_repair.specs.laws.WholeLaws.{whole_alike}
 use Rattle.packet_rebuild.specs.Message.{HaveZeroEnds}
 use Rattle.pet_repair.specs.Arrival.{HaveArrived}
 use Rattle.pet_repair.specs.Repaired.{on_end}
 use Rattle.pet_repair.specs.Relays.{Relayed, Relays, RelaysToUnlike, AreCounts, EndsRelay, StopsAtFile, StopsAtLink}
-use Rattle.pet_repair.specs.Relays.{routes_of}
+use Rattle.pet_repair.specs.Relays.{routes_of, KeepsLinkBetween}
 use Rattle.pet_repair.specs.laws.RelayUses.{before_used, entering_used, writing_used}
 use Rattle.pet_repair.specs.Relays.{IsBoundAtRelayEnd, DoesRelay}
 use Rattle.pet_repair.specs.RelaysSession.{CanRelay, RelaysSession, CompletesRelay, relayed_pairs, relayed_datagrams}
@@ -247,39 +248,27 @@ completes_relay from session to before after end does = λ s files ds is can.
     relayed_so s from to files ds before after end can end refl does.bound
     (subst (λ (n : List ℕ). EndsRelay from n to before after end) is does.ends)
 
+-- the link as it was
+pub between_same : (from to : Way) (l : LinkSeen) → KeepsLinkBetween from to l l
+between_same (OnFile name) (OnFile other) l = refl
+between_same (OnFile name) (OnLink address) l = refl
+between_same (OnLink address) to l = tt
+
 -- a command that has done nothing for want of memory
 pub nothing_relayed : (from : Way) (session : List ℕ) (to : Way) (now : OutsideSeen)
     → DoesRelay from session to now now NoMemory
-nothing_relayed (OnFile name) session (OnFile other) now = record {
-  bound = inl tt;
-  kept = refl;
+nothing_relayed from session to now = record {
+  bound = inl (feed from);
+  kept = between_same from to now.link;
   later = omega arith;
   out = refl;
   ends =
       inl (
-        record { untouched = record { files = refl; feed = tt }; sent = refl },
-        record { place = refl; feed = tt; written = refl },
+        record { untouched = record { files = refl; feed = feed from }; sent = refl },
+        record { place = refl; feed = feed from; written = refl },
       );
 }
-nothing_relayed (OnFile name) session (OnLink address) now = record {
-  bound = inl tt;
-  kept = refl;
-  later = omega arith;
-  out = refl;
-  ends =
-      inl (
-        record { untouched = record { files = refl; feed = tt }; sent = refl },
-        record { place = refl; feed = tt; written = refl },
-      );
-}
-nothing_relayed (OnLink address) session to now = record {
-  bound = inl refl;
-  kept = tt;
-  later = omega arith;
-  out = refl;
-  ends =
-      inl (
-        record { untouched = record { files = refl; feed = refl }; sent = refl },
-        record { place = refl; feed = refl; written = refl },
-      );
-}
+  where
+    feed : (from : Way) → KeepsFeed from now.link now.link
+    feed (OnFile name) = tt
+    feed (OnLink address) = refl

@@ -28,7 +28,7 @@ use Rattle.packet_met.specs.laws.DatagramMore.{made}
 use Rattle.packet_met.specs.laws.FramesAreMet.{is_met}
 use Rattle.packet_met.specs.laws.KeptIsMet.{Follows}
 use Rattle.packet_met.specs.laws.StoreRead.{IsStoreOf, store_is, read_so, not_refused}
-use Rattle.packet_relay.specs.Relay.{all_layers}
+use Rattle.pet_repair.specs.Relay.{all_layers}
 use Rattle.packet_rebuild.specs.laws.RebuiltLaws.{open_of}
 use Rattle.pet_repair.specs.Repaired.{IsUnlike, is_whole, on_end, complete_packets, complete_groups}
 use Rattle.pet_repair.specs.Repairs.{HasState, RepairsStore, MayBlame, Repairs, CanRepair, RepairsSession}

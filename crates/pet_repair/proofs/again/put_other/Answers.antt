@@ -1,4 +1,4 @@
-use Rattle.std.proofs.Common.{◌≡◌, [], ◌∷◌, ◌++◌, None, map, refl, sym, ap, ◌∙◌}
+use Rattle.std.proofs.Common.{[], ◌∷◌, ◌++◌, map, refl, sym, ap, ◌∙◌}
 use Rattle.std.specs.Prelude.{is_none}
 use Rattle.pet_base.specs.laws.Through.{on_any_err}
 use Rattle.field_elements.specs.Gf16.{gf16_coding}
@@ -9,11 +9,11 @@ use Rattle.packet_verdicts.specs.KeptSet.{payload_of}
 use Rattle.packet_verdicts.specs.Verdicts.{is_kept}
 use Rattle.pet_receive.specs.Arrivals.{kept_set}
 use Rattle.packet_rebuild.specs.Repairs.{made_again}
-use Rattle.packet_rebuild.specs.laws.RebuiltLaws.{open_then, verdict_kept, some_kept, none_kept}
+use Rattle.packet_rebuild.specs.laws.RebuiltLaws.{open_then, verdict_kept, some_kept}
 use Rattle.outside_routes.specs.Sending.{routes}
 use Rattle.outside_routes.specs.Way.{way_of}
 use Rattle.outside_routes.specs.laws.SendingLaws.{part_nothing, part_whole}
-use Rattle.pet_repair.proofs.AgainSent.{again_had, again_one, part_one}
+use Rattle.pet_repair.proofs.AgainSent.{absent_in, again_had, again_one, part_one, stands_with}
 use Rattle.pet_repair.proofs.again.put_other.Goals as goal
 
 pub returns-then-has-clause-again : goal.returns-then-has-clause-again
@@ -34,9 +34,8 @@ returns-in_err-make_frame-clause-part g c =
 pub returns-in_err-put_datagram-clause-part : goal.returns-in_err-put_datagram-clause-part
 returns-in_err-put_datagram-clause-part g c =
     let set = kept_set c.args.receiver.now in
-    let absent : payload_of set c.args.encoder.now.header.group c.args.number ≡ None =
-    ap (λ (h : Header). payload_of set h.group c.args.number) (sym c.header.ensures.value)
-    ∙ none_kept (payload_of set c.header.result.now.group c.args.number) c.has.result c.has.ensures.1 c.if-has.false in
+    let absent = absent_in c.args.encoder.now set c.args.number c.header.result.now c.has.result
+    c.header.ensures.value c.has.ensures.1 c.if-has.false in
     on_any_err c.from_residual-in_err-put_datagram.result
     (part_one (way_of c.args.to) c.args.encoder.now set c.args.number c.as_slice-datagram.result.now c.requires.opened
     c.in_ok-make_frame.ensures.ranges absent (c.as_slice-datagram.ensures.value ∙ c.in_ok-make_frame.ensures.frame)
@@ -46,9 +45,8 @@ returns-in_err-put_datagram-clause-part g c =
 pub returns-in_err-accept-clause-part : goal.returns-in_err-accept-clause-part
 returns-in_err-accept-clause-part g c =
     let set = kept_set c.args.receiver.now in
-    let absent : payload_of set c.args.encoder.now.header.group c.args.number ≡ None =
-    ap (λ (h : Header). payload_of set h.group c.args.number) (sym c.header.ensures.value)
-    ∙ none_kept (payload_of set c.header.result.now.group c.args.number) c.has.result c.has.ensures.1 c.if-has.false in
+    let absent = absent_in c.args.encoder.now set c.args.number c.header.result.now c.has.result
+    c.header.ensures.value c.has.ensures.1 c.if-has.false in
     let old = routes g.P.Place g.K.Link c.args.place.now c.args.link.now in
     let new = routes g.P.Place g.K.Link c.put_datagram.new.place c.put_datagram.new.link in
     on_any_err c.from_residual-in_err-accept.result
@@ -59,9 +57,8 @@ returns-in_err-accept-clause-part g c =
 pub returns-clause-again : goal.returns-clause-again
 returns-clause-again g c =
     let set = kept_set c.args.receiver.now in
-    let absent : payload_of set c.args.encoder.now.header.group c.args.number ≡ None =
-    ap (λ (h : Header). payload_of set h.group c.args.number) (sym c.header.ensures.value)
-    ∙ none_kept (payload_of set c.header.result.now.group c.args.number) c.has.result c.has.ensures.1 c.if-has.false in
+    let absent = absent_in c.args.encoder.now set c.args.number c.header.result.now c.has.result
+    c.header.ensures.value c.has.ensures.1 c.if-has.false in
     again_one (way_of c.args.to) c.args.encoder.now set c.args.number c.as_slice-datagram.result.now c.requires.opened
     c.in_ok-make_frame.ensures.ranges absent (c.as_slice-datagram.ensures.value ∙ c.in_ok-make_frame.ensures.frame) (kept_set c.accept.new.self)
     (routes g.P.Place g.K.Link c.args.place.now c.args.link.now)
@@ -71,25 +68,19 @@ returns-clause-again g c =
 pub returns-clause-opened : goal.returns-clause-opened
 returns-clause-opened g c =
     let set = kept_set c.args.receiver.now in
-    let absent : payload_of set c.args.encoder.now.header.group c.args.number ≡ None =
-    ap (λ (h : Header). payload_of set h.group c.args.number) (sym c.header.ensures.value)
-    ∙ none_kept (payload_of set c.header.result.now.group c.args.number) c.has.result c.has.ensures.1 c.if-has.false in
+    let absent = absent_in c.args.encoder.now set c.args.number c.header.result.now c.has.result
+    c.header.ensures.value c.has.ensures.1 c.if-has.false in
     open_then gf16_coding c.args.encoder.now set (kept_set c.accept.new.self) c.args.number c.as_slice-datagram.result.now
     c.requires.opened c.in_ok-make_frame.ensures.ranges absent (c.as_slice-datagram.ensures.value ∙ c.in_ok-make_frame.ensures.frame) c.in_ok-accept.ensures.kept c.accept.ensures.sound
 
 pub returns-clause-stands : goal.returns-clause-stands
 returns-clause-stands g c =
     let set = kept_set c.args.receiver.now in
-    let absent : payload_of set c.args.encoder.now.header.group c.args.number ≡ None =
-    ap (λ (h : Header). payload_of set h.group c.args.number) (sym c.header.ensures.value)
-    ∙ none_kept (payload_of set c.header.result.now.group c.args.number) c.has.result c.has.ensures.1 c.if-has.false in
+    let absent = absent_in c.args.encoder.now set c.args.number c.header.result.now c.has.result
+    c.header.ensures.value c.has.ensures.1 c.if-has.false in
     let kept = verdict_kept gf16_coding c.args.encoder.now set c.args.number c.as_slice-datagram.result.now c.requires.opened
     c.in_ok-make_frame.ensures.ranges absent (c.as_slice-datagram.ensures.value ∙ c.in_ok-make_frame.ensures.frame) in
     let f = fields_of c.as_slice-datagram.result.now in
-    record {
-      order = c.requires.stands.order ++ (f.group, f.number) ∷ [];
-      held =
-          c.in_ok-accept.ensures.order (ap is_kept c.in_ok-accept.ensures.verdict ∙ kept) c.requires.stands.order
-          c.requires.stands.held;
-      sound = c.accept.ensures.sound;
-    }
+    stands_with c.accept.new.self (c.requires.stands.order ++ (f.group, f.number) ∷ [])
+    (c.in_ok-accept.ensures.order (ap is_kept c.in_ok-accept.ensures.verdict ∙ kept) c.requires.stands.order
+    c.requires.stands.held) c.accept.ensures.sound

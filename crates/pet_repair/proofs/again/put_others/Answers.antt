@@ -1,11 +1,10 @@
-use Rattle.std.proofs.Common.{◌≡◌, ◌+◌, ◌≤◌, map, refl, ap, subst, arith, ◌∙◌}
+use Rattle.std.proofs.Common.{◌+◌, map, refl, subst, arith}
 use Rattle.pet_base.specs.laws.Through.{on_any_err}
 use Rattle.field_elements.specs.Gf16.{gf16_coding}
 use Rattle.packet_frame.specs.Frame.{text}
-use Rattle.packet_frame.specs.declared.frame.Header.{Header}
 use Rattle.outside_routes.specs.Sending.{routes, SendsPart}
 use Rattle.outside_routes.specs.Way.{way_of}
-use Rattle.outside_routes.specs.laws.SendingLaws.{part_nothing, grows_same, grows_then, grows_open}
+use Rattle.outside_routes.specs.laws.SendingLaws.{part_nothing, calm_same, calm_then, grows_open}
 use Rattle.packet_rebuild.specs.Repairs.{made_again}
 use Rattle.pet_receive.specs.Arrivals.{kept_set}
 use Rattle.pet_repair.specs.inside.Arrivals.{SendsAgain}
@@ -21,49 +20,42 @@ loop-first-init g c =
       again = again_none (way_of c.args.to) c.args.encoder.now (kept_set c.args.receiver.now) 0 r;
       opened = c.requires.opened;
       stands = c.requires.stands;
-      others = grows_same r;
-      calm_place = refl;
-      calm_link = refl;
+      calm = calm_same r;
     }
 
 pub returns-in_err-make_range-clause-part : goal.returns-in_err-make_range-clause-part
 returns-in_err-make_range-clause-part g c =
     let e = c.args.encoder.now in
-    let packets : c.packets-packets.result ≡ e.header.table.packets =
-    c.packets-packets.ensures.value ∙ ap (λ (h : Header). h.table.packets) c.header.ensures.value in
     let mid = kept_set c.loop-first.receiver in
     let before = routes g.P.Place g.K.Link c.loop-first.place c.loop-first.link in
     on_any_err c.from_residual.result
     (again_part (way_of c.args.to) e (kept_set c.args.receiver.now) mid 0 c.loop-first.first c.loop-first.first 0
     e.header.table.packets (routes g.P.Place g.K.Link c.args.place.now c.args.link.now) before before
-    c.loop-first.invariant.others.place.target c.loop-first.invariant.again (omega arith)
-    (omega (arith, c.loop-first.invariant.within, packets))
+    c.loop-first.invariant.calm.others.place.target c.loop-first.invariant.again (omega arith)
+    (omega (arith, c.loop-first.invariant.within))
     (part_nothing (way_of c.args.to) (map text (made_again gf16_coding mid e c.loop-first.first 0)) before before refl
     refl))
 
 pub put_others_of-requires-clause-open : goal.put_others_of-requires-clause-open
 put_others_of-requires-clause-open g c =
     grows_open (way_of c.args.to) (routes g.P.Place g.K.Link c.args.place.now c.args.link.now)
-    (routes g.P.Place g.K.Link c.loop-first.place c.loop-first.link) c.loop-first.invariant.others c.requires.open
+    (routes g.P.Place g.K.Link c.loop-first.place c.loop-first.link) c.loop-first.invariant.calm.others c.requires.open
 
 pub returns-in_err-put_others_of-clause-part : goal.returns-in_err-put_others_of-clause-part
 returns-in_err-put_others_of-clause-part g c =
     let e = c.args.encoder.now in
-    let packets : c.packets-packets.result ≡ e.header.table.packets =
-    c.packets-packets.ensures.value ∙ ap (λ (h : Header). h.table.packets) c.header.ensures.value in
-    let within : c.loop-first.first + c.min-count.result ≤ e.header.table.packets =
-    omega (arith, c.min-count.ensures, c.from.ensures, c.loop-first.invariant.within, packets) in
     let before = routes g.P.Place g.K.Link c.loop-first.place c.loop-first.link in
     let after = routes g.P.Place g.K.Link c.put_others_of.new.place c.put_others_of.new.link in
     on_any_err c.from_residual-in_err-put_others_of.result
     (again_part (way_of c.args.to) e (kept_set c.args.receiver.now) (kept_set c.loop-first.receiver) 0
-    c.loop-first.first c.loop-first.first c.min-count.result e.header.table.packets
+    c.loop-first.first c.loop-first.first c.next_count-count.result e.header.table.packets
     (routes g.P.Place g.K.Link c.args.place.now c.args.link.now)
     (routes g.P.Place g.K.Link c.loop-first.place c.loop-first.link)
     (routes g.P.Place g.K.Link c.put_others_of.new.place c.put_others_of.new.link)
-    c.loop-first.invariant.others.place.target c.loop-first.invariant.again (omega arith) within
+    c.loop-first.invariant.calm.others.place.target c.loop-first.invariant.again (omega arith)
+    c.next_count-count.ensures.within
     (subst (λ n. SendsPart (way_of c.args.to)
-    (map text (made_again gf16_coding (kept_set c.loop-first.receiver) e n c.min-count.result)) before after)
+    (map text (made_again gf16_coding (kept_set c.loop-first.receiver) e n c.next_count-count.result)) before after)
     c.in_ok-make_range.ensures.first
     (subst (λ n. SendsPart (way_of c.args.to)
     (map text (made_again gf16_coding (kept_set c.loop-first.receiver) e c.make_range.new.made.first n)) before after)
@@ -75,22 +67,21 @@ loop-first-preserved g c =
     let first = routes g.P.Place g.K.Link c.args.place.now c.args.link.now in
     let before = routes g.P.Place g.K.Link c.loop-first.place c.loop-first.link in
     let after = routes g.P.Place g.K.Link c.put_others_of.new.place c.put_others_of.new.link in
+    let told = c.in_ok-put_others_of.ensures.told.grows in
     record {
-      within = omega (arith, c.min-count.ensures, c.from.ensures, c.loop-first.invariant.within);
+      within = c.next_count-count.ensures.within;
       made = c.in_ok-make_range.ensures.made;
       again =
           again_then (way_of c.args.to) e (kept_set c.args.receiver.now) (kept_set c.loop-first.receiver)
-          (kept_set c.put_others_of.new.receiver) 0 c.loop-first.first c.loop-first.first c.min-count.result
-          (c.loop-first.first + c.min-count.result) first before after c.loop-first.invariant.others.place.target
-          c.loop-first.invariant.again (omega arith)
-          (subst (λ n. SendsAgain (way_of c.args.to) (kept_set c.loop-first.receiver) e n c.min-count.result
+          (kept_set c.put_others_of.new.receiver) 0 c.loop-first.first c.loop-first.first c.next_count-count.result
+          (c.loop-first.first + c.next_count-count.result) first before after
+          c.loop-first.invariant.calm.others.place.target c.loop-first.invariant.again (omega arith)
+          (subst (λ n. SendsAgain (way_of c.args.to) (kept_set c.loop-first.receiver) e n c.next_count-count.result
           (kept_set c.put_others_of.new.receiver) before after) c.in_ok-make_range.ensures.first
           (subst (λ n. SendsAgain (way_of c.args.to) (kept_set c.loop-first.receiver) e c.make_range.new.made.first n
           (kept_set c.put_others_of.new.receiver) before after) c.in_ok-make_range.ensures.count
           c.in_ok-put_others_of.ensures.again)) refl;
       opened = c.in_ok-put_others_of.ensures.opened;
       stands = c.in_ok-put_others_of.ensures.stands;
-      others = grows_then first before after c.loop-first.invariant.others c.put_others_of.ensures.others;
-      calm_place = c.in_ok-put_others_of.ensures.once_place ∙ c.loop-first.invariant.calm_place;
-      calm_link = c.in_ok-put_others_of.ensures.once_link ∙ c.loop-first.invariant.calm_link;
+      calm = calm_then first before after c.loop-first.invariant.calm told.others told.once_place told.once_link;
     }

@@ -1,8 +1,8 @@
-use Rattle.std.proofs.Common.{◌+◌, ◌≤◌, refl, arith, ◌∙◌}
+use Rattle.std.proofs.Common.{◌+◌, ◌≤◌, refl, arith}
 use Rattle.pet_base.specs.laws.Through.{on_any_err}
 use Rattle.outside_routes.specs.Sending.{routes}
 use Rattle.outside_routes.specs.Way.{way_of}
-use Rattle.outside_routes.specs.laws.SendingLaws.{grows_same, grows_then, grows_open}
+use Rattle.outside_routes.specs.laws.SendingLaws.{calm_same, calm_then, grows_open}
 use Rattle.pet_receive.specs.Arrivals.{kept_set}
 use Rattle.pet_repair.proofs.AgainSent.{again_none, again_then, again_part}
 use Rattle.pet_repair.proofs.again.put_others_of.Goals as goal
@@ -14,15 +14,13 @@ loop-p-init g c =
       again = again_none (way_of c.args.to) c.args.encoder.now (kept_set c.args.receiver.now) c.args.made.now.first r;
       opened = c.requires.opened;
       stands = c.requires.stands;
-      others = grows_same r;
-      calm_place = refl;
-      calm_link = refl;
+      calm = calm_same r;
     }
 
 pub put_other-requires-clause-open : goal.put_other-requires-clause-open
 put_other-requires-clause-open g c =
     grows_open (way_of c.args.to) (routes g.P.Place g.K.Link c.args.place.now c.args.link.now)
-    (routes g.P.Place g.K.Link c.loop-p.place c.loop-p.link) c.loop-p.invariant.others c.requires.open
+    (routes g.P.Place g.K.Link c.loop-p.place c.loop-p.link) c.loop-p.invariant.calm.others c.requires.open
 
 pub returns-in_err-put_other-clause-part : goal.returns-in_err-put_other-clause-part
 returns-in_err-put_other-clause-part g c =
@@ -33,22 +31,22 @@ returns-in_err-put_other-clause-part g c =
     (routes g.P.Place g.K.Link c.args.place.now c.args.link.now)
     (routes g.P.Place g.K.Link c.loop-p.place c.loop-p.link)
     (routes g.P.Place g.K.Link c.put_other.new.place c.put_other.new.link)
-    c.loop-p.invariant.others.place.target c.loop-p.invariant.again refl le c.in_err-put_other.ensures.part)
+    c.loop-p.invariant.calm.others.place.target c.loop-p.invariant.again refl le c.in_err-put_other.ensures.part)
 
 pub loop-p-preserved : goal.loop-p-preserved
 loop-p-preserved g c =
     let first = routes g.P.Place g.K.Link c.args.place.now c.args.link.now in
     let before = routes g.P.Place g.K.Link c.loop-p.place c.loop-p.link in
     let after = routes g.P.Place g.K.Link c.put_other.new.place c.put_other.new.link in
+    let told = c.in_ok-put_other.ensures.told.grows in
     record {
       again =
           again_then (way_of c.args.to) c.args.encoder.now (kept_set c.args.receiver.now)
           (kept_set c.loop-p.receiver) (kept_set c.put_other.new.receiver) c.args.made.now.first c.loop-p.p
-          (c.args.made.now.first + c.loop-p.p) 1 (c.loop-p.p + 1) first before after c.loop-p.invariant.others.place.target
-          c.loop-p.invariant.again refl c.in_ok-put_other.ensures.again refl;
+          (c.args.made.now.first + c.loop-p.p) 1 (c.loop-p.p + 1) first before after
+          c.loop-p.invariant.calm.others.place.target c.loop-p.invariant.again refl c.in_ok-put_other.ensures.again
+          refl;
       opened = c.in_ok-put_other.ensures.opened;
       stands = c.in_ok-put_other.ensures.stands;
-      others = grows_then first before after c.loop-p.invariant.others c.put_other.ensures.others;
-      calm_place = c.in_ok-put_other.ensures.once_place ∙ c.loop-p.invariant.calm_place;
-      calm_link = c.in_ok-put_other.ensures.once_link ∙ c.loop-p.invariant.calm_link;
+      calm = calm_then first before after c.loop-p.invariant.calm told.others told.once_place told.once_link;
     }

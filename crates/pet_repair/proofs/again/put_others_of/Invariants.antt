@@ -1,6 +1,6 @@
-use Rattle.std.proofs.Common.{◌≡◌}
-use Rattle.outside_routes.specs.Sending.{routes, OnlyGrows}
+use Rattle.outside_routes.specs.Sending.{routes}
 use Rattle.outside_routes.specs.Way.{way_of}
+use Rattle.outside_routes.specs.laws.SendingLaws.{GrowsCalmly}
 use Rattle.pet_receive.specs.Arrivals.{kept_set}
 use Rattle.packet_rebuild.specs.Rebuilding.{IsOpenFor}
 use Rattle.pet_repair.specs.inside.Arrivals.{SendsAgain, StandsIn}
@@ -12,8 +12,6 @@ invariant-loop-p g l = record {
       (routes g.P.Place g.K.Link l.initial.place l.initial.link) (routes g.P.Place g.K.Link l.place l.link);
   opened : IsOpenFor (kept_set l.receiver) l.encoder;
   stands : StandsIn l.receiver;
-  others : OnlyGrows (routes g.P.Place g.K.Link l.initial.place l.initial.link)
+  calm : GrowsCalmly (routes g.P.Place g.K.Link l.initial.place l.initial.link)
       (routes g.P.Place g.K.Link l.place l.link);
-  calm_place : (g.P.Place.seen l.place).faults ≡ (g.P.Place.seen l.initial.place).faults;
-  calm_link : (g.K.Link.seen l.link).faults ≡ (g.K.Link.seen l.initial.link).faults;
 }

@@ -12,7 +12,8 @@ use Rattle.packet_verdicts.specs.Verdicts.{is_kept}
 use Rattle.pet_receive.specs.Arrivals.{kept_set}
 use Rattle.pet_repair.specs.Arrival.{kept_itself}
 use Rattle.pet_repair.specs.declared.arriving.RelayStop.TheVariants.{Route}
-use Rattle.pet_repair.specs.inside.Arrivals.{StandsIn, StopsArrival}
+use Rattle.pet_repair.specs.inside.Arrivals.{StopsArrival}
+use Rattle.pet_repair.proofs.AgainSent.{stands_with}
 use Rattle.pet_repair.proofs.ArrivalMade.{err_is, part_itself, part_alone, arrival_none, arrival_alone, arrival_more}
 use Rattle.pet_repair.proofs.ArrivalMade.{arrival_stops, other_verdict}
 use Rattle.pet_repair.proofs.arriving.relay_one.Goals as goal
@@ -50,11 +51,9 @@ returns-then-shown-eq0-clause-done g c =
     let d = c.args.datagram.now in
     let f = fields_of d in
     let bytes = All-from_get_or (λ b. b < 256) d 0 (λ i lt. omega (arith, (c.type_inv.datagram i).fits)) in
-    let stands : StandsIn c.accept.new.self = record {
-      order = c.requires.stands.order ++ (f.group, f.number) ∷ [];
-      held = c.in_ok-shown.ensures.order (ap is_kept c.in-Kept.is) c.requires.stands.order c.requires.stands.held;
-      sound = c.accept.ensures.sound;
-    } in
+    let stands = stands_with c.accept.new.self (c.requires.stands.order ++ (f.group, f.number) ∷ [])
+    (c.in_ok-shown.ensures.order (ap is_kept c.in-Kept.is) c.requires.stands.order c.requires.stands.held)
+    c.accept.ensures.sound in
     arrival_alone (way_of c.args.to) c.args.receiver.now d bytes c.in-Kept.shown c.requires.stands.sound
     (sym c.in-Kept.is ∙ c.in_ok-shown.ensures.verdict) c.accept.new.self
     (routes g.P.Place g.K.Link c.args.place.now c.args.link.now)
@@ -75,11 +74,9 @@ complete-requires-clause-open g c =
 pub complete-requires-clause-stands : goal.complete-requires-clause-stands
 complete-requires-clause-stands g c =
     let f = fields_of c.args.datagram.now in
-    record {
-      order = c.requires.stands.order ++ (f.group, f.number) ∷ [];
-      held = c.in_ok-shown.ensures.order (ap is_kept c.in-Kept.is) c.requires.stands.order c.requires.stands.held;
-      sound = c.accept.ensures.sound;
-    }
+    stands_with c.accept.new.self (c.requires.stands.order ++ (f.group, f.number) ∷ [])
+    (c.in_ok-shown.ensures.order (ap is_kept c.in-Kept.is) c.requires.stands.order c.requires.stands.held)
+    c.accept.ensures.sound
 
 pub returns-else-shown-eq0-clause-done : goal.returns-else-shown-eq0-clause-done
 unfolding group_in
@@ -87,11 +84,9 @@ returns-else-shown-eq0-clause-done g c =
     let d = c.args.datagram.now in
     let f = fields_of d in
     let bytes = All-from_get_or (λ b. b < 256) d 0 (λ i lt. omega (arith, (c.type_inv.datagram i).fits)) in
-    let stands : StandsIn c.accept.new.self = record {
-      order = c.requires.stands.order ++ (f.group, f.number) ∷ [];
-      held = c.in_ok-shown.ensures.order (ap is_kept c.in-Kept.is) c.requires.stands.order c.requires.stands.held;
-      sound = c.accept.ensures.sound;
-    } in
+    let stands = stands_with c.accept.new.self (c.requires.stands.order ++ (f.group, f.number) ∷ [])
+    (c.in_ok-shown.ensures.order (ap is_kept c.in-Kept.is) c.requires.stands.order c.requires.stands.held)
+    c.accept.ensures.sound in
     on_ok_weaker c.complete.result
     (λ done. arrival_more (way_of c.args.to) c.args.receiver.now d bytes c.in-Kept.shown c.requires.stands.sound
     (sym c.in-Kept.is ∙ c.in_ok-shown.ensures.verdict) c.if-shown-eq0.false c.accept.new.self
@@ -107,11 +102,9 @@ returns-else-shown-eq0-clause-stopped g c =
     let d = c.args.datagram.now in
     let f = fields_of d in
     let bytes = All-from_get_or (λ b. b < 256) d 0 (λ i lt. omega (arith, (c.type_inv.datagram i).fits)) in
-    let stands : StandsIn c.accept.new.self = record {
-      order = c.requires.stands.order ++ (f.group, f.number) ∷ [];
-      held = c.in_ok-shown.ensures.order (ap is_kept c.in-Kept.is) c.requires.stands.order c.requires.stands.held;
-      sound = c.accept.ensures.sound;
-    } in
+    let stands = stands_with c.accept.new.self (c.requires.stands.order ++ (f.group, f.number) ∷ [])
+    (c.in_ok-shown.ensures.order (ap is_kept c.in-Kept.is) c.requires.stands.order c.requires.stands.held)
+    c.accept.ensures.sound in
     IfErr-weaker c.complete.result _ _
     (λ s stops. arrival_stops (way_of c.args.to) c.args.receiver.now d bytes c.in-Kept.shown c.requires.stands.sound
     (sym c.in-Kept.is ∙ c.in_ok-shown.ensures.verdict) c.if-shown-eq0.false c.accept.new.self

@@ -8,9 +8,10 @@ use Rattle.pet_repair.specs.Relays.{EndsRelay, IsBoundAtRelayEnd}
 use Rattle.pet_repair.specs.declared.arriving.RelayStop.TheVariants.{Route}
 use Rattle.pet_repair.specs.inside.RelayEnds.{OnlyBegins, end_of_relay}
 use Rattle.pet_repair.proofs.ArrivalMade.{err_is, err_so, ok_so}
-use Rattle.pet_repair.specs.laws.SessionRelayed.{nothing_relayed}
-use Rattle.pet_repair.proofs.BetweenKept.{between_same, between_then, between_begun}
+use Rattle.pet_repair.specs.laws.SessionRelayed.{between_same}
+use Rattle.pet_repair.proofs.BetweenKept.{between_then, between_begun}
 use Rattle.pet_repair.proofs.RelayBegun.{bound_at_any, bound_at_stop, bound_kept, out_of, stops_beginning}
+use Rattle.pet_repair.proofs.RelayBegun.{unused_bound, unused_stopped}
 use Rattle.std.proofs.Common.{false, refl, ap, ◌∙◌}
 use Rattle.pet_base.specs.Causes.{count_after, stops}
 use Rattle.packet_reading.specs.Begun.{stop_of_an_output}
@@ -19,16 +20,13 @@ use Rattle.pet_repair.proofs.relaying.relay.Goals as goal
 
 pub returns-in_err-buffer-clause-stopped : goal.returns-in_err-buffer-clause-stopped
 returns-in_err-buffer-clause-stopped g c =
-    err_is (λ s. EndsRelay (way_of c.args.from) c.args.session (way_of c.args.to) (seen c.args.outside.now)
-    (seen c.args.outside.now) (end_of_relay s)) c.from_residual.result (Route stop.NoMemory) c.from_residual.ensures.1
-    (nothing_relayed (way_of c.args.from) c.args.session (way_of c.args.to) (seen c.args.outside.now)).ends
+    unused_stopped (way_of c.args.from) c.args.session (way_of c.args.to) (seen c.args.outside.now)
+    c.from_residual.result c.from_residual.ensures.1
 
 pub returns-in_err-field-clause-stopped : goal.returns-in_err-field-clause-stopped
 returns-in_err-field-clause-stopped g c =
-    err_is (λ s. EndsRelay (way_of c.args.from) c.args.session (way_of c.args.to) (seen c.args.outside.now)
-    (seen c.args.outside.now) (end_of_relay s)) c.from_residual-in_err-field.result (Route stop.NoMemory)
-    c.from_residual-in_err-field.ensures.1
-    (nothing_relayed (way_of c.args.from) c.args.session (way_of c.args.to) (seen c.args.outside.now)).ends
+    unused_stopped (way_of c.args.from) c.args.session (way_of c.args.to) (seen c.args.outside.now)
+    c.from_residual-in_err-field.result c.from_residual-in_err-field.ensures.1
 
 pub returns-in_err-begin-clause-stopped : goal.returns-in_err-begin-clause-stopped
 returns-in_err-begin-clause-stopped g c =
@@ -61,17 +59,13 @@ returns-clause-stopped g c =
 
 pub returns-in_err-buffer-clause-bound : goal.returns-in_err-buffer-clause-bound
 returns-in_err-buffer-clause-bound g c =
-    let now = seen c.args.outside.now in
-    err_is (λ s. IsBoundAtRelayEnd (way_of c.args.from) now.link now.link (end_of_relay s)) c.from_residual.result
-    (Route stop.NoMemory) c.from_residual.ensures.1
-    (nothing_relayed (way_of c.args.from) c.args.session (way_of c.args.to) now).bound
+    unused_bound (way_of c.args.from) c.args.session (way_of c.args.to) (seen c.args.outside.now)
+    c.from_residual.result c.from_residual.ensures.1
 
 pub returns-in_err-field-clause-bound : goal.returns-in_err-field-clause-bound
 returns-in_err-field-clause-bound g c =
-    let now = seen c.args.outside.now in
-    err_is (λ s. IsBoundAtRelayEnd (way_of c.args.from) now.link now.link (end_of_relay s))
-    c.from_residual-in_err-field.result (Route stop.NoMemory) c.from_residual-in_err-field.ensures.1
-    (nothing_relayed (way_of c.args.from) c.args.session (way_of c.args.to) now).bound
+    unused_bound (way_of c.args.from) c.args.session (way_of c.args.to) (seen c.args.outside.now)
+    c.from_residual-in_err-field.result c.from_residual-in_err-field.ensures.1
 
 pub returns-in_err-begin-clause-bound : goal.returns-in_err-begin-clause-bound
 returns-in_err-begin-clause-bound g c =

@@ -7,8 +7,9 @@ use Rattle.outside_routes.specs.laws.SendingLaws.{grows_open}
 use Rattle.packet_reading.specs.laws.BegunLaws.{input_kept}
 use Rattle.pet_repair.specs.declared.arriving.RelayStop.TheVariants.{Route}
 use Rattle.pet_repair.specs.inside.RelaySoFar.{StopsRelaying}
+use Rattle.pet_repair.specs.laws.SessionRelayed.{between_same}
 use Rattle.pet_repair.proofs.ArrivalMade.{err_is}
-use Rattle.pet_repair.proofs.BetweenKept.{between_same, between_then, between_taken, between_sent, between_stopped}
+use Rattle.pet_repair.proofs.BetweenKept.{between_then, between_more, between_sent, between_stopped}
 use Rattle.pet_repair.proofs.RelayedMore.{so_far_start, relayed_all, relayed_more, stops_taking, stops_at_one}
 use Rattle.pet_repair.proofs.RelayedMore.{later_same, later_taken, later_grown, open_taken, relayed_many}
 use Rattle.pet_repair.proofs.relaying.relay_all.Goals as goal
@@ -77,7 +78,8 @@ returns-in_err-relay_one-in-Datagram-clause-stopped g c =
     c.from_residual-in_err-relay_one-in-Datagram.ensures.1
     (stops_at_one from to c.args.receiver.now c.loop-turn.turn first before between c.loop-turn.receiver
     c.loop-turn.invariant.so_far c.loop-turn.invariant.later c.next_datagram.ensures.others (omega arith)
-    c.in-Datagram.len into step now c.relay_one.ensures.others stop c.in_err-relay_one-in-Datagram.ensures.stopped)
+    c.in-Datagram.len into step now c.in_err-relay_one-in-Datagram.ensures.told.others stop
+    c.in_err-relay_one-in-Datagram.ensures.stopped)
 
 pub loop-turn-preserved : goal.loop-turn-preserved
 loop-turn-preserved g c =
@@ -89,7 +91,8 @@ loop-turn-preserved g c =
     let now = routes g.P.Place g.K.Link c.relay_one.new.place c.relay_one.new.link in
     let into = c.next_datagram.new.into in
     let takes = c.next_datagram.ensures.others in
-    let grows = c.relay_one.ensures.others in
+    let told = c.in_ok-relay_one-in-Datagram.ensures.told in
+    let grows = told.others in
     let held = c.loop-turn.invariant in
     let step = subst (λ e. TakesDatagram (coming from before.place before.link) e into
     (coming from between.place between.link))
@@ -106,11 +109,11 @@ loop-turn-preserved g c =
       is_open = grows_open to between now grows (open_taken from to before between takes held.is_open);
       later = later_grown first between now (later_taken from first before between held.later takes) grows;
       kept =
-          between_then from to first.link before.link now.link held.kept
-          (between_then from to before.link between.link now.link (between_taken from to before between takes)
-          (between_sent from to done.sent between now grows done.sends));
-      calm_place = c.in_ok-relay_one-in-Datagram.ensures.once_place ∙ c.in_ok-next_datagram.ensures.once_place ∙ held.calm_place;
-      calm_link = c.in_ok-relay_one-in-Datagram.ensures.once_link ∙ c.in_ok-next_datagram.ensures.once_link ∙ held.calm_link;
+          between_then from to first.link between.link now.link
+          (between_more from to first.link before between held.kept takes)
+          (between_sent from to done.sent between now grows done.sends);
+      calm_place = told.once_place ∙ c.in_ok-next_datagram.ensures.once_place ∙ held.calm_place;
+      calm_link = told.once_link ∙ c.in_ok-next_datagram.ensures.once_link ∙ held.calm_link;
     }
 
 pub returns-clause-done : goal.returns-clause-done
@@ -122,21 +125,17 @@ returns-clause-done g c =
 
 pub returns-in_err-next_datagram-clause-kept : goal.returns-in_err-next_datagram-clause-kept
 returns-in_err-next_datagram-clause-kept g c =
-    let from = way_of c.args.from in
-    let to = way_of c.args.to in
-    let before = routes g.P.Place g.K.Link c.loop-turn.place c.loop-turn.link in
-    let now = routes g.P.Place g.K.Link c.next_datagram.new.place c.next_datagram.new.link in
-    between_then from to (g.K.Link.seen c.args.link.now) before.link now.link c.loop-turn.invariant.kept
-    (between_taken from to before now c.next_datagram.ensures.others)
+    between_more (way_of c.args.from) (way_of c.args.to) (g.K.Link.seen c.args.link.now)
+    (routes g.P.Place g.K.Link c.loop-turn.place c.loop-turn.link)
+    (routes g.P.Place g.K.Link c.next_datagram.new.place c.next_datagram.new.link) c.loop-turn.invariant.kept
+    c.next_datagram.ensures.others
 
 pub returns-in-End-clause-kept : goal.returns-in-End-clause-kept
 returns-in-End-clause-kept g c =
-    let from = way_of c.args.from in
-    let to = way_of c.args.to in
-    let before = routes g.P.Place g.K.Link c.loop-turn.place c.loop-turn.link in
-    let now = routes g.P.Place g.K.Link c.next_datagram.new.place c.next_datagram.new.link in
-    between_then from to (g.K.Link.seen c.args.link.now) before.link now.link c.loop-turn.invariant.kept
-    (between_taken from to before now c.next_datagram.ensures.others)
+    between_more (way_of c.args.from) (way_of c.args.to) (g.K.Link.seen c.args.link.now)
+    (routes g.P.Place g.K.Link c.loop-turn.place c.loop-turn.link)
+    (routes g.P.Place g.K.Link c.next_datagram.new.place c.next_datagram.new.link) c.loop-turn.invariant.kept
+    c.next_datagram.ensures.others
 
 pub returns-in_err-relay_one-in-Datagram-clause-kept : goal.returns-in_err-relay_one-in-Datagram-clause-kept
 returns-in_err-relay_one-in-Datagram-clause-kept g c =
@@ -145,8 +144,9 @@ returns-in_err-relay_one-in-Datagram-clause-kept g c =
     let before = routes g.P.Place g.K.Link c.loop-turn.place c.loop-turn.link in
     let between = routes g.P.Place g.K.Link c.next_datagram.new.place c.next_datagram.new.link in
     let now = routes g.P.Place g.K.Link c.relay_one.new.place c.relay_one.new.link in
-    between_then from to (g.K.Link.seen c.args.link.now) before.link now.link c.loop-turn.invariant.kept
-    (between_then from to before.link between.link now.link
-    (between_taken from to before between c.next_datagram.ensures.others)
+    between_then from to (g.K.Link.seen c.args.link.now) between.link now.link
+    (between_more from to (g.K.Link.seen c.args.link.now) before between c.loop-turn.invariant.kept
+    c.next_datagram.ensures.others)
     (between_stopped from to c.loop-turn.receiver (take c.in-Datagram.len c.next_datagram.new.into) between now
-    c.relay_one.ensures.others c.in_err-relay_one-in-Datagram.field-0.0 c.in_err-relay_one-in-Datagram.ensures.stopped))
+    c.in_err-relay_one-in-Datagram.ensures.told.others c.in_err-relay_one-in-Datagram.field-0.0
+    c.in_err-relay_one-in-Datagram.ensures.stopped)

@@ -7,10 +7,10 @@ use Rattle.outside_routes.specs.Sending.{routes}
 use Rattle.packet_reading.specs.Begun.{Begins}
 use Rattle.pet_repair.specs.Relays.{EndsRelay}
 use Rattle.pet_repair.specs.declared.arriving.RelayStop.TheVariants.{Route}
-use Rattle.pet_repair.specs.inside.Arrivals.{StandsIn}
 use Rattle.pet_repair.specs.inside.RelayEnds.{OnlyBegins, end_of_relay}
+use Rattle.pet_repair.proofs.AgainSent.{stands_with}
 use Rattle.pet_repair.proofs.ArrivalMade.{err_is}
-use Rattle.pet_repair.proofs.BetweenKept.{between_then, between_opened, between_unopened}
+use Rattle.pet_repair.proofs.BetweenKept.{between_sending, between_unopened}
 use Rattle.pet_repair.proofs.RelayBegun.{stops_opening, stops_relaying, relays_with, input_opened, open_opened}
 use Rattle.pet_repair.proofs.RelayBegun.{out_of, relaying_output, route_output}
 use Rattle.pet_repair.proofs.relaying.relay_begun.Goals as goal
@@ -52,11 +52,7 @@ returns-in_err-read-clause-stopped g c =
     let new = outside_seen g.P.Place g.K.Link g.S.Sink c.relay_all.new.place c.relay_all.new.link o.out.now
     c.relay_all.new.steps in
     let s = c.in_err-read.field-0.0 in
-    let stands : StandsIn c.new-receiver.result = record {
-      order = [];
-      held = c.new-receiver.ensures.order;
-      sound = c.new-receiver.ensures.sound;
-    } in
+    let stands = stands_with c.new-receiver.result [] c.new-receiver.ensures.order c.new-receiver.ensures.sound in
     err_is (λ s. (before : OutsideSeen) → Begins from before mid → OnlyBegins from before mid
     → EndsRelay from c.args.session to before new (end_of_relay s)) c.from_residual-in_err-read.result s
     c.from_residual-in_err-read.ensures.1
@@ -73,11 +69,7 @@ returns-clause-done g c before begins only =
     let opened = routes g.P.Place g.K.Link c.open_route.new.place c.open_route.new.link in
     let new = outside_seen g.P.Place g.K.Link g.S.Sink c.relay_all.new.place c.relay_all.new.link o.out.now
     c.relay_all.new.steps in
-    let stands : StandsIn c.new-receiver.result = record {
-      order = [];
-      held = c.new-receiver.ensures.order;
-      sound = c.new-receiver.ensures.sound;
-    } in
+    let stands = stands_with c.new-receiver.result [] c.new-receiver.ensures.order c.new-receiver.ensures.sound in
     let told = c.relaying_of.ensures in
     relays_with from c.args.session to before mid only begins opened new c.open_route.ensures.others refl
     c.in_ok-open_route.ensures.opened c.relay_all.ensures.keeps c.new-receiver.result c.new-receiver.ensures.empty
@@ -112,22 +104,14 @@ returns-in_err-open_route-clause-kept g c =
 
 pub returns-in_err-read-clause-kept : goal.returns-in_err-read-clause-kept
 returns-in_err-read-clause-kept g c =
-    let from = way_of c.args.from in
-    let to = way_of c.args.to in
     let o = c.args.outside.now in
-    between_then from to (g.K.Link.seen o.link.now) (g.K.Link.seen c.open_route.new.link)
-    (g.K.Link.seen c.relay_all.new.link)
-    (between_opened from to (routes g.P.Place g.K.Link o.place.now o.link.now)
-    (routes g.P.Place g.K.Link c.open_route.new.place c.open_route.new.link) c.in_ok-open_route.ensures.opened
-    c.open_route.ensures.others) c.relay_all.ensures.kept
+    between_sending (way_of c.args.from) (way_of c.args.to) (routes g.P.Place g.K.Link o.place.now o.link.now)
+    (routes g.P.Place g.K.Link c.open_route.new.place c.open_route.new.link) (g.K.Link.seen c.relay_all.new.link)
+    c.in_ok-open_route.ensures.opened c.open_route.ensures.others c.relay_all.ensures.kept
 
 pub returns-clause-kept : goal.returns-clause-kept
 returns-clause-kept g c =
-    let from = way_of c.args.from in
-    let to = way_of c.args.to in
     let o = c.args.outside.now in
-    between_then from to (g.K.Link.seen o.link.now) (g.K.Link.seen c.open_route.new.link)
-    (g.K.Link.seen c.relay_all.new.link)
-    (between_opened from to (routes g.P.Place g.K.Link o.place.now o.link.now)
-    (routes g.P.Place g.K.Link c.open_route.new.place c.open_route.new.link) c.in_ok-open_route.ensures.opened
-    c.open_route.ensures.others) c.relay_all.ensures.kept
+    between_sending (way_of c.args.from) (way_of c.args.to) (routes g.P.Place g.K.Link o.place.now o.link.now)
+    (routes g.P.Place g.K.Link c.open_route.new.place c.open_route.new.link) (g.K.Link.seen c.relay_all.new.link)
+    c.in_ok-open_route.ensures.opened c.open_route.ensures.others c.relay_all.ensures.kept

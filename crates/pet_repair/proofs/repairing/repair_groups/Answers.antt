@@ -1,7 +1,7 @@
 use Rattle.std.proofs.Common.{◌+◌, ◌<◌, refl, ap, arith, rules, ◌∙◌}
 use Rattle.outside_routes.specs.Sending.{routes}
 use Rattle.outside_routes.specs.Way.{way_of}
-use Rattle.outside_routes.specs.laws.SendingLaws.{grows_same, grows_then, grows_open}
+use Rattle.outside_routes.specs.laws.SendingLaws.{calm_same, calm_then, grows_open}
 use Rattle.std.specs.Prelude.{unwrap_or}
 use Rattle.pet_receive.specs.Arrivals.{kept_set}
 use Rattle.pet_repair.specs.inside.Groups.{StopsInGroups}
@@ -16,15 +16,13 @@ loop-group-init g c =
       sends = groups_none (way_of c.args.to) c.args.receiver.now _ r refl refl;
       few = omega arith;
       short = omega arith;
-      others = grows_same r;
-      calm_place = refl;
-      calm_link = refl;
+      calm = calm_same r;
     }
 
 pub repair_group-requires-clause-open : goal.repair_group-requires-clause-open
 repair_group-requires-clause-open g c =
     grows_open (way_of c.args.to) (routes g.P.Place g.K.Link c.args.place.now c.args.link.now)
-    (routes g.P.Place g.K.Link c.loop-group.place c.loop-group.link) c.loop-group.invariant.others c.requires.open
+    (routes g.P.Place g.K.Link c.loop-group.place c.loop-group.link) c.loop-group.invariant.calm.others c.requires.open
 
 pub returns-in_err-more-clause-stop : goal.returns-in_err-more-clause-stop
 returns-in_err-more-clause-stop g c =
@@ -35,7 +33,7 @@ returns-in_err-more-clause-stop g c =
     repair_end_is (StopsInGroups way c.args.receiver.now old now) c.from_residual.result c.in_err-more.field-0.0
     c.from_residual.ensures.1
     (stops_more way c.args.receiver.now c.loop-group.group c.loop-group.done old before now c.in_err-more.field-0.0
-    c.loop-group.invariant.others c.loop-group.invariant.sends c.in_err-more.ensures.stop)
+    c.loop-group.invariant.calm.others c.loop-group.invariant.sends c.in_err-more.ensures.stop)
 
 pub loop-group-preserved : goal.loop-group-preserved
 loop-group-preserved g c =
@@ -48,12 +46,10 @@ loop-group-preserved g c =
     record {
       sends =
           groups_more way c.args.receiver.now c.loop-group.group c.loop-group.done c.in_ok-more.more _ old before now
-          held.others held.sends one.done refl refl;
+          held.calm.others held.sends one.done refl refl;
       few = omega (arith, held.few, one.few.0);
       short = omega (arith, held.short, one.few.1);
-      others = grows_then old before now held.others c.repair_group.ensures.others;
-      calm_place = one.once_place ∙ held.calm_place;
-      calm_link = one.once_link ∙ held.calm_link;
+      calm = calm_then old before now held.calm one.told.others one.told.once_place one.told.once_link;
     }
 
 pub overflow_add-done-in-loop-group : goal.overflow_add-done-in-loop-group

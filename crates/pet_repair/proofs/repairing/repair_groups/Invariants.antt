@@ -1,6 +1,7 @@
-use Rattle.std.proofs.Common.{◌≡◌, ◌≤◌, ◌*◌}
-use Rattle.outside_routes.specs.Sending.{routes, OnlyGrows}
+use Rattle.std.proofs.Common.{◌≤◌, ◌*◌}
+use Rattle.outside_routes.specs.Sending.{routes}
 use Rattle.outside_routes.specs.Way.{way_of}
+use Rattle.outside_routes.specs.laws.SendingLaws.{GrowsCalmly}
 use Rattle.pet_repair.specs.inside.Groups.{SendsGroups}
 use Rattle.pet_repair.proofs.repairing.repair_groups.Given as goal
 
@@ -10,8 +11,6 @@ invariant-loop-group g l = record {
       (routes g.P.Place g.K.Link l.initial.place l.initial.link) (routes g.P.Place g.K.Link l.place l.link);
   few : l.done.groups ≤ l.group;
   short : l.done.datagrams ≤ l.group * 4096;
-  others : OnlyGrows (routes g.P.Place g.K.Link l.initial.place l.initial.link)
+  calm : GrowsCalmly (routes g.P.Place g.K.Link l.initial.place l.initial.link)
       (routes g.P.Place g.K.Link l.place l.link);
-  calm_place : (g.P.Place.seen l.place).faults ≡ (g.P.Place.seen l.initial.place).faults;
-  calm_link : (g.K.Link.seen l.link).faults ≡ (g.K.Link.seen l.initial.link).faults;
 }

@@ -4,7 +4,7 @@ use Rattle.stripe_plan.specs.Layers.{stripes_from}
 use Rattle.stripe_plan.specs.Plan.{plan_from}
 use Rattle.packet_session.specs.Session.{Session}
 use Rattle.packet_met.specs.Met.{Pair}
-use Rattle.packet_relay.specs.Relay.{output_from}
+use Rattle.pet_repair.specs.Relay.{output_from}
 
 abbrev pub example : Session
 example = record {

@@ -12,9 +12,9 @@ use Rattle.packet_session.specs.Session.{Session, SessionGroup}
 use Rattle.packet_met.specs.Met.{Pair, has_pair, shows}
 use Rattle.packet_met.specs.laws.PairLaws.{met_here, met_other_group, met_other_number, has_either, or_false}
 use Rattle.packet_met.specs.laws.SumLaws.{count_same}
-use Rattle.packet_relay.specs.Relay.{all_layers, lacking, remaining, itself, rebuilt, pair_sends, output_from}
-use Rattle.packet_relay.specs.Relay.{pairs_of}
-use Rattle.packet_relay.specs.laws.RelayLaws.{Within, more_within, shows_more, keeps_up}
+use Rattle.pet_repair.specs.Relay.{all_layers, lacking, remaining, itself, rebuilt, pair_sends, output_from}
+use Rattle.pet_repair.specs.Relay.{pairs_of}
+use Rattle.pet_repair.specs.laws.RelayLaws.{Within, more_within, shows_more, keeps_up}
 
 abbrev pub SameIn : List Pair → List Pair → ℕ → Type 0
 SameIn a b group = (n : ℕ) → has_pair a group n ≡ has_pair b group n

@@ -11,8 +11,8 @@ use Rattle.std.proofs.lemmas.Bool.{cases_Bool}
 use Rattle.packet_session.specs.Session.{Session, SessionGroup}
 use Rattle.packet_met.specs.Met.{Pair, has_pair, distinct_met, shows}
 use Rattle.packet_met.specs.laws.PairLaws.{met_here, met_other_number, has_either}
-use Rattle.packet_relay.specs.Relay.{itself, rebuilt, remaining, all_layers, pair_sends, sends_at, output_from}
-use Rattle.packet_relay.specs.Relay.{pairs_of}
+use Rattle.pet_repair.specs.Relay.{itself, rebuilt, remaining, all_layers, pair_sends, sends_at, output_from}
+use Rattle.pet_repair.specs.Relay.{pairs_of}
 
 -- none of the pairs is in the set, and none comes twice
 unfoldable pub AreNew : List Pair → List Pair → Type 0

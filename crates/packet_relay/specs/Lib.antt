@@ -1,2 +1,0 @@
-pub mod Relay
-pub mod laws

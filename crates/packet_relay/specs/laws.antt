@@ -1,3 +1,0 @@
-pub mod RelayLaws
-pub mod CompleteLaws
-pub mod Rows
