@@ -1,5 +1,5 @@
 -- What each end tells, by what was read or by where the command stopped.
-use Rattle.std.proofs.Common.{◌≡◌, ◌≢◌, ◌<◌, Bool, true, false, List, ℕ, length, refl, sym, ◌∙◌, arith, inr}
+use Rattle.std.proofs.Common.{◌≡◌, ◌≢◌, ◌<◌, Bool, true, false, List, ℕ, length, refl, sym, ap, ◌∙◌, arith, inr}
 use Rattle.std.proofs.Common.{subst}
 use Rattle.pet_base.specs.declared.limits.TheConstants.{MAX_DATAGRAMS}
 use Rattle.pet_base.specs.LinkSeen.{LinkSeen}
@@ -14,7 +14,7 @@ use Rattle.outside_routes.specs.RouteFaults.{stop_of_a_place, stop_of_a_link}
 use Rattle.packet_reading.specs.Begun.{stop_of_an_output}
 use Rattle.outside_routes.specs.declared.fault.RouteStop.{RouteStop}
 use Rattle.outside_routes.specs.declared.fault.RouteStop.TheVariants as stop
-use Rattle.command_receive.specs.Failures.{end_of_place, end_of_link, end_of_output}
+use Rattle.command_receive.specs.Failures.{failures_of, end_of_place, end_of_link, end_of_output}
 use Rattle.command_receive.specs.inside.Numbers.{IsReadingOf, IsEndOf, end_of}
 use Rattle.command_receive.specs.Opened.{IsBoundTo, PrintedPort}
 use Rattle.command_receive.specs.Receives.{AreTotals, IsBoundAtEnd, Reads, EndsReceive}
@@ -60,23 +60,20 @@ bound_at_any from old new NoMemory bound = inr bound
 bound_at_any from old new LinkFault bound = inr bound
 
 -- an end tells of the failure that stopped the command, and one with numbers of none
+alike : (s : RouteStop) → (stop_of_a_place s, stop_of_a_link s, stop_of_an_output s) ≡ failures_of (end_of s)
+alike stop.NoMemory = refl
+alike stop.Place = refl
+alike stop.Link = refl
+alike stop.Out = refl
+
 pub place_alike : (s : RouteStop) → stop_of_a_place s ≡ end_of_place (end_of s)
-place_alike stop.NoMemory = refl
-place_alike stop.Place = refl
-place_alike stop.Link = refl
-place_alike stop.Out = refl
+place_alike s = ap (λ (failures : Bool × Bool × Bool). failures.0) (alike s)
 
 pub link_alike : (s : RouteStop) → stop_of_a_link s ≡ end_of_link (end_of s)
-link_alike stop.NoMemory = refl
-link_alike stop.Place = refl
-link_alike stop.Link = refl
-link_alike stop.Out = refl
+link_alike s = ap (λ (failures : Bool × Bool × Bool). failures.1) (alike s)
 
 pub output_alike : (s : RouteStop) → stop_of_an_output s ≡ end_of_output (end_of s)
-output_alike stop.NoMemory = refl
-output_alike stop.Place = refl
-output_alike stop.Link = refl
-output_alike stop.Out = refl
+output_alike s = ap (λ (failures : Bool × Bool × Bool). failures.2) (alike s)
 
 pub calm_at : (reading : Reading) (end : ReceiveEnd) → IsEndOf reading end
     → (end_of_place end ≡ false) × (end_of_link end ≡ false) × (end_of_output end ≡ false)

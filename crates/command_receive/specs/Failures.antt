@@ -5,29 +5,20 @@ use Rattle.command_receive.specs.declared.command.ReceiveEnd.{ReceiveEnd}
 use Rattle.command_receive.specs.declared.command.ReceiveEnd.TheVariants.{Done, NoMemory, PlaceFault, LinkFault}
 use Rattle.command_receive.specs.declared.command.ReceiveEnd.TheVariants.{OutFault, Incomplete, TurnsSpent}
 
+abbrev pub failures_of : ReceiveEnd → Bool × Bool × Bool
+failures_of (Done totals) = (false, false, false)
+failures_of NoMemory = (false, false, false)
+failures_of PlaceFault = (true, false, false)
+failures_of LinkFault = (false, true, false)
+failures_of OutFault = (false, false, true)
+failures_of (Incomplete totals) = (false, false, false)
+failures_of (TurnsSpent totals) = (false, false, false)
+
 abbrev pub end_of_place : ReceiveEnd → Bool
-end_of_place (Done totals) = false
-end_of_place NoMemory = false
-end_of_place PlaceFault = true
-end_of_place LinkFault = false
-end_of_place OutFault = false
-end_of_place (Incomplete totals) = false
-end_of_place (TurnsSpent totals) = false
+end_of_place end = (failures_of end).0
 
 abbrev pub end_of_link : ReceiveEnd → Bool
-end_of_link (Done totals) = false
-end_of_link NoMemory = false
-end_of_link PlaceFault = false
-end_of_link LinkFault = true
-end_of_link OutFault = false
-end_of_link (Incomplete totals) = false
-end_of_link (TurnsSpent totals) = false
+end_of_link end = (failures_of end).1
 
 abbrev pub end_of_output : ReceiveEnd → Bool
-end_of_output (Done totals) = false
-end_of_output NoMemory = false
-end_of_output PlaceFault = false
-end_of_output LinkFault = false
-end_of_output OutFault = true
-end_of_output (Incomplete totals) = false
-end_of_output (TurnsSpent totals) = false
+end_of_output end = (failures_of end).2

@@ -1,5 +1,5 @@
 -- What each end tells.
-use Rattle.std.proofs.Common.{◌≡◌, ◌≢◌, ℕ, List, [], Option, None, Some, sym, ap, subst, inl, arith}
+use Rattle.std.proofs.Common.{◌≡◌, ◌≢◌, Bool, ℕ, List, [], Option, None, Some, sym, ap, subst, inl, arith}
 use Rattle.std.specs.Prelude.{option_map}
 use Rattle.outside_routes.specs.declared.fault.RouteStop.TheVariants as stop
 use Rattle.outside_routes.specs.Sending.{Routes}
@@ -15,7 +15,7 @@ use Rattle.command_send.specs.declared.command.SendEnd.{SendEnd}
 use Rattle.command_send.specs.declared.command.SendEnd.TheVariants.{NoMemory, PlaceFault, LinkFault, Changed}
 use Rattle.command_send.specs.declared.fault.SendFault.{SendFault}
 use Rattle.command_send.specs.declared.fault.SendFault.TheVariants as fault
-use Rattle.command_send.specs.Failures.{fault_of_place, fault_of_link, end_of_place, end_of_link}
+use Rattle.command_send.specs.Failures.{fault_of_place, fault_of_link, failures_of, end_of_place, end_of_link}
 use Rattle.command_send.specs.inside.SendParts.{IsEndOf, IsSendFault, end_of_refusal}
 use Rattle.command_send.specs.Sends.{routes_in, LeavesSentFront, MayBlameIn, SendsNothing, SendTellsIn}
 use Rattle.field_elements.specs.Field.{Coding}
@@ -81,26 +81,20 @@ no_output t c old new stream priority way (fault.Source refusal) is = λ same. c
 no_output t c old new stream priority way (fault.Changed change) is = λ same. cc
 
 -- an end tells of the failure that its fault tells of
+alike : (f : SendFault) (end : SendEnd) → IsEndOf f end → (fault_of_place f, fault_of_link f) ≡ failures_of end
+alike (fault.Stopped stop.NoMemory) end made = ap failures_of (sym made)
+alike (fault.Stopped stop.Place) end made = ap failures_of (sym made)
+alike (fault.Stopped stop.Link) end made = ap failures_of (sym made)
+alike (fault.Stopped stop.Out) end made = absurd made
+alike (fault.Source source.NoMemory) end made = ap failures_of (sym made)
+alike (fault.Source source.Failed) end made = ap failures_of (sym made)
+alike (fault.Source (source.Priority x)) end made = ap failures_of (sym made)
+alike (fault.Source (source.Stream x)) end made = ap failures_of (sym made)
+alike (fault.Source (source.Plan x)) end made = ap failures_of (sym made)
+alike (fault.Changed change) end made = ap failures_of (sym made)
+
 pub place_alike : (f : SendFault) (end : SendEnd) → IsEndOf f end → fault_of_place f ≡ end_of_place end
-place_alike (fault.Stopped stop.NoMemory) end made = ap end_of_place (sym made)
-place_alike (fault.Stopped stop.Place) end made = ap end_of_place (sym made)
-place_alike (fault.Stopped stop.Link) end made = ap end_of_place (sym made)
-place_alike (fault.Stopped stop.Out) end made = absurd made
-place_alike (fault.Source source.NoMemory) end made = ap end_of_place (sym made)
-place_alike (fault.Source source.Failed) end made = ap end_of_place (sym made)
-place_alike (fault.Source (source.Priority x)) end made = ap end_of_place (sym made)
-place_alike (fault.Source (source.Stream x)) end made = ap end_of_place (sym made)
-place_alike (fault.Source (source.Plan x)) end made = ap end_of_place (sym made)
-place_alike (fault.Changed change) end made = ap end_of_place (sym made)
+place_alike f end made = ap (λ (failures : Bool × Bool). failures.0) (alike f end made)
 
 pub link_alike : (f : SendFault) (end : SendEnd) → IsEndOf f end → fault_of_link f ≡ end_of_link end
-link_alike (fault.Stopped stop.NoMemory) end made = ap end_of_link (sym made)
-link_alike (fault.Stopped stop.Place) end made = ap end_of_link (sym made)
-link_alike (fault.Stopped stop.Link) end made = ap end_of_link (sym made)
-link_alike (fault.Stopped stop.Out) end made = absurd made
-link_alike (fault.Source source.NoMemory) end made = ap end_of_link (sym made)
-link_alike (fault.Source source.Failed) end made = ap end_of_link (sym made)
-link_alike (fault.Source (source.Priority x)) end made = ap end_of_link (sym made)
-link_alike (fault.Source (source.Stream x)) end made = ap end_of_link (sym made)
-link_alike (fault.Source (source.Plan x)) end made = ap end_of_link (sym made)
-link_alike (fault.Changed change) end made = ap end_of_link (sym made)
+link_alike f end made = ap (λ (failures : Bool × Bool). failures.1) (alike f end made)

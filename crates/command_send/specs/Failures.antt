@@ -17,22 +17,19 @@ fault_of_link (Stopped stop) = stop_of_a_link stop
 fault_of_link (Source fault) = false
 fault_of_link (Changed change) = false
 
+-- of an end the one and the other
+abbrev pub failures_of : SendEnd → Bool × Bool
+failures_of (end.Done sent) = (false, false)
+failures_of end.NoMemory = (false, false)
+failures_of end.PlaceFault = (true, false)
+failures_of end.LinkFault = (false, true)
+failures_of (end.BadPriority fault) = (false, false)
+failures_of (end.BadStream scan) = (false, false)
+failures_of (end.BadPlan fault) = (false, false)
+failures_of (end.Changed change) = (false, false)
+
 abbrev pub end_of_place : SendEnd → Bool
-end_of_place (end.Done sent) = false
-end_of_place end.NoMemory = false
-end_of_place end.PlaceFault = true
-end_of_place end.LinkFault = false
-end_of_place (end.BadPriority fault) = false
-end_of_place (end.BadStream scan) = false
-end_of_place (end.BadPlan fault) = false
-end_of_place (end.Changed change) = false
+end_of_place end = (failures_of end).0
 
 abbrev pub end_of_link : SendEnd → Bool
-end_of_link (end.Done sent) = false
-end_of_link end.NoMemory = false
-end_of_link end.PlaceFault = false
-end_of_link end.LinkFault = true
-end_of_link (end.BadPriority fault) = false
-end_of_link (end.BadStream scan) = false
-end_of_link (end.BadPlan fault) = false
-end_of_link (end.Changed change) = false
+end_of_link end = (failures_of end).1

@@ -4,6 +4,7 @@
 use Rattle.std.specs.Prelude.{ℕ, Bool, List, Option, None, false}
 use Rattle.pet_base.specs.Seen.{Seen}
 use Rattle.pet_base.specs.LinkSeen.{LinkSeen}
+use Rattle.pet_base.specs.OutsideSeen.{OutsideSeen}
 
 pub record Opened : Type 0 where
   pub has_input : Bool
@@ -64,4 +65,15 @@ untold_link l = record {
   blamed = None;
   faults = l.faults;
   failing = l.failing;
+}
+
+-- Nothing is open, nothing failed and nothing is counted; what the files and the network have is not told. Of the
+-- output is told what its writer tells.
+abbrev pub at_start : Option (List ℕ) → OutsideSeen
+at_start held = record {
+  place = untold nothing_open;
+  link = untold_link never_bound;
+  written = held;
+  out_faults = 0;
+  steps = 0;
 }

@@ -25,10 +25,12 @@ use Rattle.store_keeper.specs.laws.KeepLaws.{after_limit, after_session}
 use Rattle.pet_keep.specs.Journaled.{AreFirst}
 use Rattle.pet_keep.specs.declared.stop.KeepStop.{KeepStop}
 use Rattle.pet_keep.specs.declared.stop.KeepStop.TheVariants as stop
-use Rattle.pet_keep.specs.inside.SoFar.{AllStand, CameAll, CameTo, CameUntil, IsKeepStop, StandsAfterFirst, StopsKeeping}
-use Rattle.pet_keep.specs.inside.SoFar.{IsEndOf, end_of, of_an_output, of_failed, of_fault, of_route, of_stop}
+use Rattle.pet_keep.specs.inside.SoFar.{AllStand, CameAll, CameTo, CameUntil, IsKeepStop, StandsAfterFirst}
+use Rattle.pet_keep.specs.inside.SoFar.{StopsKeeping}
+use Rattle.pet_keep.specs.inside.SoFar.{IsEndOf, of_an_output, of_failed, of_fault, of_route, of_stop}
 use Rattle.outside_routes.specs.declared.fault.RouteStop.{RouteStop}
 use Rattle.outside_routes.specs.declared.fault.RouteStop.TheVariants as route
+use Rattle.packet_reading.specs.declared.reading.Totals.{Totals}
 use Rattle.packet_reading.specs.Begun.{OutStops, stop_of_an_output}
 use Rattle.pet_base.specs.Causes.{stops}
 use Rattle.pet_base.specs.OutsideSeen.{OutsideSeen}
@@ -225,13 +227,6 @@ pub output_of_stop : (why : Stop) → false ≡ of_an_output (of_stop why)
 output_of_stop place.NoMemory = refl
 output_of_stop place.Failed = refl
 
-pub output_of_end : (why : KeepStop) → of_an_output why ≡ end_of_output (end_of why)
-output_of_end stop.NoMemory = refl
-output_of_end stop.Place = refl
-output_of_end stop.Link = refl
-output_of_end stop.Out = refl
-output_of_end stop.Disk = refl
-
 pub no_output : (A B D : Type 0) (why : KeepStop) → IsKeepStop A B ⊥ D why
     → false ≡ of_an_output why
 no_output A B D stop.NoMemory cause = refl
@@ -240,18 +235,27 @@ no_output A B D stop.Link cause = refl
 no_output A B D stop.Out cause = absurd cause
 no_output A B D stop.Disk cause = refl
 
+-- all was read at the three ends that have numbers
+pub by_end : (P : KeepEnd → Type 0) (set : KeptSet) (n : ℕ)
+    → ((totals : Totals) → IsEndOf set n (end.Done totals) → P (end.Done totals))
+    → ((totals : Totals) → IsEndOf set n (end.Incomplete totals) → P (end.Incomplete totals))
+    → ((totals : Totals) → IsEndOf set n (end.TurnsSpent totals) → P (end.TurnsSpent totals))
+    → (e : KeepEnd) → IsEndOf set n e → P e
+by_end P set n done part spent (end.Done totals) is = done totals is
+by_end P set n done part spent (end.Incomplete totals) is = part totals is
+by_end P set n done part spent (end.TurnsSpent totals) is = spent totals is
+by_end P set n done part spent end.Usage is = absurd is
+by_end P set n done part spent end.NoMemory is = absurd is
+by_end P set n done part spent end.PlaceFault is = absurd is
+by_end P set n done part spent end.LinkFault is = absurd is
+by_end P set n done part spent end.OutFault is = absurd is
+by_end P set n done part spent end.OtherSession is = absurd is
+by_end P set n done part spent end.DiskFault is = absurd is
+by_end P set n done part spent (end.BadJournal at) is = absurd is
+
 pub read_to_end : (set : KeptSet) (n : ℕ) (e : KeepEnd) → IsEndOf set n e → false ≡ end_of_output e
-read_to_end set n (end.Done totals) is = refl
-read_to_end set n (end.Incomplete totals) is = refl
-read_to_end set n (end.TurnsSpent totals) is = refl
-read_to_end set n end.Usage is = absurd is
-read_to_end set n end.NoMemory is = absurd is
-read_to_end set n end.PlaceFault is = absurd is
-read_to_end set n end.LinkFault is = absurd is
-read_to_end set n end.OutFault is = absurd is
-read_to_end set n end.OtherSession is = absurd is
-read_to_end set n end.DiskFault is = absurd is
-read_to_end set n (end.BadJournal at) is = absurd is
+read_to_end set n =
+    by_end (λ e. false ≡ end_of_output e) set n (λ totals is. refl) (λ totals is. refl) (λ totals is. refl)
 
 -- the output failed in this call exactly where the answer tells so
 pub out_of : {T : Type 0} (result : Result T KeepStop) (why : KeepStop) (failed : Bool) (before after : OutsideSeen)

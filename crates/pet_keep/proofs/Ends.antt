@@ -1,5 +1,5 @@
 -- What a run leaves, by its end.
-use Rattle.std.proofs.Common.{◌≡◌, ℕ, false, List, [], ◌∷◌, Option, None, Some, refl, sym, ap, subst, ◌∙◌}
+use Rattle.std.proofs.Common.{◌≡◌, ℕ, List, [], ◌∷◌, Option, None, Some, refl, sym, ap, subst, ◌∙◌}
 use Rattle.std.specs.Prelude.{Result, Ok, Err}
 use Rattle.outside_disk.specs.Disk.{Between, DiskSeen, IfTold, IsSound, LeavesOnly, Tells, Told, Untold, image}
 use Rattle.outside_disk.specs.laws.DiskLaws.{between_weaker, only_same, only_then, only_weaker, since_has}
@@ -7,46 +7,11 @@ use Rattle.packet_verdicts.specs.KeptSet.{KeptSet}
 use Rattle.packet_verdicts.specs.Verdicts.{after, after_all, after_all_in}
 use Rattle.pet_base.specs.declared.limits.TheConstants.{MAX_SESSION}
 use Rattle.pet_keep.specs.Journaled.{AreFirst, SinceBeginning, StandsSince, journal_in, with_datagrams}
-use Rattle.pet_keep.specs.Runs.{of_place, of_link}
-use Rattle.pet_keep.specs.Statuses.{status_of}
-use Rattle.pet_keep.specs.declared.end.KeepEnd.{KeepEnd}
-use Rattle.pet_keep.specs.declared.end.KeepEnd.TheVariants as end
-use Rattle.pet_keep.specs.declared.stop.KeepStop.{KeepStop}
-use Rattle.pet_keep.specs.declared.stop.KeepStop.TheVariants as stop
-use Rattle.pet_keep.specs.inside.SoFar.{IsEndOf, StandsAfterFirst, end_of, of_a_link, of_a_place}
+use Rattle.pet_keep.specs.inside.SoFar.{StandsAfterFirst}
 use Rattle.store_journal.specs.declared.fault.StartFault.{StartFault}
 use Rattle.store_keeper.specs.Journal.{StandsFor, journal_of}
 use Rattle.store_keeper.specs.laws.KeepLaws.{after_limit, after_session}
 use Rattle.store_keeper.specs.Keeper.{ReadsAsBefore, Starts}
-
--- an end tells of the failure that stopped the run, and one with numbers of none
-pub place_alike : (s : KeepStop) → of_a_place s ≡ of_place (status_of (end_of s))
-place_alike stop.NoMemory = refl
-place_alike stop.Place = refl
-place_alike stop.Link = refl
-place_alike stop.Out = refl
-place_alike stop.Disk = refl
-
-pub link_alike : (s : KeepStop) → of_a_link s ≡ of_link (status_of (end_of s))
-link_alike stop.NoMemory = refl
-link_alike stop.Place = refl
-link_alike stop.Link = refl
-link_alike stop.Out = refl
-link_alike stop.Disk = refl
-
-pub calm_at : (set : KeptSet) (n : ℕ) (end : KeepEnd) → IsEndOf set n end
-    → (of_place (status_of end) ≡ false) × (of_link (status_of end) ≡ false)
-calm_at set n (end.Done totals) is = (refl, refl)
-calm_at set n (end.Incomplete totals) is = (refl, refl)
-calm_at set n (end.TurnsSpent totals) is = (refl, refl)
-calm_at set n end.Usage is = absurd is
-calm_at set n end.NoMemory is = absurd is
-calm_at set n end.PlaceFault is = absurd is
-calm_at set n end.LinkFault is = absurd is
-calm_at set n end.OutFault is = absurd is
-calm_at set n end.OtherSession is = absurd is
-calm_at set n end.DiskFault is = absurd is
-calm_at set n (end.BadJournal at) is = absurd is
 
 -- nothing was handed to what a text stands for
 with_nothing : (r : Result KeptSet StartFault) → with_datagrams [] r ≡ r

@@ -36,11 +36,11 @@ use Rattle.pet_keep.specs.Journaled.{DiskNow, datagrams_in, offered}
 use Rattle.pet_keep.specs.Keeps.{AreTotals, EndsFrom, KeepsAll, KeepsFiles, KeepsUntilFault, LeavesFront}
 use Rattle.pet_keep.specs.Keeps.{StoresPart}
 use Rattle.pet_keep.specs.declared.end.KeepEnd.{KeepEnd}
-use Rattle.pet_keep.specs.declared.end.KeepEnd.TheVariants as end
 use Rattle.pet_keep.specs.declared.stop.KeepStop.{KeepStop}
 use Rattle.pet_keep.specs.declared.stop.KeepStop.TheVariants as stop
 use Rattle.pet_keep.specs.inside.SoFar.{AllStand, CameAll, CameUntil, HasTotals, IsEndOf, IsKeepStop, StandsAfterFirst}
 use Rattle.pet_keep.specs.inside.SoFar.{StopsKeeping, end_of, of_route, of_stop}
+use Rattle.pet_keep.proofs.CameSoFar.{by_end}
 
 -- what comes once FROM is begun is what it offered
 of_file : (files : Option Files) (name : List ℕ) → IfSome files (λ f. IsSome (f name))
@@ -120,30 +120,17 @@ module _ (first : KeptSet) (from : Way) (store : List ℕ) (n : ℕ) (before ope
   pub ends_kept : Wrote (store_file store now ∷ []) None new.place stored.place → AllStand now disk.seen
       → (end : KeepEnd) → IsEndOf now n end → EndsFrom first from store before stored old disk end
   unfolding keeps_all
-  ends_kept wrote stands (end.Done totals) is = (
-    keeps_all wrote stands,
-    below is.0,
-    subst IsComplete kept is.1,
-    totals_are totals is.2,
-    port,
-  )
-  ends_kept wrote stands (end.Incomplete totals) is = (
-    keeps_all wrote stands,
-    below is.0,
-    (λ all. is.1 (subst IsComplete (sym kept) all)),
-    totals_are totals is.2,
-    port,
-  )
-  ends_kept wrote stands (end.TurnsSpent totals) is =
-      (keeps_all wrote stands, came.so_far.many ∙ is.0, totals_are totals is.1, port)
-  ends_kept wrote stands end.Usage is = absurd is
-  ends_kept wrote stands end.NoMemory is = absurd is
-  ends_kept wrote stands end.PlaceFault is = absurd is
-  ends_kept wrote stands end.LinkFault is = absurd is
-  ends_kept wrote stands end.OutFault is = absurd is
-  ends_kept wrote stands end.OtherSession is = absurd is
-  ends_kept wrote stands end.DiskFault is = absurd is
-  ends_kept wrote stands (end.BadJournal at) is = absurd is
+  ends_kept wrote stands =
+      by_end (λ e. EndsFrom first from store before stored old disk e) now n
+      (λ totals is. (keeps_all wrote stands, below is.0, subst IsComplete kept is.1, totals_are totals is.2, port))
+      (λ totals is. (
+        keeps_all wrote stands,
+        below is.0,
+        (λ all. is.1 (subst IsComplete (sym kept) all)),
+        totals_are totals is.2,
+        port,
+      ))
+      (λ totals is. (keeps_all wrote stands, came.so_far.many ∙ is.0, totals_are totals is.1, port))
 
   leaves_front : (stored.place.files ≡ new.place.files) ⊎ Wrote [] (Some (store_file store now)) new.place stored.place
       → LeavesFront first from store before stored

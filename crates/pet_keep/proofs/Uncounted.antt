@@ -8,7 +8,8 @@ use Rattle.outside_routes.specs.declared.fault.RouteStop.{RouteStop}
 use Rattle.outside_routes.specs.declared.fault.RouteStop.TheVariants as route
 use Rattle.pet_base.specs.OutsideSeen.{OutsideSeen}
 use Rattle.pet_keep.specs.Journaled.{uncounted}
-use Rattle.pet_keep.specs.Runs.{PrintedShort, PrintedWhole, Tells}
+use Rattle.pet_text.specs.Told.{PrintedWhole}
+use Rattle.pet_keep.specs.Runs.{PrintedShort, Tells}
 use Rattle.pet_keep.specs.declared.status.KeepStatus.{KeepStatus}
 
 begun : (from : Way) (before after : OutsideSeen) → Begun from before after

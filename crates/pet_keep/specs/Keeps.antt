@@ -1,5 +1,5 @@
 -- What `keep` leaves at each of its ends. This project's own.
-use Rattle.std.specs.Prelude.{Bool, true, false, ℕ, ◌≡◌, ◌⊎◌, ◌<◌, ◌≤◌, List, [], ◌∷◌, length, None, Some, Err}
+use Rattle.std.specs.Prelude.{Bool, ℕ, ◌≡◌, ◌⊎◌, ◌<◌, ◌≤◌, List, [], ◌∷◌, length, None, Some, Err}
 use Rattle.packet_reading.specs.Begun.{EnteringFailed, OpeningFailed, OutStops}
 use Rattle.packet_reading.specs.Opened.{IsBoundTo, IsUntouched, KeepsLink, PortFailed, PrintedPort}
 use Rattle.packet_reading.specs.Layers.{HaveComeFirst, IsRead}
@@ -25,6 +25,7 @@ use Rattle.store_keeper.specs.Journal.{StandsFor}
 use Rattle.store_keeper.specs.Keeper.{EachNow}
 use Rattle.store_text.specs.Files.{store_file}
 use Rattle.pet_keep.specs.Journaled.{DiskNow, HasJournal, SinceBeginning, journal_in, offered}
+use Rattle.pet_keep.specs.Statuses.{failures_of, status_of}
 use Rattle.pet_keep.specs.declared.end.KeepEnd.{KeepEnd}
 use Rattle.pet_keep.specs.declared.end.KeepEnd.TheVariants.{Done, Usage, NoMemory, PlaceFault, LinkFault, OutFault}
 use Rattle.pet_keep.specs.declared.end.KeepEnd.TheVariants.{OtherSession, Incomplete, TurnsSpent, DiskFault, BadJournal}
@@ -93,17 +94,7 @@ FewHaveLeft (OnLink address) old new =
 
 -- which end tells of a failure of the output
 abbrev pub end_of_output : KeepEnd → Bool
-end_of_output (Done totals) = false
-end_of_output (Incomplete totals) = false
-end_of_output (TurnsSpent totals) = false
-end_of_output NoMemory = false
-end_of_output PlaceFault = false
-end_of_output LinkFault = false
-end_of_output OutFault = true
-end_of_output DiskFault = false
-end_of_output OtherSession = false
-end_of_output (BadJournal at) = false
-end_of_output Usage = false
+end_of_output end = (failures_of (status_of end)).2
 
 -- the numbers of these datagrams, handed to what the journal had: how many they are, how many packets are kept, and
 -- how many

@@ -1,87 +1,47 @@
 -- What a run of `keep` does by its words, what it prints, and when it is done. This project's own.
-use Rattle.std.specs.Prelude.{ℕ, ◌≡◌, ◌≢◌, ◌⊎◌, ◌<◌, Bool, true, false, List, [], ◌∷◌, ◌++◌, length, Option, None, Some, Ok}
+use Rattle.std.specs.Prelude.{ℕ, ◌≡◌, ◌≢◌, ◌⊎◌, ◌<◌, Bool, List, [], ◌∷◌, ◌++◌, length, Option, None, Some, Ok}
 use Rattle.packet_reading.specs.Opened.{IsBoundTo}
 use Rattle.packet_reading.specs.Layers.{port_line}
 use Rattle.packet_reading.specs.SessionRead.{HasDatagrams}
 use Rattle.outside_disk.specs.Disk.{DiskSeen, Untold, Tells as TellsDisk}
 use Rattle.outside_files.specs.Failures.{EndsAtOnce}
-use Rattle.outside_files.specs.Printed.{Printed, PrintedFront, PrintsLine}
+use Rattle.outside_files.specs.Printed.{Printed, PrintsLine}
 use Rattle.outside_files.specs.Uses.{IsWell, reading, writing}
 use Rattle.outside_routes.specs.RouteFaults.{BoundFailed}
 use Rattle.outside_routes.specs.Way.{Way, OnFile, OnLink}
 use Rattle.packet_verdicts.specs.KeptSet.{KeptSet, kept_in_all}
 use Rattle.packet_verdicts.specs.Verdicts.{after_all}
-use Rattle.pet_base.specs.Causes.{Rose, one_more}
+use Rattle.pet_base.specs.Causes.{Rose}
 use Rattle.pet_base.specs.declared.limits.TheConstants.{MAX_DATAGRAMS}
 use Rattle.pet_base.specs.OutsideSeen.{OutsideSeen}
 use Rattle.pet_base.specs.Seen.{Blame, Files, with_file}
 use Rattle.pet_receive.specs.ShownBytes.{IsComplete, shown_in_all}
 use Rattle.pet_text.specs.Ends.{way_in}
+use Rattle.pet_text.specs.Told.{PrintedShortBy, TellsBy}
 use Rattle.pet_text.specs.Lines.{receive_text}
 use Rattle.pet_text.specs.declared.keep_words.KeepWords.{KeepWords}
 use Rattle.store_text.specs.Store.{store_text}
 use Rattle.pet_keep.specs.Journaled.{DiskNow, journal_in}
 use Rattle.pet_keep.specs.Keeps.{Keeps}
-use Rattle.pet_keep.specs.Statuses.{fault_text, line_of, status_of}
+use Rattle.pet_keep.specs.Statuses.{failures_of, fault_text, line_of, status_of}
 use Rattle.pet_keep.specs.declared.end.KeepEnd.{KeepEnd}
 use Rattle.pet_keep.specs.declared.status.KeepStatus.{KeepStatus}
-use Rattle.pet_keep.specs.declared.status.KeepStatus.TheVariants.{Done, Usage, NoMemory, PlaceFault, LinkFault}
-use Rattle.pet_keep.specs.declared.status.KeepStatus.TheVariants.{OutFault, OtherSession, Incomplete, TurnsSpent}
-use Rattle.pet_keep.specs.declared.status.KeepStatus.TheVariants.{DiskFault, BadJournal}
-
--- nothing but printing was done
-pub record OnlyTells (before after : OutsideSeen) : Type 0 where
-  pub place : after.place ≡ before.place
-  pub link : after.link ≡ before.link
-  pub steps : after.steps ≡ before.steps
-
--- the whole line was printed, and the status is that of the end
-pub record PrintedWhole (line : List ℕ) (of_end : KeepStatus) (before after : OutsideSeen)
-    (status : KeepStatus) : Type 0 where
-  pub ended : status ≡ of_end
-  pub printed : Printed line before after
-  pub faults : after.out_faults ≡ before.out_faults
+use Rattle.pet_keep.specs.declared.status.KeepStatus.TheVariants.{Done, Usage, NoMemory, OutFault, Incomplete}
 
 -- there was a line, a front of it was printed, and the status is OutFault
-pub record PrintedShort (line : List ℕ) (before after : OutsideSeen) (status : KeepStatus) : Type 0 where
-  pub ended : status ≡ OutFault
-  pub some : line ≢ []
-  pub front : PrintedFront line before after
-  pub faults : after.out_faults ≡ one_more before.out_faults
+abbrev pub PrintedShort : List ℕ → OutsideSeen → OutsideSeen → KeepStatus → Type 0
+PrintedShort line before after status = PrintedShortBy OutFault line before after status
 
 -- the line of the end, and then that of the status
-pub record Tells (text : List ℕ) (of_end : KeepStatus) (before after : OutsideSeen) (status : KeepStatus) : Type 0 where
-  pub lined : OutsideSeen
-  pub only : OnlyTells before lined
-  pub line : PrintedWhole text of_end before lined status ⊎ PrintedShort text before lined status
-  pub fault : PrintsLine (fault_text status) lined after
+abbrev pub Tells : List ℕ → KeepStatus → OutsideSeen → OutsideSeen → KeepStatus → Type 0
+Tells text of_end before after status = TellsBy fault_text OutFault text of_end before after status
 
 -- which statuses tell of a failure of the place, and which of one of the link
 abbrev pub of_place : KeepStatus → Bool
-of_place Done = false
-of_place Usage = false
-of_place NoMemory = false
-of_place PlaceFault = true
-of_place LinkFault = false
-of_place OutFault = false
-of_place OtherSession = false
-of_place Incomplete = false
-of_place TurnsSpent = false
-of_place DiskFault = false
-of_place (BadJournal at) = false
+of_place status = (failures_of status).0
 
 abbrev pub of_link : KeepStatus → Bool
-of_link Done = false
-of_link Usage = false
-of_link NoMemory = false
-of_link PlaceFault = false
-of_link LinkFault = true
-of_link OutFault = false
-of_link OtherSession = false
-of_link Incomplete = false
-of_link TurnsSpent = false
-of_link DiskFault = false
-of_link (BadJournal at) = false
+of_link status = (failures_of status).1
 
 -- `keep` did what it does at one of its ends, and then told of that end. The first failure of the place or of the link
 -- ended it, and

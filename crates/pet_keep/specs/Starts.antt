@@ -1,10 +1,10 @@
 -- What the program `pet-keep` does of its words, over the machine's files and network and over a writer. This project's
 -- own.
-use Rattle.std.specs.Prelude.{ℕ, ◌≡◌, ◌⊎◌, List, [], ◌∷◌, Option, take}
-use Rattle.std.specs.Io.KnownBytes.{append_known}
+use Rattle.std.specs.Prelude.{ℕ, ◌≡◌, ◌⊎◌, List, [], ◌∷◌, Option}
 use Rattle.outside_disk.specs.Disk.{Untold}
 use Rattle.pet_base.specs.OutsideSeen.{OutsideSeen}
-use Rattle.pet_ends.specs.Untold.{nothing_open, untold, never_bound, untold_link}
+use Rattle.pet_ends.specs.Untold.{at_start}
+use Rattle.pet_text.specs.Told.{FindsNoMemoryBy}
 use Rattle.pet_text.specs.KeepWords.{keep_words_of}
 use Rattle.pet_keep.specs.Journaled.{DiskNow}
 use Rattle.pet_keep.specs.Runs.{DoesKeep}
@@ -16,17 +16,6 @@ use Rattle.pet_keep.specs.declared.status.KeepStatus.TheVariants.{NoMemory}
 abbrev pub journal_word : List (List ℕ) → List ℕ
 journal_word (from ∷ session ∷ journal ∷ more) = journal
 journal_word _ = []
-
--- Nothing is open and nothing failed; what the files and the network have is not told. Of the output is told what its
--- writer tells.
-abbrev pub at_start : Option (List ℕ) → OutsideSeen
-at_start held = record {
-  place = untold nothing_open;
-  link = untold_link never_bound;
-  written = held;
-  out_faults = 0;
-  steps = 0;
-}
 
 -- A disk of which nothing is told but how often it failed.
 abbrev pub untold_disk : ℕ → DiskNow
@@ -40,10 +29,8 @@ pub record StartsKeep (words : List (List ℕ)) (old new : Option (List ℕ)) (s
   pub does : DoesKeep (keep_words_of words) (at_start old) after (untold_disk 0) (untold_disk faults) status
 
 -- No memory was found for the words: the line of that was printed, or a front of it.
-pub record FindsNoMemory (old new : Option (List ℕ)) (status : KeepStatus) : Type 0 where
-  pub ended : status ≡ NoMemory
-  pub count : ℕ
-  pub printed : new ≡ append_known old (take count (fault_text NoMemory))
+abbrev pub FindsNoMemory : Option (List ℕ) → Option (List ℕ) → KeepStatus → Type 0
+FindsNoMemory old new status = FindsNoMemoryBy fault_text NoMemory old new status
 
 -- some words were run, as the machine gave them, or no memory was found for them
 abbrev pub StartsWords : Option (List ℕ) → Option (List ℕ) → KeepStatus → Type 0

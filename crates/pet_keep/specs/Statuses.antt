@@ -1,5 +1,5 @@
 -- The statuses of `keep`, their numbers and lines, and those of each end. This project's own.
-use Rattle.std.specs.Prelude.{ℕ, List, [], ◌++◌, codes, decimal}
+use Rattle.std.specs.Prelude.{ℕ, Bool, true, false, List, [], ◌++◌, codes, decimal}
 use Rattle.packet_reading.specs.declared.reading.Totals.{Totals}
 use Rattle.pet_text.specs.Lines.{receive_text}
 use Rattle.pet_keep.specs.declared.end.KeepEnd.{KeepEnd}
@@ -66,3 +66,17 @@ line_of (end.Incomplete totals) = totals_text totals
 line_of (end.TurnsSpent totals) = totals_text totals
 line_of end.DiskFault = []
 line_of (end.BadJournal at) = []
+
+-- which failures a status tells of: one of the place, one of the link, one of the output
+abbrev pub failures_of : KeepStatus → Bool × Bool × Bool
+failures_of Done = (false, false, false)
+failures_of Usage = (false, false, false)
+failures_of NoMemory = (false, false, false)
+failures_of PlaceFault = (true, false, false)
+failures_of LinkFault = (false, true, false)
+failures_of OutFault = (false, false, true)
+failures_of OtherSession = (false, false, false)
+failures_of Incomplete = (false, false, false)
+failures_of TurnsSpent = (false, false, false)
+failures_of DiskFault = (false, false, false)
+failures_of (BadJournal at) = (false, false, false)

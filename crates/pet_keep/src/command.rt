@@ -1,14 +1,13 @@
 //! The top call.
-ghost use Rattle.std.specs.Prelude.{◌≡◌, ◌≢◌, ◌⊎◌, ◌↔◌, ◌<◌, [], None, OnOk, OnErr};
-ghost use Rattle.pet_base.specs.Causes.{one_more};
+ghost use Rattle.std.specs.Prelude.{◌≡◌, ◌≢◌, ◌⊎◌, ◌↔◌, ◌<◌, None};
 ghost use Rattle.pet_base.specs.Lent.{seen, AreSame};
 ghost use Rattle.pet_base.specs.OutsideSeen.{OutsideSeen, outside_seen};
-ghost use Rattle.outside_files.specs.Printed.{Printed, PrintedFront, PrintsLine};
 ghost use Rattle.pet_text.specs.KeepWords.{keep_words_of};
 ghost use Rattle.pet_text.specs.Words.{texts_of};
 ghost use Rattle.pet_keep.specs.Journaled.{disk_now, uncounted};
-ghost use Rattle.pet_keep.specs.Runs.{CompletesKeep, DoesKeep, OnlyTells, PrintedShort, PrintedWhole, Tells};
-ghost use Rattle.pet_keep.specs.Statuses.{fault_text, line_of, status_of};
+ghost use Rattle.pet_text.specs.Told.{OnlyTells, PrintedWhole};
+ghost use Rattle.pet_keep.specs.Runs.{CompletesKeep, DoesKeep, PrintedShort, Tells};
+ghost use Rattle.pet_keep.specs.Statuses.{line_of, status_of};
 ghost use Rattle.pet_keep.specs.declared.status.KeepStatus.{KeepStatus as Status};
 
 use crate::end::{KeepEnd, end_line, end_status};
@@ -16,8 +15,8 @@ use crate::opened::keep_opened;
 use crate::status::{KeepStatus, fault_line};
 use arrayvec::ArrayVec;
 use outside_disk::Disk;
-use pet_base::{Failed, Link, Outside, Place, Sink, Steps};
-use pet_text::{WordsFault, read_keep_words};
+use pet_base::{Link, Outside, Place, Sink, Steps};
+use pet_text::{WordsFault, put_line, read_keep_words};
 use std::alloc::Global;
 use std::marker::Brand;
 use std::sync::ledger::{Blank, Ledger};
@@ -94,7 +93,11 @@ fn keep_words<D: Disk, P: Place, K: Link, S: Sink, L: Ledger>(
 {
     let (end, disk) = end_of_words(alloc, words, disk, outside);
     let status = tell_end(&end, outside);
-    (tell(status, outside), disk)
+    let mut line: ArrayVec<u8, 64> = ArrayVec::new();
+    fault_line(&status, &mut line);
+    // the line is the last thing that is printed, and a status stays what it is where its line cannot be
+    let _ = put_line(line.as_slice(), outside);
+    (status, disk)
 }
 
 /// Reads the words, and runs `keep`. Nothing is printed yet of its end.
@@ -146,39 +149,4 @@ fn tell_end<P: Place, K: Link, S: Sink, L: Ledger>(
         Ok(()) => end_status(end),
         Err(_) => KeepStatus::OutFault,
     }
-}
-
-/// Prints the line that tells of the status, where it has one. A failure of the output does not change the status.
-fn tell<P: Place, K: Link, S: Sink, L: Ledger>(
-    status: KeepStatus,
-    outside: &mut Outside<P, K, S, L>,
-) -> KeepStatus
-    ensures status { result ≡ status }
-    ensures prints { PrintsLine (fault_text status) (seen outside.old) (seen outside.new) }
-    ensures same { AreSame outside.old outside.new }
-{
-    let mut line: ArrayVec<u8, 64> = ArrayVec::new();
-    fault_line(&status, &mut line);
-    // the line is the last thing that is printed, and a status stays what it is where its line cannot be
-    let _ = put_line(line.as_slice(), outside);
-    status
-}
-
-/// Prints a line, where it is not empty.
-fn put_line<P: Place, K: Link, S: Sink, L: Ledger>(
-    line: &[u8],
-    outside: &mut Outside<P, K, S, L>,
-) -> Result<(), Failed>
-    ensures prints { PrintsLine line.now (seen outside.old) (seen outside.new) }
-    ensures whole { OnOk result (Printed line.now (seen outside.old) (seen outside.new)) }
-    ensures calm { OnOk result ((seen outside.new).out_faults ≡ (seen outside.old).out_faults) }
-    ensures front { OnErr result (PrintedFront line.now (seen outside.old) (seen outside.new)) }
-    ensures once { OnErr result ((seen outside.new).out_faults ≡ one_more (seen outside.old).out_faults) }
-    ensures some { OnErr result (line.now ≢ []) }
-    ensures same { AreSame outside.old outside.new }
-{
-    if line.is_empty() {
-        return Ok(());
-    }
-    outside.out.put(line)
 }

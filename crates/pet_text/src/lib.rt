@@ -11,6 +11,7 @@ mod keep_words;
 mod name;
 mod numbers;
 mod session;
+mod told;
 mod words;
 
 pub use end::End;
@@ -32,4 +33,5 @@ pub use text_world::{
     sample_arrivals_line, sample_layer_line, sample_packets_line, sample_session_line,
     sample_store_line, sample_stream_line, sample_video_line, shown_line, store_line,
 };
+pub use told::put_line;
 pub use words::{Command, WordsFault, read_words};

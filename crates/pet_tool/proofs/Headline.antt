@@ -6,8 +6,6 @@ use Rattle.pet_base.specs.Entries.{datagrams}
 use Rattle.pet_base.specs.OutsideSeen.{OutsideSeen}
 use Rattle.pet_base.specs.LinkSeen.{LinkSeen}
 use Rattle.pet_base.specs.Seen.{Files, Seen}
-use Rattle.outside_files.specs.Uses.{Failed}
-use Rattle.outside_files.specs.laws.PrintedLaws.{Rose-before, Rose-since}
 use Rattle.packet_session.specs.Session.{IsSession, Session}
 use Rattle.packet_session.specs.Datagrams.{datagrams_text, IsItsDatagram}
 use Rattle.packet_session.specs.laws.SentLaws.{sent_are_packets}
@@ -18,7 +16,6 @@ use Rattle.command_receive.specs.declared.command.ReceiveEnd.TheVariants as rece
 use Rattle.command_receive.specs.NamedLayers.{NamesStored, NamesWhatItStores as EndNames}
 use Rattle.command_receive.specs.laws.NamedLaws.{names_what_it_stores}
 use Rattle.command_receive.specs.Opened.{IsBoundTo}
-use Rattle.command_receive.specs.Receives.{uses_of}
 use Rattle.command_receive.specs.ReceivesSession.{HasPacketsOf, ReceivesSession, session_totals}
 use Rattle.packet_reading.specs.declared.reading.Totals.{Totals}
 use Rattle.command_receive.specs.laws.SessionReceived.{completes_receive}
@@ -30,7 +27,7 @@ use Rattle.outside_routes.specs.Way.{Way}
 use Rattle.text_status.specs.Statuses.{fault_text}
 use Rattle.pet_tool.specs.Commands.Routes.{line_of_receive, totals_text, status_of_receive, RunsReceive}
 use Rattle.pet_tool.proofs.LinesTold.{ends_with, lines_told}
-use Rattle.pet_tool.proofs.Telling.{ended_as, told}
+use Rattle.pet_tool.proofs.Telling.{told_since, well_before, ended_as}
 use Rattle.pet_tool.specs.Headline.{Headline, HasWhatWasSent, NamesWhatItStores, ReceivesWhatWasSent, session_numbers}
 
 -- the status and the line of the end, by whether all layers are shown
@@ -60,19 +57,12 @@ pub headline : (from : Way) (session layers store : List ℕ) (before after : Ou
     → RunsReceive from session layers store before after status
     → Headline from session layers store before after status
 headline from session layers store before after status runs = λ s files ds is calm given.
-    let said = told (line_of_receive runs.end) (status_of_receive runs.end) runs.between after status runs.tells
-    (λ rose. calm.calm.well.out (Rose-since before.out_faults runs.between.out_faults after.out_faults
-    runs.did.later rose)) in
+    let said = told_since before runs.did.later calm.calm.well.out runs.tells in
     let all = all_shown s (met_in s.number ds) in
     let done = completes_receive from session layers store before runs.between runs.end runs.did s files ds is
     (record {
       memory = λ none. calm.calm.memory (said.ended ∙ ap status_of_receive none);
-      well = record {
-        place = λ had. calm.calm.well.place
-            (subst (λ (now : Seen). Failed (uses_of from layers store) before.place now) (sym said.place) had);
-        out = λ rose. calm.calm.well.out
-            (Rose-before before.out_faults runs.between.out_faults after.out_faults said.later rose);
-      };
+      well = well_before said calm.calm.well;
       link = λ failed. calm.link (subst (λ (l : LinkSeen). BoundFailed from before.link l) (sym said.link) failed);
       given = given;
     }) in
@@ -120,6 +110,11 @@ still_stored session layers store before between after same named = record {
   named = named.named;
 }
 
+either : {A B C P : Type 0} → (A → P) → (B → P) → (C → P) → A ⊎ B ⊎ C → P
+either a b c (inl x) = a x
+either a b c (inr (inl x)) = b x
+either a b c (inr (inr x)) = c x
+
 stored_at : (session layers store : List ℕ) (before between : OutsideSeen) (end : ReceiveEnd)
     → EndNames session layers store before between end
     → (status_of_receive end ≡ Done) ⊎ (status_of_receive end ≡ Incomplete) ⊎ (status_of_receive end ≡ TurnsSpent)
@@ -127,18 +122,14 @@ stored_at : (session layers store : List ℕ) (before between : OutsideSeen) (en
 stored_at session layers store before between (receive.Done totals) named is = named
 stored_at session layers store before between (receive.Incomplete totals) named is = named
 stored_at session layers store before between (receive.TurnsSpent totals) named is = named
-stored_at session layers store before between receive.NoMemory named (inl is) = absurd (cc)
-stored_at session layers store before between receive.NoMemory named (inr (inl is)) = absurd (cc)
-stored_at session layers store before between receive.NoMemory named (inr (inr is)) = absurd (cc)
-stored_at session layers store before between receive.PlaceFault named (inl is) = absurd (cc)
-stored_at session layers store before between receive.PlaceFault named (inr (inl is)) = absurd (cc)
-stored_at session layers store before between receive.PlaceFault named (inr (inr is)) = absurd (cc)
-stored_at session layers store before between receive.LinkFault named (inl is) = absurd (cc)
-stored_at session layers store before between receive.LinkFault named (inr (inl is)) = absurd (cc)
-stored_at session layers store before between receive.LinkFault named (inr (inr is)) = absurd (cc)
-stored_at session layers store before between receive.OutFault named (inl is) = absurd (cc)
-stored_at session layers store before between receive.OutFault named (inr (inl is)) = absurd (cc)
-stored_at session layers store before between receive.OutFault named (inr (inr is)) = absurd (cc)
+stored_at session layers store before between receive.NoMemory named is =
+    either (λ done. absurd (cc)) (λ part. absurd (cc)) (λ spent. absurd (cc)) is
+stored_at session layers store before between receive.PlaceFault named is =
+    either (λ done. absurd (cc)) (λ part. absurd (cc)) (λ spent. absurd (cc)) is
+stored_at session layers store before between receive.LinkFault named is =
+    either (λ done. absurd (cc)) (λ part. absurd (cc)) (λ spent. absurd (cc)) is
+stored_at session layers store before between receive.OutFault named is =
+    either (λ done. absurd (cc)) (λ part. absurd (cc)) (λ spent. absurd (cc)) is
 
 -- a status that comes once both files are written is no fault of the output
 no_fault : (status : Status) → (status ≡ Done) ⊎ (status ≡ Incomplete) ⊎ (status ≡ TurnsSpent) → status ≢ OutFault

@@ -3,6 +3,7 @@ use Rattle.std.proofs.Common.{◌≡◌, List, ℕ, ◌++◌, Option, sym, ap, a
 use Rattle.std.specs.Io.KnownBytes.{append_known}
 use Rattle.pet_base.specs.LinkSeen.{LinkSeen}
 use Rattle.pet_base.specs.OutsideSeen.{OutsideSeen}
+use Rattle.pet_base.specs.Seen.{Files, Seen}
 use Rattle.outside_routes.specs.Way.{Way}
 use Rattle.packet_reading.specs.Layers.{port_line}
 use Rattle.packet_reading.specs.Opened.{PrintedPort}
@@ -39,3 +40,13 @@ ended_with before between after status of_end wanted line lines written said end
     ends_with wanted status lines before after (said.ended ∙ ended)
     (said.printed ∙ ap (λ (o : Option (List ℕ)). append_known o (line ++ fault_text status)) written
     ∙ ap (λ (l : List ℕ). append_known before.written (l ++ fault_text status)) is)
+
+-- and what files it left
+pub file_left : {before between after : OutsideSeen} {status of_end wanted : Status} {line lines : List ℕ}
+    {files : Option Files} → between.written ≡ before.written → Told line of_end between after status
+    → between.place.files ≡ files → of_end ≡ wanted → line ≡ lines
+    → (after.place.files ≡ files) × EndsWith wanted lines before after status
+file_left {before} {between} {after} {status} {of_end} {wanted} {line} {lines} written said file ended is = (
+  ap (λ (now : Seen). now.files) said.place ∙ file,
+  ended_with before between after status of_end wanted line lines written said ended is,
+)

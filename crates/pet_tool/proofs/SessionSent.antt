@@ -1,14 +1,12 @@
 -- What a command that sends a session completes follows from what it does, in any format and coding.
 use Rattle.std.proofs.Common.{None, [], ◌∷◌, ◌≡◌, ℕ, ◌++◌, List, length, Option, sym, ap, subst, ◌∙◌}
 use Rattle.std.specs.Io.KnownBytes.{append_known}
-use Rattle.pet_base.specs.Causes.{Rose}
 use Rattle.pet_base.specs.LinkSeen.{LinkSeen}
 use Rattle.pet_base.specs.OutsideSeen.{OutsideSeen}
 use Rattle.pet_base.specs.Seen.{Seen}
 use Rattle.pet_base.specs.declared.limits.TheConstants.{MAX_SESSION}
 use Rattle.field_elements.specs.Field.{Coding}
 use Rattle.packet_frame.specs.declared.format.Format.{Format}
-use Rattle.outside_files.specs.Uses.{Failed}
 use Rattle.outside_files.specs.Wrote.{Wrote}
 use Rattle.outside_routes.specs.RouteFaults.{AimedFailed}
 use Rattle.outside_routes.specs.Sending.{Sent}
@@ -28,7 +26,7 @@ use Rattle.pet_tool.specs.Commands.Streams.{line_of_send, status_of_send}
 use Rattle.pet_tool.specs.Told.{Tells}
 use Rattle.pet_tool.specs.Undisturbed.{IsUndisturbedOn, EndsWith}
 use Rattle.pet_tool.proofs.LinesTold.{ends_with}
-use Rattle.pet_tool.proofs.Telling.{told}
+use Rattle.pet_tool.proofs.Telling.{told_calm, place_calm}
 
 -- the line of what was sent
 sent_text : (p b : List ℕ) (sent : SentNumbers) → IsSentOf p b sent
@@ -57,12 +55,10 @@ module _ {E : Type 0} (t : Format) (c : Coding E) where
       → IsGivenIn t MAX_SESSION before.place stream priority p b
       → SendsAllIn t c to p b before after × EndsWith Done (sent_line_text p b) before after status
   session_completes stream priority to before after status between end did tells p b calm given =
-      let said = told (line_of_send end) (status_of_send end) between after status tells
-      (λ rose. calm.calm.well.out (subst (λ (n : ℕ). Rose n after.out_faults) did.out_faults rose)) in
+      let said = told_calm before did.out_faults calm.calm.well.out tells in
       let sent = sends_session_in t c stream priority to before between end did p b (record {
         memory = λ none. calm.calm.memory (said.ended ∙ ap status_of_send none);
-        well = λ had. calm.calm.well.place
-            (subst (λ (now : Seen). Failed (uses stream priority to) before.place now) (sym said.place) had);
+        well = place_calm said calm.calm.well;
         link = λ had. calm.link (subst (λ (l : LinkSeen). AimedFailed to before.link l) (sym said.link) had);
         given = given;
       }) in (

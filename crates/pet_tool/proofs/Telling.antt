@@ -1,75 +1,52 @@
 -- What was printed of an end, and that it changes nothing else.
-use Rattle.std.proofs.Common.{◌≡◌, ◌≢◌, ◌⊎◌, ◌↔◌, ℕ, Bool, false, List, [], ◌++◌, Option, refl, sym, ap, subst, ◌∙◌}
-use Rattle.std.proofs.Common.{arith, inl, inr, ◌≤◌}
-use Rattle.std.specs.Io.KnownBytes.{append_known}
+use Rattle.std.proofs.Common.{◌≡◌, ◌≢◌, ◌⊎◌, ◌↔◌, ℕ, List, [], sym, subst, ◌∙◌}
+use Rattle.std.proofs.Common.{inl, inr, ◌≤◌}
 use Rattle.pet_base.specs.Causes.{Rose}
 use Rattle.pet_base.specs.OutsideSeen.{OutsideSeen}
-use Rattle.pet_base.specs.Seen.{Seen, PlaceStops}
-use Rattle.pet_base.specs.LinkSeen.{LinkSeen, LinkStops}
-use Rattle.outside_files.specs.Failures.{EndsAtOnce}
+use Rattle.pet_base.specs.Seen.{Blame, Seen}
 use Rattle.outside_files.specs.Printed.{PrintsLine}
-use Rattle.outside_files.specs.laws.PrintedLaws.{append_known-twice, append_known-nil}
+use Rattle.outside_files.specs.Uses.{Failed, IsWell}
+use Rattle.outside_files.specs.laws.PrintedLaws.{Rose-before, Rose-since}
 use Rattle.text_status.specs.declared.status.Status.{Status}
 use Rattle.text_status.specs.declared.status.Status.TheVariants.{OutFault, Usage}
 use Rattle.text_status.specs.Statuses.{fault_text}
 use Rattle.pet_tool.specs.declared.commands.End.{End}
 use Rattle.pet_tool.specs.declared.commands.End.TheVariants as end
 use Rattle.pet_tool.specs.Commands.{line_of, status_of}
-use Rattle.pet_tool.specs.Runs.{Refuses, Strikes}
-use Rattle.pet_tool.specs.Statuses.{of_place, of_link}
-use Rattle.pet_tool.specs.Told.{PrintedWhole, PrintedShort, Tells}
-
-same_seen : (a b : OutsideSeen) → b.place ≡ a.place → b.link ≡ a.link → b.written ≡ a.written
-    → b.out_faults ≡ a.out_faults → b.steps ≡ a.steps → b ≡ a
-same_seen a b place link written faults steps = λ i. record {
-  place = place i;
-  link = link i;
-  written = written i;
-  out_faults = faults i;
-  steps = steps i;
-}
-
--- where the end has no line, the line of the status is all that was printed
-pub silent : (of_end : Status) (between after : OutsideSeen) (status : Status) → Tells [] of_end between after status
-    → (status ≡ of_end) × PrintsLine (fault_text status) between after
-silent of_end between after status tells = by tells.line
-  where
-    by : PrintedWhole [] of_end between tells.lined status ⊎ PrintedShort [] between tells.lined status
-        → (status ≡ of_end) × PrintsLine (fault_text status) between after
-    by (inl whole) =
-        let o = tells.only in
-        let same = same_seen between tells.lined o.place o.link
-        (whole.printed ∙ append_known-nil between.written) whole.faults o.steps in
-        (whole.ended, subst (λ (s : OutsideSeen). PrintsLine (fault_text status) s after) same tells.fault)
-    by (inr short) = absurd (short.some refl)
+use Rattle.pet_tool.specs.Runs.{Refuses}
+use Rattle.pet_text.specs.Told.{PrintedWhole}
+use Rattle.pet_text.specs.laws.ToldLaws.{ToldBy, told, silent, unlined}
+use Rattle.pet_tool.specs.Told.{PrintedShort, Tells}
 
 -- what was told of an end, where the output had no fault
-pub record Told (line : List ℕ) (of_end : Status) (between after : OutsideSeen) (status : Status) : Type 0 where
-  pub ended : status ≡ of_end
-  pub printed : after.written ≡ append_known between.written (line ++ fault_text status)
-  pub place : after.place ≡ between.place
-  pub link : after.link ≡ between.link
-  pub later : between.out_faults ≤ after.out_faults
+abbrev pub Told : List ℕ → Status → OutsideSeen → OutsideSeen → Status → Type 0
+Told line of_end between after status = ToldBy fault_text line of_end between after status
 
-pub told : (line : List ℕ) (of_end : Status) (between after : OutsideSeen) (status : Status)
-    → Tells line of_end between after status → (Rose between.out_faults after.out_faults → ⊥)
-    → Told line of_end between after status
-told line of_end between after status tells well = by tells.line
-  where
-    by : PrintedWhole line of_end between tells.lined status ⊎ PrintedShort line between tells.lined status
-        → Told line of_end between after status
-    by (inl whole) = record {
-      ended = whole.ended;
-      printed =
-          tells.fault.whole (λ rose. well (subst (λ (n : ℕ). Rose n after.out_faults) whole.faults rose))
-          ∙ ap (λ (o : Option (List ℕ)). append_known o (fault_text status)) whole.printed
-          ∙ append_known-twice between.written line (fault_text status);
-      place = tells.fault.place ∙ tells.only.place;
-      link = tells.fault.link ∙ tells.only.link;
-      later = let same = whole.faults in let later = tells.fault.later in omega (arith, same, later);
-    }
-    by (inr short) =
-        let rose = short.front.rose in let later = tells.fault.later in absurd (well (omega (arith, rose, later)))
+-- so it is told of a command that printed nothing itself, or a line
+pub told_calm : {line : List ℕ} {of_end status : Status} {between after : OutsideSeen} (before : OutsideSeen)
+    → between.out_faults ≡ before.out_faults → (Rose before.out_faults after.out_faults → ⊥)
+    → Tells line of_end between after status → Told line of_end between after status
+told_calm {line} {of_end} {status} {between} {after} before same well tells =
+    told fault_text OutFault line of_end between after status tells (λ rose. well (subst (λ (n : ℕ). Rose n after.out_faults) same rose))
+
+pub told_since : {line : List ℕ} {of_end status : Status} {between after : OutsideSeen} (before : OutsideSeen)
+    → before.out_faults ≤ between.out_faults → (Rose before.out_faults after.out_faults → ⊥)
+    → Tells line of_end between after status → Told line of_end between after status
+told_since {line} {of_end} {status} {between} {after} before later well tells =
+    told fault_text OutFault line of_end between after status tells
+    (λ rose. well (Rose-since before.out_faults between.out_faults after.out_faults later rose))
+
+-- and what was well to the end was so before the lines were printed
+module _ {line : List ℕ} {of_end status : Status} {before between after : OutsideSeen} {uses : List Blame}
+    (said : Told line of_end between after status) (well : IsWell uses before after) where
+  pub place_calm : Failed uses before.place between.place → ⊥
+  place_calm had = well.place (subst (λ (now : Seen). Failed uses before.place now) (sym said.place) had)
+
+  pub well_before : IsWell uses before between
+  well_before = record {
+    place = place_calm;
+    out = λ rose. well.out (Rose-before before.out_faults between.out_faults after.out_faults said.later rose);
+  }
 
 -- a status that is no fault of the output is that of the end; the place is as before the lines
 pub ended_as : (line : List ℕ) (of_end : Status) (between after : OutsideSeen) (status : Status)
@@ -83,52 +60,19 @@ ended_as line of_end between after status tells well =
     by (inl whole) = whole.ended
     by (inr short) = absurd (well short.ended)
 
--- the first failure ended the run, by what the end tells: an end that has a line tells of none
-pub strikes : (line : List ℕ) (of_end : Status) (before between after : OutsideSeen) (status : Status)
-    → Tells line of_end between after status
-    → (line ≢ [] → (of_place of_end ≡ false) × (of_link of_end ≡ false))
-    → EndsAtOnce (of_place of_end) (of_link of_end) before between → Strikes before after status
-strikes line of_end before between after status tells lined once = by tells.line
-  where
-    place : after.place ≡ between.place
-    place = tells.fault.place ∙ tells.only.place
-
-    link : after.link ≡ between.link
-    link = tells.fault.link ∙ tells.only.link
-
-    moved : (p k : Bool) → EndsAtOnce p k before between → EndsAtOnce p k before after
-    moved p k ends = record {
-      place = subst (λ (s : Seen). PlaceStops p before.place s) (sym place) ends.place;
-      link = subst (λ (l : LinkSeen). LinkStops k before.link l) (sym link) ends.link;
-    }
-
-    by : PrintedWhole line of_end between tells.lined status ⊎ PrintedShort line between tells.lined status
-        → Strikes before after status
-    by (inl whole) =
-        subst (λ (s : Status). Strikes before after s) (sym whole.ended) (moved (of_place of_end) (of_link of_end) once)
-    by (inr short) =
-        let none = lined short.some in
-        subst (λ (s : Status). Strikes before after s) (sym short.ended)
-        (moved false false (subst (λ (p : Bool). EndsAtOnce p false before between) none.0
-        (subst (λ (k : Bool). EndsAtOnce (of_place of_end) k before between) none.1 once)))
-
 -- only words of no form end as usage
 pub usage_told : (e : End) (status : Status) (before after : OutsideSeen)
     → PrintedWhole (line_of e) (status_of e) before after status ⊎ PrintedShort (line_of e) before after status
     → (status ≡ Usage → e ≡ end.Usage) → (status ≡ Usage) ↔ (e ≡ end.Usage)
 usage_told e status before after line known = (
   known,
-  λ is. from (subst (λ (e : End). PrintedWhole (line_of e) (status_of e) before after status
+  λ is. unlined (subst (λ (e : End). PrintedWhole (line_of e) (status_of e) before after status
       ⊎ PrintedShort (line_of e) before after status) is line),
 )
-  where
-    from : PrintedWhole [] Usage before after status ⊎ PrintedShort [] before after status → status ≡ Usage
-    from (inl whole) = whole.ended
-    from (inr short) = absurd (short.some refl)
 
 -- and then nothing but the line of usage is printed
 pub refuses : (before after : OutsideSeen) (status : Status) → Tells [] Usage before after status
     → Refuses before after status
 refuses before after status tells =
-    let said = silent Usage before after status tells in
+    let said = silent fault_text OutFault Usage before after status tells in
     record { ended = said.0; line = subst (λ (s : Status). PrintsLine (fault_text s) before after) said.0 said.1 }

@@ -1,24 +1,13 @@
 -- What the program does of its words, over the machine's files and network and over a writer. This project's own.
-use Rattle.std.specs.Prelude.{◌≡◌, ◌⊎◌, ℕ, List, Option, take}
-use Rattle.std.specs.Io.KnownBytes.{append_known}
+use Rattle.std.specs.Prelude.{◌≡◌, ◌⊎◌, ℕ, List, Option}
 use Rattle.pet_base.specs.OutsideSeen.{OutsideSeen}
-use Rattle.pet_ends.specs.Untold.{nothing_open, untold, never_bound, untold_link}
+use Rattle.pet_ends.specs.Untold.{at_start}
+use Rattle.pet_text.specs.Told.{FindsNoMemoryBy}
 use Rattle.pet_text.specs.Words.{command_of}
 use Rattle.text_status.specs.Statuses.{fault_text}
 use Rattle.text_status.specs.declared.status.Status.{Status}
 use Rattle.text_status.specs.declared.status.Status.TheVariants.{NoMemory}
 use Rattle.pet_tool.specs.Commands.{Does, Completes}
-
--- Nothing is open, nothing failed and nothing is counted; what the files and the network have is not told. Of the
--- output is told what its writer tells.
-abbrev pub at_start : Option (List ℕ) → OutsideSeen
-at_start held = record {
-  place = untold nothing_open;
-  link = untold_link never_bound;
-  written = held;
-  out_faults = 0;
-  steps = 0;
-}
 
 -- The command of the words was run, and the writer holds what was printed of it.
 pub record Starts (words : List (List ℕ)) (old new : Option (List ℕ)) (status : Status) : Type 0 where
@@ -28,10 +17,8 @@ pub record Starts (words : List (List ℕ)) (old new : Option (List ℕ)) (statu
   pub completes : Completes (command_of words) (at_start old) after status
 
 -- No memory was found for the words: the line of that was printed, or a front of it.
-pub record FindsNoMemory (old new : Option (List ℕ)) (status : Status) : Type 0 where
-  pub ended : status ≡ NoMemory
-  pub count : ℕ
-  pub printed : new ≡ append_known old (take count (fault_text NoMemory))
+abbrev pub FindsNoMemory : Option (List ℕ) → Option (List ℕ) → Status → Type 0
+FindsNoMemory old new status = FindsNoMemoryBy fault_text NoMemory old new status
 
 -- some words were run, as the machine gave them, or no memory was found for them
 abbrev pub StartsWords : Option (List ℕ) → Option (List ℕ) → Status → Type 0

@@ -21,53 +21,34 @@ status_of_session (session.TooWide group) = BadPlan kind.TooWide group
 status_of_session (session.TooLarge group) = BadPlan kind.TooLarge group
 status_of_session session.NoMemory = NoMemory
 
--- which statuses tell of a failure of the place, and which of one of the link
+-- which failures a status tells of: one of the place, and one of the link
+abbrev pub failures_of : Status → Bool × Bool
+failures_of Done = (false, false)
+failures_of Usage = (false, false)
+failures_of NoMemory = (false, false)
+failures_of PlaceFault = (true, false)
+failures_of LinkFault = (false, true)
+failures_of OutFault = (false, false)
+failures_of (BadStream fault) = (false, false)
+failures_of (BadPriority fault) = (false, false)
+failures_of (BadPlan kind number) = (false, false)
+failures_of (BadStore which at kind) = (false, false)
+failures_of OtherSession = (false, false)
+failures_of (Clash group number) = (false, false)
+failures_of Incomplete = (false, false)
+failures_of TurnsSpent = (false, false)
+failures_of (BadTable group) = (false, false)
+failures_of (NotLeast group) = (false, false)
+failures_of (Changed group first second) = (false, false)
+failures_of (Full group) = (false, false)
+failures_of (BadSystem fault) = (false, false)
+failures_of AlreadyNew = (false, false)
+failures_of (BadScript line) = (false, false)
+failures_of (TooWide group) = (false, false)
+failures_of (Unlike group number) = (false, false)
+
 abbrev pub of_place : Status → Bool
-of_place Done = false
-of_place Usage = false
-of_place NoMemory = false
-of_place PlaceFault = true
-of_place LinkFault = false
-of_place OutFault = false
-of_place (BadStream fault) = false
-of_place (BadPriority fault) = false
-of_place (BadPlan kind number) = false
-of_place (BadStore which at kind) = false
-of_place OtherSession = false
-of_place (Clash group number) = false
-of_place Incomplete = false
-of_place TurnsSpent = false
-of_place (BadTable group) = false
-of_place (NotLeast group) = false
-of_place (Changed group first second) = false
-of_place (Full group) = false
-of_place (BadSystem fault) = false
-of_place AlreadyNew = false
-of_place (BadScript line) = false
-of_place (TooWide group) = false
-of_place (Unlike group number) = false
+of_place status = (failures_of status).0
 
 abbrev pub of_link : Status → Bool
-of_link Done = false
-of_link Usage = false
-of_link NoMemory = false
-of_link PlaceFault = false
-of_link LinkFault = true
-of_link OutFault = false
-of_link (BadStream fault) = false
-of_link (BadPriority fault) = false
-of_link (BadPlan kind number) = false
-of_link (BadStore which at kind) = false
-of_link OtherSession = false
-of_link (Clash group number) = false
-of_link Incomplete = false
-of_link TurnsSpent = false
-of_link (BadTable group) = false
-of_link (NotLeast group) = false
-of_link (Changed group first second) = false
-of_link (Full group) = false
-of_link (BadSystem fault) = false
-of_link AlreadyNew = false
-of_link (BadScript line) = false
-of_link (TooWide group) = false
-of_link (Unlike group number) = false
+of_link status = (failures_of status).1

@@ -1,18 +1,16 @@
 //! The top call.
-ghost use Rattle.std.specs.Prelude.{◌≡◌, ◌≢◌, ◌⊎◌, ◌↔◌, ℕ, List, [], None, Some, OnOk, OnErr};
+ghost use Rattle.std.specs.Prelude.{◌≡◌, ◌⊎◌, ◌↔◌, None};
 ghost use Rattle.pet_base.specs.OutsideSeen.{OutsideSeen, outside_seen};
 ghost use Rattle.pet_base.specs.Lent.{seen, AreSame};
-ghost use Rattle.pet_base.specs.Causes.{one_more};
-ghost use Rattle.outside_files.specs.Printed.{Printed, PrintedFront, PrintsLine};
 ghost use Rattle.pet_text.specs.Words.{texts_of, command_of};
-ghost use Rattle.text_status.specs.Statuses.{fault_text};
 ghost use Rattle.pet_tool.specs.Commands.{line_of, status_of, Does, Completes};
-ghost use Rattle.pet_tool.specs.Told.{OnlyTells, PrintedWhole, PrintedShort, Tells};
+ghost use Rattle.pet_text.specs.Told.{OnlyTells, PrintedWhole};
+ghost use Rattle.pet_tool.specs.Told.{PrintedShort, Tells};
 
 use crate::commands::{End, end_line, end_status, run_command};
 use arrayvec::ArrayVec;
-use pet_base::{Failed, Link, Outside, Place, Sink, Steps};
-use pet_text::{Status, WordsFault, fault_line, read_words};
+use pet_base::{Link, Outside, Place, Sink, Steps};
+use pet_text::{Status, WordsFault, fault_line, put_line, read_words};
 use std::alloc::Global;
 use std::sync::ledger::Ledger;
 
@@ -60,7 +58,11 @@ fn run_words<P: Place, K: Link, S: Sink, L: Ledger>(
 {
     let end = end_of_words(alloc, words, outside);
     let status = tell_end(&end, outside);
-    tell(status, outside)
+    let mut line: ArrayVec<u8, 64> = ArrayVec::new();
+    fault_line(&status, &mut line);
+    // the line is the last thing that is printed, and a status stays what it is where its line cannot be
+    let _ = put_line(line.as_slice(), outside);
+    status
 }
 
 /// Reads the words, and runs the command that they give. Nothing is printed yet of its end.
@@ -98,39 +100,4 @@ fn tell_end<P: Place, K: Link, S: Sink, L: Ledger>(
         Ok(()) => end_status(end),
         Err(_) => Status::OutFault,
     }
-}
-
-/// Prints the line that tells of the status, where it has one. A failure of the output does not change the status.
-fn tell<P: Place, K: Link, S: Sink, L: Ledger>(
-    status: Status,
-    outside: &mut Outside<P, K, S, L>,
-) -> Status
-    ensures status { result ≡ status }
-    ensures prints { PrintsLine (fault_text status) (seen outside.old) (seen outside.new) }
-    ensures same { AreSame outside.old outside.new }
-{
-    let mut line: ArrayVec<u8, 64> = ArrayVec::new();
-    fault_line(&status, &mut line);
-    // the line is the last thing that is printed, and a status stays what it is where its line cannot be
-    let _ = put_line(line.as_slice(), outside);
-    status
-}
-
-/// Prints a line, where it is not empty.
-fn put_line<P: Place, K: Link, S: Sink, L: Ledger>(
-    line: &[u8],
-    outside: &mut Outside<P, K, S, L>,
-) -> Result<(), Failed>
-    ensures prints { PrintsLine line.now (seen outside.old) (seen outside.new) }
-    ensures whole { OnOk result (Printed line.now (seen outside.old) (seen outside.new)) }
-    ensures calm { OnOk result ((seen outside.new).out_faults ≡ (seen outside.old).out_faults) }
-    ensures front { OnErr result (PrintedFront line.now (seen outside.old) (seen outside.new)) }
-    ensures once { OnErr result ((seen outside.new).out_faults ≡ one_more (seen outside.old).out_faults) }
-    ensures some { OnErr result (line.now ≢ []) }
-    ensures same { AreSame outside.old outside.new }
-{
-    if line.is_empty() {
-        return Ok(());
-    }
-    outside.out.put(line)
 }

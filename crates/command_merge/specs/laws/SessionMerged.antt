@@ -1,8 +1,10 @@
 -- Stores of one session are merged, from what each end tells.
 use Rattle.std.proofs.Common.{◌≡◌, ℕ, List, [], ◌∷◌, ◌++◌, length, Option, None, Some, refl, sym, ap, ◌∙◌, inl, inr}
-use Rattle.std.specs.Prelude.{option_map, IfSome}
+use Rattle.std.proofs.Common.{arith}
+use Rattle.std.specs.Prelude.{option_map}
 use Rattle.pet_base.specs.declared.limits.TheConstants.{MAX_SESSION}
 use Rattle.pet_base.specs.Seen.{Seen, Files, Blame, HadFault, with_file}
+use Rattle.pet_base.specs.laws.SeenLaws.{HadFault-since}
 use Rattle.outside_files.specs.Uses.{reading, writing, Failed}
 use Rattle.outside_files.specs.Wrote.{with_files}
 use Rattle.packet_session.specs.Session.{Session}
@@ -29,11 +31,7 @@ use Rattle.command_merge.specs.declared.command.MergeEnd.TheVariants.{OtherSessi
 
 wider : (blame : Blame) {P : Blame → Type 0} → ((b : Blame) → b ≡ blame → P b) → (old new : Seen)
     → Failed (blame ∷ []) old new → HadFault old new P
-wider blame {P} to old new f = record { rose = f.rose; blame = by new.blamed f.blame }
-  where
-    by : (o : Option Blame) → IfSome o (λ b. b ≡ blame) → IfSome o P
-    by None is = tt
-    by (Some b) is = to b is
+wider blame {P} to old new f = HadFault-since old old new _ P (omega arith) to f
 
 -- a fault of one of the files in its turn is a fault of the command's
 in_turn : (first second out : List ℕ) (old new : Seen) → FailedInTurn first second out old new

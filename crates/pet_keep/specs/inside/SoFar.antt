@@ -1,6 +1,6 @@
 -- What stands in the receiver and in the journal while datagrams are handed to a keeper. This project's own. No list of
 -- datagrams is stored.
-use Rattle.std.specs.Prelude.{ℕ, ◌≡◌, ◌≢◌, ◌<◌, ◌≤◌, Bool, true, false, List, [], length, Option, IfSome}
+use Rattle.std.specs.Prelude.{ℕ, ◌≡◌, ◌≢◌, ◌<◌, ◌≤◌, Bool, List, [], length, Option, IfSome}
 use Rattle.outside_disk.specs.Disk.{DiskSeen, IfTold}
 use Rattle.outside_routes.specs.Coming.{HaveCome, HaveComeUntil}
 use Rattle.outside_routes.specs.Way.{Way}
@@ -24,6 +24,7 @@ use Rattle.outside_routes.specs.declared.fault.RouteStop.TheVariants as route
 use Rattle.pet_base.specs.declared.faults.Stop.{Stop}
 use Rattle.pet_base.specs.declared.faults.Stop.TheVariants as place
 use Rattle.pet_keep.specs.Journaled.{AreFirst}
+use Rattle.pet_keep.specs.Statuses.{failures_of, status_of}
 use Rattle.pet_keep.specs.declared.end.KeepEnd.{KeepEnd}
 use Rattle.pet_keep.specs.declared.end.KeepEnd.TheVariants as end
 use Rattle.pet_keep.specs.declared.stop.KeepStop.{KeepStop}
@@ -64,26 +65,15 @@ IsKeepStop of_place of_link of_out of_disk stop.Link = of_link
 IsKeepStop of_place of_link of_out of_disk stop.Out = of_out
 IsKeepStop of_place of_link of_out of_disk stop.Disk = of_disk
 
+-- a stop tells of the failure that its end's status tells of
 abbrev pub of_a_place : KeepStop → Bool
-of_a_place stop.NoMemory = false
-of_a_place stop.Place = true
-of_a_place stop.Link = false
-of_a_place stop.Out = false
-of_a_place stop.Disk = false
+of_a_place s = (failures_of (status_of (end_of s))).0
 
 abbrev pub of_a_link : KeepStop → Bool
-of_a_link stop.NoMemory = false
-of_a_link stop.Place = false
-of_a_link stop.Link = true
-of_a_link stop.Out = false
-of_a_link stop.Disk = false
+of_a_link s = (failures_of (status_of (end_of s))).1
 
 abbrev pub of_an_output : KeepStop → Bool
-of_an_output stop.NoMemory = false
-of_an_output stop.Place = false
-of_an_output stop.Link = false
-of_an_output stop.Out = true
-of_an_output stop.Disk = false
+of_an_output s = (failures_of (status_of (end_of s))).2
 
 -- whatever a crash leaves now stands for the set
 abbrev pub AllStand : KeptSet → DiskSeen → Type 0

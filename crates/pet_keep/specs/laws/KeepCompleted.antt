@@ -1,5 +1,5 @@
 -- A run that nothing disturbs is done: from what it does at each of its ends.
-use Rattle.std.proofs.Common.{◌≡◌, ◌⊎◌, ℕ, ◌≤◌, List, [], ◌∷◌, ◌++◌, length, Option, None, Some, refl, sym, ap}
+use Rattle.std.proofs.Common.{◌≡◌, ℕ, ◌≤◌, List, [], ◌∷◌, ◌++◌, length, Option, None, Some, refl, sym, ap}
 use Rattle.std.proofs.Common.{subst, ◌∙◌, arith, inl, inr}
 use Rattle.std.specs.Prelude.{Result, Ok, Err, option_map}
 use Rattle.std.specs.Io.KnownBytes.{append_known}
@@ -23,55 +23,20 @@ use Rattle.pet_base.specs.Seen.{Blame, Files, Seen, with_file}
 use Rattle.pet_base.specs.laws.SeenLaws.{HadFault-since}
 use Rattle.pet_text.specs.Ends.{way_in}
 use Rattle.pet_text.specs.Lines.{receive_text}
+use Rattle.pet_text.specs.laws.ToldLaws.{ToldBy, silent, told}
 use Rattle.pet_text.specs.declared.keep_words.KeepWords.{KeepWords}
 use Rattle.store_journal.specs.declared.fault.StartFault.{StartFault}
 use Rattle.store_text.specs.Files.{store_file}
 use Rattle.store_text.specs.Store.{store_text}
 use Rattle.pet_keep.specs.Journaled.{DiskNow, HasJournal, journal_in}
 use Rattle.pet_keep.specs.Keeps.{AreTotals, EndsKeep, KeepsAll, StopsAtFile}
-use Rattle.pet_keep.specs.Runs.{CanKeep, CompletesKeep, DoesKeep, EndsBy, KeepsGiven, PrintedShort, PrintedWhole}
+use Rattle.pet_keep.specs.Runs.{CanKeep, CompletesKeep, DoesKeep, EndsBy, KeepsGiven}
 use Rattle.pet_keep.specs.Runs.{Tells, TellsJournal, numbers_text, uses_of}
 use Rattle.pet_keep.specs.Statuses.{fault_text, line_of, status_of, totals_text}
 use Rattle.pet_keep.specs.declared.end.KeepEnd.{KeepEnd}
 use Rattle.pet_keep.specs.declared.end.KeepEnd.TheVariants as end
 use Rattle.pet_keep.specs.declared.status.KeepStatus.{KeepStatus}
-use Rattle.pet_keep.specs.declared.status.KeepStatus.TheVariants.{Done, Incomplete}
-
--- what was told of an end, where the output had no fault
-record Told (line : List ℕ) (of_end : KeepStatus) (between after : OutsideSeen) (status : KeepStatus) : Type 0 where
-  ended : status ≡ of_end
-  printed : after.written ≡ append_known between.written (line ++ fault_text status)
-  place : after.place ≡ between.place
-  link : after.link ≡ between.link
-
-told : (line : List ℕ) (of_end : KeepStatus) (between after : OutsideSeen) (status : KeepStatus)
-    → Tells line of_end between after status → (Rose between.out_faults after.out_faults → ⊥)
-    → Told line of_end between after status
-told line of_end between after status tells well = by tells.line
-  where
-    by : PrintedWhole line of_end between tells.lined status ⊎ PrintedShort line between tells.lined status
-        → Told line of_end between after status
-    by (inl whole) = record {
-      ended = whole.ended;
-      printed =
-          tells.fault.whole (λ rose. well (subst (λ (n : ℕ). Rose n after.out_faults) whole.faults rose))
-          ∙ ap (λ (o : Option (List ℕ)). append_known o (fault_text status)) whole.printed
-          ∙ append_known-twice between.written line (fault_text status);
-      place = tells.fault.place ∙ tells.only.place;
-      link = tells.fault.link ∙ tells.only.link;
-    }
-    by (inr short) =
-        let rose = short.front.rose in let later = tells.fault.later in absurd (well (omega (arith, rose, later)))
-
--- where the end has no line, no fault of the output is forgotten
-later_told : (of_end : KeepStatus) (between after : OutsideSeen) (status : KeepStatus)
-    → Tells [] of_end between after status → between.out_faults ≤ after.out_faults
-later_told of_end between after status tells = by tells.line
-  where
-    by : PrintedWhole [] of_end between tells.lined status ⊎ PrintedShort [] between tells.lined status
-        → between.out_faults ≤ after.out_faults
-    by (inl whole) = let same = whole.faults in let later = tells.fault.later in omega (arith, same, later)
-    by (inr short) = absurd (short.some refl)
+use Rattle.pet_keep.specs.declared.status.KeepStatus.TheVariants.{Done, Incomplete, OutFault}
 
 same_ok : {T E : Type 0} (x y : T) (r : Result T E) → r ≡ Ok x → r ≡ Ok y → x ≡ y
 same_ok x y r p q = cc
@@ -142,7 +107,7 @@ module _ (words : KeepWords) (files : Files) (ds : List (List ℕ)) (first : Kep
   given : (set : KeptSet) → HasJournal words.session old.seen set
       → (k : KeepsAll set from words.store before between new.seen) → (totals : Totals) → AreTotals set k.read totals
       → PrintedPort from before between → (of_end : KeepStatus)
-      → Told (totals_text totals) of_end between after status
+      → ToldBy fault_text (totals_text totals) of_end between after status
       → (EndsBy (after_all set k.read) of_end)
       → KeepsGiven words files ds first before after status
   given set journal k totals are port of_end is_told ends =
@@ -174,8 +139,8 @@ module _ (words : KeepWords) (files : Files) (ds : List (List ℕ)) (first : Kep
     out_well rose = can.well.out (omega (arith, rose, later))
 
     ends_told : (e : KeepEnd) → Tells (line_of e) (status_of e) between after status
-        → Told (line_of e) (status_of e) between after status
-    ends_told e tells = told (line_of e) (status_of e) between after status tells out_well
+        → ToldBy fault_text (line_of e) (status_of e) between after status
+    ends_told e tells = told fault_text OutFault (line_of e) (status_of e) between after status tells out_well
 
     by : (e : KeepEnd) → EndsKeep from words.session words.store before between old new e
         → Tells (line_of e) (status_of e) between after status → KeepsGiven words files ds first before after status
@@ -202,7 +167,7 @@ module _ (words : KeepWords) (files : Files) (ds : List (List ℕ)) (first : Kep
         (sym (ends_told end.LinkFault tells).link) ends.left.0))
     by end.OutFault ends tells =
         absurd (let rose = port_well from before between ends.left.1 in
-        let since = later_told (status_of end.OutFault) between after status tells in
+        let since = (silent fault_text OutFault (status_of end.OutFault) between after status tells).1.later in
         can.well.out (omega (arith, rose, since)))
     by end.DiskFault (inl ends) tells = absurd (can.disk ends.0)
     by end.DiskFault (inr ends) tells = absurd (can.disk ends.left.0)

@@ -1,17 +1,13 @@
 -- The commands that read files and write one: what the ends of each tell of failures, what it completes, and that it may
 -- end for want of memory.
-use Rattle.std.proofs.Common.{◌≡◌, ℕ, true, false, List, [], ◌∷◌, length, Option, None, Some, refl, sym, ap, subst, ◌∙◌}
-use Rattle.std.proofs.Common.{inl, ◌<◌, ◌≤◌}
-use Rattle.pet_base.specs.Causes.{Rose}
+use Rattle.std.proofs.Common.{◌≡◌, ℕ, true, false, List, [], ◌∷◌, length, Option, None, Some, refl, ap, subst, ◌∙◌}
+use Rattle.std.proofs.Common.{◌<◌, ◌≤◌}
 use Rattle.pet_base.specs.OutsideSeen.{OutsideSeen}
-use Rattle.pet_base.specs.Seen.{Files, Seen, with_file, PlaceStops}
-use Rattle.outside_files.specs.Uses.{reading, writing, Failed}
+use Rattle.pet_base.specs.Seen.{Files, with_file}
+use Rattle.outside_files.specs.Uses.{reading, writing}
 use Rattle.stream_session.specs.Accepted.{session_of}
-use Rattle.command_merge.specs.Merges.{Merges}
 use Rattle.command_merge.specs.laws.SessionMerged.{completes_merge}
-use Rattle.command_migrate.specs.Migrates.{Migrates}
 use Rattle.command_migrate.specs.laws.SessionMigrated.{completes_migrate}
-use Rattle.command_video.specs.Videos.{Videos}
 use Rattle.command_video.specs.VideosSession.{HasStoreOf, VideosSession}
 use Rattle.command_video.specs.laws.SessionVideo.{completes_video}
 use Rattle.command_video.specs.StreamVideo.{stream_video}
@@ -24,8 +20,7 @@ use Rattle.pet_tool.specs.Commands.Files.{line_of_migrate, status_of_merge, stat
 use Rattle.pet_tool.specs.Commands.Files.{line_of_unwrap, line_of_wrap, status_of_unwrap, status_of_wrap}
 use Rattle.pet_tool.specs.Commands.Files.{CompletesUnwrap, CompletesWrap, RunsMerge, RunsVideo, CompletesVideo}
 use Rattle.pet_tool.specs.Commands.Files.{RunsMigrate, RunsUnwrap, RunsWrap}
-use Rattle.pet_tool.specs.Runs.{OnFiles}
-use Rattle.pet_tool.proofs.Telling.{told, Told}
+use Rattle.pet_tool.proofs.Telling.{told_calm, place_calm, Told}
 use Rattle.pet_tool.specs.Undisturbed.{IsUndisturbed, EndsWith}
 use Rattle.command_merge.specs.Ends.{has_failed as merge_failed}
 use Rattle.command_merge.specs.declared.command.MergeEnd.{MergeEnd}
@@ -41,23 +36,15 @@ use Rattle.mpeg_system.specs.declared.wrap_files.WrapEnd.TheVariants as wrap
 use Rattle.command_migrate.specs.Ends.{has_failed as migrate_failed}
 use Rattle.command_migrate.specs.declared.command.MigrateEnd.{MigrateEnd}
 use Rattle.command_migrate.specs.declared.command.MigrateEnd.TheVariants as migrate
-use Rattle.pet_tool.specs.Told.{Tells}
-use Rattle.outside_files.specs.laws.WroteLaws.{Wrote-nothing}
 use Rattle.pet_base.specs.declared.limits.TheConstants.{MAX_STREAM}
 use Rattle.mpeg_system.specs.declared.refusal.System.{System}
 use Rattle.mpeg_system.specs.declared.refusal.System.TheVariants.{TooLong}
 use Rattle.mpeg_system.specs.Completes.{HasFile, UnwrapsStream, WrapsVideo, unwrap_end}
-use Rattle.mpeg_system.specs.Unwraps.{Unwraps}
 use Rattle.mpeg_system.specs.Videos.{refusal_of, video_of}
 use Rattle.mpeg_system.specs.Wrapped.{wrapped}
-use Rattle.mpeg_system.specs.Wraps.{Wraps}
 use Rattle.mpeg_system.specs.laws.Completed.{completes_unwrap, completes_wrap}
-use Rattle.pet_text.specs.declared.words.Command.TheVariants as words
-use Rattle.pet_tool.proofs.Ends.{Agrees, lined, unlined, on_place}
-use Rattle.pet_tool.proofs.LinesTold.{ended_with}
-use Rattle.pet_tool.specs.inside.EndsAs.{EndsAs}
-use Rattle.pet_tool.specs.declared.commands.End.TheVariants as run_end
-use Rattle.pet_tool.proofs.NoMemory.{unread}
+use Rattle.pet_tool.proofs.Ends.{Agrees, lined, unlined}
+use Rattle.pet_tool.proofs.LinesTold.{file_left}
 
 -- `merge`
 pub merge_agrees : (end : MergeEnd) → Agrees (merge_failed end) false (line_of_merge end) (status_of_merge end)
@@ -75,48 +62,14 @@ pub merge_completes : (first second out : List ℕ) (before after : OutsideSeen)
     → CompletesMerge first second out before after status
 merge_completes first second out before after status runs = λ s files a b calm given.
     let only = runs.did in
-    let all = reading first ∷ reading second ∷ writing out ∷ [] in
-    let said = told (line_of_merge runs.end) (status_of_merge runs.end) runs.between after status runs.tells
-    (λ rose. calm.well.out (subst (λ (n : ℕ). Rose n after.out_faults) only.out_faults rose)) in
+    let said = told_calm before only.out_faults calm.well.out runs.tells in
     let merged = completes_merge first second out before.place runs.between.place runs.end only.did s files a b
     (record {
       memory = λ none. calm.memory (said.ended ∙ ap status_of_merge none);
-      well = λ had. calm.well.place (subst (λ (now : Seen). Failed all before.place now) (sym said.place) had);
+      well = place_calm said calm.well;
       given = given;
-    }) in (
-      ap (λ (now : Seen). now.files) said.place ∙ merged.file,
-      ended_with before runs.between after status _ _ _ _ only.written said
-          (ap status_of_merge merged.ended) (ap line_of_merge merged.ended),
-    )
-
-pub merge_no_memory : (first second out : List ℕ) (before after : OutsideSeen) (status : Status)
-    → Tells [] NoMemory before after status → RunsMerge first second out before after status
-merge_no_memory first second out before after status tells =
-    unread line_of_merge status_of_merge (OnFiles (Merges first second out)) merge.NoMemory before after status
-    (record { link = refl; written = refl; out_faults = refl; did = refl }) tells tells
-
--- so `merge` ends, whatever is then told of it
-pub merge_ends_as : (f s o first second out : List ℕ) (before between : OutsideSeen) (end : MergeEnd)
-    → f ≡ first → s ≡ second → o ≡ out → between.link ≡ before.link → between.written ≡ before.written
-    → between.out_faults ≡ before.out_faults → Merges f s o before.place between.place end
-    → PlaceStops (merge_failed end) before.place between.place
-    → EndsAs (words.Merge first second out) before (run_end.Merge end) between
-merge_ends_as f s o first second out before between end first_is second_is out_is link written faults did once =
-    record {
-      does = λ told status tells.
-          on_place line_of_merge status_of_merge (OnFiles (Merges first second out)) (merge_failed end) before
-          between told status end (merge_agrees end) link
-          (record {
-            link = link;
-            written = written;
-            out_faults = faults;
-            did =
-                subst (λ (x : List ℕ). Merges first second x before.place between.place end) out_is
-                (subst (λ (x : List ℕ). Merges first x o before.place between.place end) second_is
-                (subst (λ (x : List ℕ). Merges x s o before.place between.place end) first_is did));
-          })
-          once tells;
-    }
+    }) in
+    file_left only.written said merged.file (ap status_of_merge merged.ended) (ap line_of_merge merged.ended)
 
 -- `video`
 pub video_agrees : (end : VideoEnd) → Agrees (video_failed end) false (line_of_video end) (status_of_video end)
@@ -134,24 +87,20 @@ module _ (store out : List ℕ) (before after : OutsideSeen) (status : Status)
     (given : HasStoreOf p b store files pairs before.place) where
   video_told : Told (line_of_video runs.end) (status_of_video runs.end) runs.between after status
   video_told =
-      told (line_of_video runs.end) (status_of_video runs.end) runs.between after status runs.tells
-      (λ rose. calm.well.out (subst (λ (n : ℕ). Rose n after.out_faults) runs.did.out_faults rose))
+      told_calm before runs.did.out_faults calm.well.out runs.tells
 
   video_done : VideosSession p b out files pairs runs.between.place runs.end
   video_done = completes_video store out before.place runs.between.place runs.end runs.did.did p b files pairs (record {
     memory = λ none. calm.memory (video_told.ended ∙ ap status_of_video none);
-    well = λ had. calm.well.place
-        (subst (λ (now : Seen). Failed (reading store ∷ writing out ∷ []) before.place now) (sym video_told.place) had);
+    well = place_calm video_told calm.well;
     given = given;
   })
 
   video_shown : (after.place.files ≡ Some (with_file out (stream_video p b pairs) files))
       × EndsWith Done (video_text (length (stream_video p b pairs))) before after status
-  video_shown = (
-    ap (λ (now : Seen). now.files) video_told.place ∙ video_done.file,
-    ended_with before runs.between after status _ _ _ _ runs.did.written video_told
-        (ap status_of_video video_done.ended) (ap line_of_video video_done.ended),
-  )
+  video_shown =
+      file_left runs.did.written video_told video_done.file (ap status_of_video video_done.ended)
+      (ap line_of_video video_done.ended)
 
   video_whole : all_shown (session_of p b) pairs ≡ true
       → (after.place.files ≡ Some (with_file out b files)) × EndsWith Done (video_text (length b)) before after status
@@ -167,34 +116,6 @@ video_completes store out before after status runs = record {
   shown = video_shown store out before after status runs;
   whole = video_whole store out before after status runs;
 }
-
-pub video_no_memory : (store out : List ℕ) (before after : OutsideSeen) (status : Status)
-    → Tells [] NoMemory before after status → RunsVideo store out before after status
-video_no_memory store out before after status tells =
-    unread line_of_video status_of_video (OnFiles (Videos store out)) video.NoMemory before after status
-    (record { link = refl; written = refl; out_faults = refl; did = inl refl }) tells tells
-
--- so `video` ends, whatever is then told of it
-pub video_ends_as : (s o store out : List ℕ) (before between : OutsideSeen) (end : VideoEnd)
-    → s ≡ store → o ≡ out → between.link ≡ before.link → between.written ≡ before.written
-    → between.out_faults ≡ before.out_faults → Videos s o before.place between.place end
-    → PlaceStops (video_failed end) before.place between.place
-    → EndsAs (words.Video store out) before (run_end.Video end) between
-video_ends_as s o store out before between end store_is out_is link written faults did once =
-    record {
-      does = λ told status tells.
-          on_place line_of_video status_of_video (OnFiles (Videos store out)) (video_failed end) before between told
-          status end (video_agrees end) link
-          (record {
-            link = link;
-            written = written;
-            out_faults = faults;
-            did =
-                subst (λ (x : List ℕ). Videos store x before.place between.place end) out_is
-                (subst (λ (x : List ℕ). Videos x o before.place between.place end) store_is did);
-          })
-          once tells;
-    }
 
 -- `migrate`
 pub migrate_agrees : (end : MigrateEnd)
@@ -212,46 +133,13 @@ pub migrate_completes : (store out : List ℕ) (before after : OutsideSeen) (sta
     → CompletesMigrate store out before after status
 migrate_completes store out before after status runs = λ s files pairs calm given.
     let only = runs.did in
-    let all = reading store ∷ writing out ∷ [] in
-    let said = told (line_of_migrate runs.end) (status_of_migrate runs.end) runs.between after status runs.tells
-    (λ rose. calm.well.out (subst (λ (n : ℕ). Rose n after.out_faults) only.out_faults rose)) in
+    let said = told_calm before only.out_faults calm.well.out runs.tells in
     let migrated = completes_migrate store out before.place runs.between.place runs.end only.did s files pairs (record {
       memory = λ none. calm.memory (said.ended ∙ ap status_of_migrate none);
-      well = λ had. calm.well.place (subst (λ (now : Seen). Failed all before.place now) (sym said.place) had);
+      well = place_calm said calm.well;
       given = given;
-    }) in (
-      ap (λ (now : Seen). now.files) said.place ∙ migrated.file,
-      ended_with before runs.between after status _ _ _ _ only.written said
-          (ap status_of_migrate migrated.ended) (ap line_of_migrate migrated.ended),
-    )
-
-pub migrate_no_memory : (store out : List ℕ) (before after : OutsideSeen) (status : Status)
-    → Tells [] NoMemory before after status → RunsMigrate store out before after status
-migrate_no_memory store out before after status tells =
-    unread line_of_migrate status_of_migrate (OnFiles (Migrates store out)) migrate.NoMemory before after status
-    (record { link = refl; written = refl; out_faults = refl; did = refl }) tells tells
-
--- so `migrate` ends, whatever is then told of it
-pub migrate_ends_as : (s o store out : List ℕ) (before between : OutsideSeen) (end : MigrateEnd)
-    → s ≡ store → o ≡ out → between.link ≡ before.link → between.written ≡ before.written
-    → between.out_faults ≡ before.out_faults → Migrates s o before.place between.place end
-    → PlaceStops (migrate_failed end) before.place between.place
-    → EndsAs (words.Migrate store out) before (run_end.Migrate end) between
-migrate_ends_as s o store out before between end store_is out_is link written faults did once =
-    record {
-      does = λ told status tells.
-          on_place line_of_migrate status_of_migrate (OnFiles (Migrates store out)) (migrate_failed end) before
-          between told status end (migrate_agrees end) link
-          (record {
-            link = link;
-            written = written;
-            out_faults = faults;
-            did =
-                subst (λ (x : List ℕ). Migrates store x before.place between.place end) out_is
-                (subst (λ (x : List ℕ). Migrates x o before.place between.place end) store_is did);
-          })
-          once tells;
-    }
+    }) in
+    file_left only.written said migrated.file (ap status_of_migrate migrated.ended) (ap line_of_migrate migrated.ended)
 
 -- `unwrap`
 pub unwrap_agrees : (end : UnwrapEnd) → Agrees (unwrap_failed end) false (line_of_unwrap end) (status_of_unwrap end)
@@ -266,15 +154,13 @@ module _ (file : List ℕ) (id : ℕ) (out : List ℕ) (before after : OutsideSe
     (given : HasFile file b files before.place) where
   unwrap_told : Told (line_of_unwrap runs.end) (status_of_unwrap runs.end) runs.between after status
   unwrap_told =
-      told (line_of_unwrap runs.end) (status_of_unwrap runs.end) runs.between after status runs.tells
-      (λ rose. calm.well.out (subst (λ (n : ℕ). Rose n after.out_faults) runs.did.out_faults rose))
+      told_calm before runs.did.out_faults calm.well.out runs.tells
 
   unwrap_done : UnwrapsStream id out b files runs.between.place runs.end
   unwrap_done =
       completes_unwrap file id out before.place runs.between.place runs.end runs.did.did b files
       (λ none. calm.memory (unwrap_told.ended ∙ ap status_of_unwrap none))
-      (λ had. calm.well.place
-      (subst (λ (now : Seen). Failed (reading file ∷ writing out ∷ []) before.place now) (sym unwrap_told.place) had))
+      (place_calm unwrap_told calm.well)
       given
 
   unwrap_ends : (refusal : Option System) → refusal_of id b ≡ refusal
@@ -283,11 +169,8 @@ module _ (file : List ℕ) (id : ℕ) (out : List ℕ) (before after : OutsideSe
       (line_of_unwrap (unwrap_end refusal (length (video_of id b)))) before after status
   unwrap_ends refusal is =
       let ended : runs.end ≡ unwrap_end refusal (length (video_of id b)) =
-      unwrap_done.ended ∙ ap (λ (r : Option System). unwrap_end r (length (video_of id b))) is in (
-        ap (λ (now : Seen). now.files) unwrap_told.place ∙ unwrap_done.file,
-        ended_with before runs.between after status _ _ _ _ runs.did.written unwrap_told
-            (ap status_of_unwrap ended) (ap line_of_unwrap ended),
-      )
+      unwrap_done.ended ∙ ap (λ (r : Option System). unwrap_end r (length (video_of id b))) is in
+      file_left runs.did.written unwrap_told unwrap_done.file (ap status_of_unwrap ended) (ap line_of_unwrap ended)
 
 pub unwrap_completes : (file : List ℕ) (id : ℕ) (out : List ℕ) (before after : OutsideSeen) (status : Status)
     → RunsUnwrap file id out before after status
@@ -297,34 +180,6 @@ unwrap_completes file id out before after status runs = record {
   refused = λ b files calm given system is. unwrap_ends file id out before after status runs b files calm given
       (Some system) is;
 }
-
-pub unwrap_no_memory : (file : List ℕ) (id : ℕ) (out : List ℕ) (before after : OutsideSeen) (status : Status)
-    → Tells [] NoMemory before after status → RunsUnwrap file id out before after status
-unwrap_no_memory file id out before after status tells =
-    unread line_of_unwrap status_of_unwrap (OnFiles (Unwraps file id out)) unwrap.NoMemory before after status
-    (record { link = refl; written = refl; out_faults = refl; did = inl (Wrote-nothing before.place before.place refl) }) tells tells
-
--- so `unwrap` ends, whatever is then told of it
-pub unwrap_ends_as : (f o file out : List ℕ) (id : ℕ) (before between : OutsideSeen) (end : UnwrapEnd)
-    → f ≡ file → o ≡ out → between.link ≡ before.link → between.written ≡ before.written
-    → between.out_faults ≡ before.out_faults → Unwraps f id o before.place between.place end
-    → PlaceStops (unwrap_failed end) before.place between.place
-    → EndsAs (words.Unwrap file id out) before (run_end.Unwrap end) between
-unwrap_ends_as f o file out id before between end file_is out_is link written faults did once =
-    record {
-      does = λ told status tells.
-          on_place line_of_unwrap status_of_unwrap (OnFiles (Unwraps file id out)) (unwrap_failed end) before between
-          told status end (unwrap_agrees end) link
-          (record {
-            link = link;
-            written = written;
-            out_faults = faults;
-            did =
-                subst (λ (x : List ℕ). Unwraps file id x before.place between.place end) out_is
-                (subst (λ (x : List ℕ). Unwraps x id o before.place between.place end) file_is did);
-          })
-          once tells;
-    }
 
 -- `wrap`
 pub wrap_agrees : (end : WrapEnd) → Agrees (wrap_failed end) false (line_of_wrap end) (status_of_wrap end)
@@ -339,35 +194,27 @@ module _ (file out : List ℕ) (before after : OutsideSeen) (status : Status)
     (given : HasFile file b files before.place) where
   wrap_told : Told (line_of_wrap runs.end) (status_of_wrap runs.end) runs.between after status
   wrap_told =
-      told (line_of_wrap runs.end) (status_of_wrap runs.end) runs.between after status runs.tells
-      (λ rose. calm.well.out (subst (λ (n : ℕ). Rose n after.out_faults) runs.did.out_faults rose))
+      told_calm before runs.did.out_faults calm.well.out runs.tells
 
   wrap_done : WrapsVideo out b files runs.between.place runs.end
   wrap_done =
       completes_wrap file out before.place runs.between.place runs.end runs.did.did b files
       (λ none. calm.memory (wrap_told.ended ∙ ap status_of_wrap none))
-      (λ had. calm.well.place
-      (subst (λ (now : Seen). Failed (reading file ∷ writing out ∷ []) before.place now) (sym wrap_told.place) had))
+      (place_calm wrap_told calm.well)
       given
 
   wrap_short : length b ≤ MAX_STREAM
       → (after.place.files ≡ Some (with_file out (wrapped b) files))
       × EndsWith Done (wrapped_text (length (wrapped b))) before after status
   wrap_short short =
-      let done = wrap_done.short short in (
-        ap (λ (now : Seen). now.files) wrap_told.place ∙ done.0,
-        ended_with before runs.between after status _ _ _ _ runs.did.written wrap_told
-            (ap status_of_wrap done.1) (ap line_of_wrap done.1),
-      )
+      let done = wrap_done.short short in
+      file_left runs.did.written wrap_told done.0 (ap status_of_wrap done.1) (ap line_of_wrap done.1)
 
   wrap_long : MAX_STREAM < length b
       → (after.place.files ≡ Some files) × EndsWith (BadSystem TooLong) [] before after status
   wrap_long long =
-      let done = wrap_done.long long in (
-        ap (λ (now : Seen). now.files) wrap_told.place ∙ done.0,
-        ended_with before runs.between after status _ _ _ _ runs.did.written wrap_told
-            (ap status_of_wrap done.1) (ap line_of_wrap done.1),
-      )
+      let done = wrap_done.long long in
+      file_left runs.did.written wrap_told done.0 (ap status_of_wrap done.1) (ap line_of_wrap done.1)
 
 pub wrap_completes : (file out : List ℕ) (before after : OutsideSeen) (status : Status)
     → RunsWrap file out before after status → CompletesWrap file out before after status
@@ -375,31 +222,3 @@ wrap_completes file out before after status runs = record {
   accepted = λ b files calm given short. wrap_short file out before after status runs b files calm given short;
   refused = λ b files calm given long. wrap_long file out before after status runs b files calm given long;
 }
-
-pub wrap_no_memory : (file out : List ℕ) (before after : OutsideSeen) (status : Status)
-    → Tells [] NoMemory before after status → RunsWrap file out before after status
-wrap_no_memory file out before after status tells =
-    unread line_of_wrap status_of_wrap (OnFiles (Wraps file out)) wrap.NoMemory before after status
-    (record { link = refl; written = refl; out_faults = refl; did = Wrote-nothing before.place before.place refl }) tells tells
-
--- so `wrap` ends, whatever is then told of it
-pub wrap_ends_as : (f o file out : List ℕ) (before between : OutsideSeen) (end : WrapEnd)
-    → f ≡ file → o ≡ out → between.link ≡ before.link → between.written ≡ before.written
-    → between.out_faults ≡ before.out_faults → Wraps f o before.place between.place end
-    → PlaceStops (wrap_failed end) before.place between.place
-    → EndsAs (words.Wrap file out) before (run_end.Wrap end) between
-wrap_ends_as f o file out before between end file_is out_is link written faults did once =
-    record {
-      does = λ told status tells.
-          on_place line_of_wrap status_of_wrap (OnFiles (Wraps file out)) (wrap_failed end) before between told
-          status end (wrap_agrees end) link
-          (record {
-            link = link;
-            written = written;
-            out_faults = faults;
-            did =
-                subst (λ (x : List ℕ). Wraps file x before.place between.place end) out_is
-                (subst (λ (x : List ℕ). Wraps x o before.place between.place end) file_is did);
-          })
-          once tells;
-    }

@@ -1,14 +1,11 @@
 -- The commands that read and send datagrams: what the ends of each tell of failures, what it completes, and that it may
 -- end for want of memory.
-use Rattle.std.proofs.Common.{◌≡◌, ℕ, Bool, true, false, List, [], length, map, refl, sym, ap, subst, ◌∙◌, inl, inr}
+use Rattle.std.proofs.Common.{◌≡◌, ℕ, Bool, true, false, List, length, map, refl, sym, ap, subst, ◌∙◌, inl, inr}
 use Rattle.std.specs.Prelude.{if◌then◌else◌}
-use Rattle.pet_base.specs.Causes.{Rose}
 use Rattle.pet_base.specs.Entries.{datagrams}
 use Rattle.pet_base.specs.OutsideSeen.{OutsideSeen}
-use Rattle.pet_base.specs.LinkSeen.{LinkSeen, LinkStops}
-use Rattle.pet_base.specs.Seen.{Files, Seen, PlaceStops}
-use Rattle.outside_files.specs.Uses.{Failed}
-use Rattle.outside_files.specs.laws.PrintedLaws.{Rose-before, Rose-since}
+use Rattle.pet_base.specs.LinkSeen.{LinkSeen}
+use Rattle.pet_base.specs.Seen.{Files, Seen}
 use Rattle.field_elements.specs.Gf16.{gf16_coding}
 use Rattle.packet_frame.specs.Frame.{text}
 use Rattle.packet_session.specs.Session.{Session}
@@ -17,12 +14,10 @@ use Rattle.stream_session.specs.laws.SessionOfLaws.{is_session, session_fits}
 use Rattle.command_receive.specs.declared.command.ReceiveEnd.{ReceiveEnd}
 use Rattle.command_receive.specs.declared.command.ReceiveEnd.TheVariants as receive
 use Rattle.command_receive.specs.Opened.{IsBoundTo}
-use Rattle.command_receive.specs.Receives.{Receives}
 use Rattle.packet_reading.specs.declared.reading.Totals.{Totals}
 use Rattle.packet_met.specs.Met.{all_shown, met_in, met_by}
 use Rattle.command_send.specs.Sends.{routes_in}
 use Rattle.pet_repair.specs.Repaired.{complete_packets}
-use Rattle.pet_repair.specs.Repairs.{Repairs, uses as repair_uses}
 use Rattle.pet_repair.specs.SentTo.{SentTo}
 use Rattle.pet_repair.specs.laws.SessionRepaired.{completes_repair}
 use Rattle.pet_repair.specs.laws.StreamZeros.{stream_zeros}
@@ -32,16 +27,13 @@ use Rattle.packet_frame.specs.declared.format.TheConstants.{BYTE_FORMAT}
 use Rattle.outside_routes.specs.RouteFaults.{AimedFailed, BoundFailed}
 use Rattle.outside_routes.specs.Sending.{Routes}
 use Rattle.outside_routes.specs.Way.{Way}
-use Rattle.pet_text.specs.Ends.{way_in}
 use Rattle.text_status.specs.Statuses.{fault_text}
 use Rattle.pet_tool.specs.Commands.Routes.{RepairsPackets, line_of_receive, line_of_repair, totals_text}
 use Rattle.pet_tool.specs.Commands.Routes.{status_of_receive, status_of_repair, line_of_breceive, line_of_relay}
 use Rattle.pet_tool.specs.Commands.Routes.{status_of_breceive, status_of_relay, RunsReceive, RunsBreceive, RunsRelay}
 use Rattle.pet_tool.specs.Commands.Routes.{RunsRepair, CompletesRepair}
-use Rattle.pet_text.specs.declared.end.End.{End}
-use Rattle.pet_tool.specs.Runs.{OnRoutes}
 use Rattle.pet_tool.proofs.LinesTold.{ends_with, lines_told, ended_with}
-use Rattle.pet_tool.proofs.Telling.{told}
+use Rattle.pet_tool.proofs.Telling.{told_calm, told_since, place_calm, well_before}
 use Rattle.command_receive.specs.Failures.{end_of_place as receive_place, end_of_link as receive_link}
 use Rattle.pet_repair.specs.Failures.{repair_of_place, repair_of_link, relay_end_of_place, relay_end_of_link}
 use Rattle.pet_repair.specs.declared.repair.RepairEnd.{RepairEnd}
@@ -51,24 +43,17 @@ use Rattle.pet_repair.specs.declared.relay.RelayEnd.TheVariants as relay
 use Rattle.pet_byte.specs.Failures.{byte_of_place, byte_of_link}
 use Rattle.pet_byte.specs.declared.breceive.ByteEnd.{ByteEnd}
 use Rattle.pet_byte.specs.declared.breceive.ByteEnd.TheVariants as byte
-use Rattle.pet_tool.specs.Told.{Tells}
-use Rattle.pet_repair.specs.laws.SessionRelayed.{nothing_relayed, completes_relay}
-use Rattle.pet_byte.specs.laws.BytesLaws.{no_bytes_received, completes_bytes}
-use Rattle.command_receive.specs.laws.SessionReceived.{nothing_received}
+use Rattle.pet_repair.specs.laws.SessionRelayed.{completes_relay}
+use Rattle.pet_byte.specs.laws.BytesLaws.{completes_bytes}
 use Rattle.packet_reading.specs.SessionRead.{session_totals_in}
 use Rattle.pet_byte.specs.BytesReceived.{ReceivesByteSession, done_with, incomplete_with}
-use Rattle.pet_byte.specs.ReceivesBytes.{ReceivesBytes, byte_uses_of}
 use Rattle.pet_tool.specs.ByteHeadline.{ByteHeadline, byte_session_numbers}
-use Rattle.pet_repair.specs.Relays.{DoesRelay, relay_uses, routes_of}
+use Rattle.pet_repair.specs.Relays.{routes_of}
 use Rattle.pet_repair.specs.RelaysSession.{relayed_datagrams}
 use Rattle.pet_text.specs.Lines.{relay_text}
 use Rattle.pet_tool.specs.RelayHeadline.{RelaysPackets, RelayFailed, relay_numbers, CompletesRelay}
 use Rattle.pet_tool.specs.Headline.{MeetsHeadline}
-use Rattle.pet_text.specs.declared.words.Command.TheVariants as words
-use Rattle.pet_tool.proofs.Ends.{Agrees, lined_as, lined, unlined, runs_with}
-use Rattle.pet_tool.specs.inside.EndsAs.{EndsAs}
-use Rattle.pet_tool.specs.declared.commands.End.TheVariants as run_end
-use Rattle.pet_tool.proofs.NoMemory.{unread}
+use Rattle.pet_tool.proofs.Ends.{Agrees, lined_as, lined, unlined}
 use Rattle.pet_tool.proofs.Headline.{sent_given, headline, received_sent, names_stored}
 
 -- `receive`
@@ -91,34 +76,6 @@ receive_completes from session layers store before after status runs =
       headline = meets;
       of_send = received_sent from session layers store before after status meets;
       named = names_stored from session layers store before after status runs;
-    }
-
-pub receive_no_memory : (from : Way) (session layers store : List ℕ) (before after : OutsideSeen) (status : Status)
-    → Tells [] NoMemory before after status → RunsReceive from session layers store before after status
-receive_no_memory from session layers store before after status tells =
-    unread line_of_receive status_of_receive (Receives from session layers store) receive.NoMemory before after status
-    (nothing_received from session layers store before) tells tells
-
--- so `receive` ends, whatever is then told of it
-pub receive_ends_as : (l t layers store : List ℕ) (way : Way) (from : End) (session : List ℕ) (before between :
-    OutsideSeen) (end : ReceiveEnd)
-    → way ≡ way_in from → l ≡ layers → t ≡ store → Receives way session l t before between end
-    → PlaceStops (receive_place end) before.place between.place
-    → LinkStops (receive_link end) before.link between.link
-    → EndsAs (words.Receive from session layers store) before (run_end.Receive end) between
-receive_ends_as l t layers store way from session before between end from_is layers_is store_is did once_place
-    once_link =
-    record {
-      does = λ told status tells.
-          runs_with line_of_receive status_of_receive (Receives (way_in from) session layers store) (receive_place
-          end) (receive_link end) before between told status end (receive_agrees end) (subst (λ (x : List ℕ).
-          Receives (way_in from) session layers x before between end) store_is
-          (subst (λ (x : List ℕ). Receives (way_in from) session x t before between end) layers_is
-          (subst (λ (x : Way). Receives x session l t before between end) from_is did))) (record {
-            place =
-                once_place;
-            link = once_link;
-          }) tells;
     }
 
 -- `breceive`
@@ -160,20 +117,13 @@ pub breceive_completes : (from : Way) (session layers : List ℕ) (before after 
     → RunsBreceive from session layers before after status
     → ByteHeadline from session layers before after status
 breceive_completes from session layers before after status runs = λ s files ds is calm given.
-    let said = told (line_of_breceive runs.end) (status_of_breceive runs.end) runs.between after status runs.tells
-    (λ rose. calm.calm.well.out (Rose-since before.out_faults runs.between.out_faults after.out_faults
-    runs.did.later rose)) in
+    let said = told_since before runs.did.later calm.calm.well.out runs.tells in
     let all = all_shown s (met_by BYTE_FORMAT s.number ds) in
     let totals = session_totals_in BYTE_FORMAT s ds in
     let done = completes_bytes from session layers before runs.between runs.end runs.did s files ds is
     (record {
       memory = λ none. calm.calm.memory (said.ended ∙ ap status_of_breceive none);
-      well = record {
-        place = λ had. calm.calm.well.place
-            (subst (λ (now : Seen). Failed (byte_uses_of from layers) before.place now) (sym said.place) had);
-        out = λ rose. calm.calm.well.out
-            (Rose-before before.out_faults runs.between.out_faults after.out_faults said.later rose);
-      };
+      well = well_before said calm.calm.well;
       link = λ failed. calm.link (subst (λ (l : LinkSeen). BoundFailed from before.link l) (sym said.link) failed);
       given = given;
     }) in
@@ -181,34 +131,9 @@ breceive_completes from session layers before after status runs = λ s files ds 
       left = bytes_left s from layers files ds before runs.between after said.place said.link done.0;
       ends =
           ends_with _ status _ before after (said.ended ∙ ap status_of_breceive done.1 ∙ bytes_status all totals)
-          (lines_told from (line_of_breceive runs.end) (byte_session_numbers s ds) (fault_text status) before runs.between
+          (lines_told from (line_of_breceive runs.end) (byte_session_numbers s ds) (fault_text status) before
+          runs.between
           after done.2 said.printed said.link (ap line_of_breceive done.1 ∙ bytes_line all totals));
-    }
-
-pub breceive_no_memory : (from : Way) (session layers : List ℕ) (before after : OutsideSeen) (status : Status)
-    → Tells [] NoMemory before after status → RunsBreceive from session layers before after status
-breceive_no_memory from session layers before after status tells =
-    unread line_of_breceive status_of_breceive (ReceivesBytes from session layers) byte.NoMemory before after status
-    (no_bytes_received from session layers before) tells tells
-
--- so `breceive` ends, whatever is then told of it
-pub breceive_ends_as : (l layers : List ℕ) (way : Way) (from : End) (session : List ℕ) (before between : OutsideSeen)
-    (end : ByteEnd)
-    → way ≡ way_in from → l ≡ layers → ReceivesBytes way session l before between end
-    → PlaceStops (byte_of_place end) before.place between.place
-    → LinkStops (byte_of_link end) before.link between.link
-    → EndsAs (words.Breceive from session layers) before (run_end.Breceive end) between
-breceive_ends_as l layers way from session before between end from_is layers_is did once_place once_link =
-    record {
-      does = λ told status tells.
-          runs_with line_of_breceive status_of_breceive (ReceivesBytes (way_in from) session layers) (byte_of_place
-          end) (byte_of_link end) before between told status end (breceive_agrees end) (subst (λ (x : List ℕ).
-          ReceivesBytes (way_in from) session x before between end) layers_is
-          (subst (λ (x : Way). ReceivesBytes x session l before between end) from_is did)) (record {
-            place =
-                once_place;
-            link = once_link;
-          }) tells;
     }
 
 -- `relay`
@@ -244,9 +169,7 @@ relays_packets : (from : Way) (session : List ℕ) (to : Way) (before after : Ou
     → RunsRelay from session to before after status
     → RelaysPackets from session to before after status
 relays_packets from session to before after status runs = λ s files ds is calm given.
-    let said = told (line_of_relay runs.end) (status_of_relay runs.end) runs.between after status runs.tells
-    (λ rose. calm.calm.well.out (Rose-since before.out_faults runs.between.out_faults after.out_faults
-    runs.did.later rose)) in
+    let said = told_since before runs.did.later calm.calm.well.out runs.tells in
     let all = all_shown s (met_in s.number ds) in
     let many = length ds in
     let sent = length (relayed_datagrams s ds) in
@@ -256,12 +179,7 @@ relays_packets from session to before after status runs = λ s files ds is calm 
     let done = completes_relay from session to before runs.between runs.end runs.did s files ds is
     (record {
       memory = λ none. calm.calm.memory (said.ended ∙ ap status_of_relay none);
-      well = record {
-        place = λ had. calm.calm.well.place
-            (subst (λ (now : Seen). Failed (relay_uses from to) before.place now) (sym said.place) had);
-        out = λ rose. calm.calm.well.out
-            (Rose-before before.out_faults runs.between.out_faults after.out_faults said.later rose);
-      };
+      well = well_before said calm.calm.well;
       bound = λ at_from. failed (inl at_from);
       aimed = λ at_to. failed (inr at_to);
       given = given;
@@ -288,30 +206,6 @@ relay_completes from session to before after status runs =
       });
     }
 
-pub relay_no_memory : (from : Way) (session : List ℕ) (to : Way) (before after : OutsideSeen) (status : Status)
-    → Tells [] NoMemory before after status → RunsRelay from session to before after status
-relay_no_memory from session to before after status tells =
-    unread line_of_relay status_of_relay (DoesRelay from session to) relay.NoMemory before after status
-    (nothing_relayed from session to before) tells tells
-
--- so `relay` ends, whatever is then told of it
-pub relay_ends_as : (f t : Way) (from to : End) (session : List ℕ) (before between : OutsideSeen) (end : RelayEnd)
-    → f ≡ way_in from → t ≡ way_in to → DoesRelay f session t before between end
-    → PlaceStops (relay_end_of_place end) before.place between.place
-    → LinkStops (relay_end_of_link end) before.link between.link
-    → EndsAs (words.Relay from session to) before (run_end.Relay end) between
-relay_ends_as f t from to session before between end from_is to_is did once_place once_link =
-    record {
-      does = λ told status tells.
-          runs_with line_of_relay status_of_relay (DoesRelay (way_in from) session (way_in to)) (relay_end_of_place
-          end) (relay_end_of_link end) before between told status end (relay_agrees end) (subst (λ (x : Way).
-          DoesRelay (way_in from) session x before between end) to_is
-          (subst (λ (x : Way). DoesRelay x session t before between end) from_is did)) (record {
-            place = once_place;
-            link = once_link;
-          }) tells;
-    }
-
 -- `repair`
 pub repair_agrees : (end : RepairEnd)
     → Agrees (repair_of_place end) (repair_of_link end) (line_of_repair end) (status_of_repair end)
@@ -331,13 +225,11 @@ repairs_packets : (store : List ℕ) (to : Way) (before after : OutsideSeen) (st
     → RunsRepair store to before after status
     → RepairsPackets store to before after status
 repairs_packets store to before after status runs = λ s files pairs calm given.
-    let said = told (line_of_repair runs.end) (status_of_repair runs.end) runs.between after status runs.tells
-    (λ rose. calm.calm.well.out (subst (λ (n : ℕ). Rose n after.out_faults) runs.did.out_faults rose)) in
+    let said = told_calm before runs.did.out_faults calm.calm.well.out runs.tells in
     let done = completes_repair store to (routes_in before) (routes_in runs.between) runs.end runs.did.did s pairs files
     (record {
       memory = λ none. calm.calm.memory (said.ended ∙ ap status_of_repair none);
-      well = λ had. calm.calm.well.place
-          (subst (λ (now : Seen). Failed (repair_uses store to) before.place now) (sym said.place) had);
+      well = place_calm said calm.calm.well;
       link = λ had. calm.link (subst (λ (l : LinkSeen). AimedFailed to before.link l) (sym said.link) had);
       given = given;
     }) in (
@@ -360,32 +252,4 @@ repair_completes store to before after status runs =
         told = has.told;
         found = has.store_is;
       });
-    }
-
-pub repair_no_memory : (store : List ℕ) (to : Way) (before after : OutsideSeen) (status : Status)
-    → Tells [] NoMemory before after status → RunsRepair store to before after status
-repair_no_memory store to before after status tells =
-    unread line_of_repair status_of_repair (OnRoutes (Repairs store to)) repair.NoMemory before after status
-    (record { written = refl; out_faults = refl; did = inl (refl, refl) }) tells tells
-
--- so `repair` ends, whatever is then told of it
-pub repair_ends_as : (s store : List ℕ) (way : Way) (to : End) (before between : OutsideSeen) (end : RepairEnd)
-    → s ≡ store → way ≡ way_in to → between.written ≡ before.written → between.out_faults ≡ before.out_faults
-    → Repairs s way (routes_in before) (routes_in between) end
-    → PlaceStops (repair_of_place end) before.place between.place
-    → LinkStops (repair_of_link end) before.link between.link
-    → EndsAs (words.Repair store to) before (run_end.Repair end) between
-repair_ends_as s store way to before between end store_is to_is written faults did once_place once_link =
-    record {
-      does = λ told status tells.
-          runs_with line_of_repair status_of_repair (OnRoutes (Repairs store (way_in to))) (repair_of_place end)
-          (repair_of_link end) before between told status end (repair_agrees end)
-          (record {
-            written = written;
-            out_faults = faults;
-            did =
-                subst (λ (x : Way). Repairs store x (routes_in before) (routes_in between) end) to_is
-                (subst (λ (x : List ℕ). Repairs x way (routes_in before) (routes_in between) end) store_is did);
-          })
-          (record { place = once_place; link = once_link }) tells;
     }

@@ -9,29 +9,21 @@ use Rattle.command_plan.proofs.least.stripe_starts.Goals as goal
 pub loop-repeat-init : goal.loop-repeat-init
 loop-repeat-init c = record { at = refl; starts = c.new-starts.ensures.items }
 
+-- what stands past the end
+abbrev none : Repeat
+none = record { length = 0; times = 0 }
+
 pub push_starts-requires : goal.push_starts-requires
 push_starts-requires c =
-    omega (
-      arith,
-      row_within c.args.repeats.now c.loop-repeat.repeat-index
-          (record { length = 0; times = 0 }) c.loop-repeat-test.true,
-    )
+    omega (arith, row_within c.args.repeats.now c.loop-repeat.repeat-index none c.loop-repeat-test.true)
 
 pub overflow_mul-at : goal.overflow_mul-at
 overflow_mul-at c =
-    omega (
-      arith,
-      row_within c.args.repeats.now c.loop-repeat.repeat-index
-          (record { length = 0; times = 0 }) c.loop-repeat-test.true,
-    )
+    omega (arith, row_within c.args.repeats.now c.loop-repeat.repeat-index none c.loop-repeat-test.true)
 
 pub overflow_add-at : goal.overflow_add-at
 overflow_add-at c =
-    omega (
-      arith,
-      row_within c.args.repeats.now c.loop-repeat.repeat-index
-          (record { length = 0; times = 0 }) c.loop-repeat-test.true,
-    )
+    omega (arith, row_within c.args.repeats.now c.loop-repeat.repeat-index none c.loop-repeat-test.true)
 
 pub loop-repeat-preserved : goal.loop-repeat-preserved
 loop-repeat-preserved c =

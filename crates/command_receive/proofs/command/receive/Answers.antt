@@ -32,8 +32,7 @@ returns-in-Ok-clause-receives g c =
 
 pub returns-in-Ok-clause-completes : goal.returns-in-Ok-clause-completes
 returns-in-Ok-clause-completes g c =
-    completes_receive (way_of c.args.from) c.args.session c.args.layers.now c.args.store.now _ _ c.end_after.result
-    (returns-in-Ok-clause-receives g c)
+    completes_receive _ _ _ _ _ _ c.end_after.result (returns-in-Ok-clause-receives g c)
 
 pub returns-in-Ok-clause-named : goal.returns-in-Ok-clause-named
 returns-in-Ok-clause-named g c =
@@ -56,8 +55,7 @@ returns-in-Err-clause-receives g c =
 
 pub returns-in-Err-clause-completes : goal.returns-in-Err-clause-completes
 returns-in-Err-clause-completes g c =
-    completes_receive (way_of c.args.from) c.args.session c.args.layers.now c.args.store.now _ _ c.stopped.result
-    (returns-in-Err-clause-receives g c)
+    completes_receive _ _ _ _ _ _ c.stopped.result (returns-in-Err-clause-receives g c)
 
 pub returns-in-Err-clause-named : goal.returns-in-Err-clause-named
 returns-in-Err-clause-named g c =

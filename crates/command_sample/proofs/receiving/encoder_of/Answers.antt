@@ -1,10 +1,12 @@
-use Rattle.std.proofs.Common.{◌≡◌, ◌*◌, ◌<◌, ◌++◌, length, get_or, List, ℕ, Some, refl, ap, ap₂, sym, ◌∙◌, arith}
+use Rattle.std.proofs.Common.{◌≡◌, ◌*◌, ◌<◌, ◌++◌, length, get_or, List, ℕ, Some, Result, Ok, refl, ap, ap₂, sym, ◌∙◌}
+use Rattle.std.proofs.Common.{arith}
 use Rattle.std.specs.Prelude.{slice_get}
 use Rattle.std.proofs.lemmas.Option.{slice_get-get_or}
 use Rattle.stripe_plan.specs.Layers.{needs_of}
 use Rattle.stripe_plan.specs.Sizes.{Sizes}
-use Rattle.packet_frame.specs.declared.frame.Header.{Header}
 use Rattle.layer_split.specs.Layers.{message}
+use Rattle.command_sample.specs.declared.made.Made.{Made}
+use Rattle.command_sample.specs.inside.Making.{IsMade}
 use Rattle.command_sample.proofs.Encoders.{as_many_tables, cuts_few, lengths_so, message_whole, packets_so, runs_inside}
 use Rattle.command_sample.proofs.Encoders.{same_ok, source_so, table_is}
 use Rattle.command_sample.proofs.receiving.encoder_of.Goals as goal
@@ -13,6 +15,14 @@ use Rattle.command_sample.proofs.receiving.encoder_of.Goals as goal
 found : {A : Type 0} (xs : List A) (i : ℕ) (x : A) → i < length xs → x ≡ get_or xs i x
     → slice_get xs i ≡ Some x
 found xs i x low is = slice_get-get_or xs i x low ∙ ap Some (sym is)
+
+-- the table of a group is what was cloned of it
+cloned : {E : Type 0} (made : Made) (is : IsMade made) (group : ℕ) (table clone : Sizes) → group < length made.cuts.items
+    → table ≡ get_or made.plan.tables.items group table → ◌≡◌ {A = Result Sizes E} (Ok clone) (Ok table)
+    → slice_get made.plan.tables.items group ≡ Some clone
+cloned made is group table clone low there same =
+    found made.plan.tables.items group table (omega (arith, low, as_many_tables made is)) there
+    ∙ ap Some (sym (same_ok clone table same))
 
 pub message-requires-clause-inside : goal.message-requires-clause-inside
 message-requires-clause-inside c =
@@ -63,19 +73,10 @@ pub returns-clause-source : goal.returns-clause-source
 returns-clause-source c =
     let made = c.args.made.now in
     let cut = c.index.result.now in
-    let table = c.index-2.result.now in
-    let header : Header = record {
-      session = made.plan.number;
-      groups = c.len.result;
-      group = c.args.group;
-      table = c.in_ok-clone.field-0;
-    } in
     source_so made c.requires.made c.args.group cut
-    (found made.cuts.items c.args.group cut c.requires.group c.index.ensures) c.new.result header c.deref-2.result.now
+    (found made.cuts.items c.args.group cut c.requires.group c.index.ensures) c.new.result _ c.deref-2.result.now
     c.new.ensures.header c.new.ensures.message
-    (found made.plan.tables.items c.args.group table
-    (omega (arith, c.requires.group, as_many_tables made c.requires.made)) c.index-2.ensures
-    ∙ ap Some (sym (same_ok c.in_ok-clone.field-0 table c.in_ok-clone.ensures)))
+    (cloned made c.requires.made c.args.group _ _ c.requires.group c.index-2.ensures c.in_ok-clone.ensures)
     refl (omega (arith, c.len.ensures)) refl
     (c.deref-2.ensures.value ∙ c.in_ok-message.ensures.ok
     ∙ ap₂ (λ (l m : List ℕ). l ++ message m cut.runs (length cut.lengths)) c.new-bytes.ensures.items
@@ -83,18 +84,7 @@ returns-clause-source c =
 
 pub returns-clause-packets : goal.returns-clause-packets
 returns-clause-packets c =
-    let made = c.args.made.now in
-    let cut = c.index.result.now in
-    let table = c.index-2.result.now in
-    let header : Header = record {
-      session = made.plan.number;
-      groups = c.len.result;
-      group = c.args.group;
-      table = c.in_ok-clone.field-0;
-    } in
-    packets_so made c.requires.made c.args.group cut
-    (found made.cuts.items c.args.group cut c.requires.group c.index.ensures) c.new.result header c.deref-2.result.now
+    packets_so c.args.made.now c.requires.made c.args.group _
+    (found c.args.made.now.cuts.items c.args.group _ c.requires.group c.index.ensures) c.new.result _ _
     c.new.ensures.header c.new.ensures.message
-    (found made.plan.tables.items c.args.group table
-    (omega (arith, c.requires.group, as_many_tables made c.requires.made)) c.index-2.ensures
-    ∙ ap Some (sym (same_ok c.in_ok-clone.field-0 table c.in_ok-clone.ensures)))
+    (cloned _ c.requires.made c.args.group _ _ c.requires.group c.index-2.ensures c.in_ok-clone.ensures)

@@ -1,8 +1,8 @@
-use Rattle.std.proofs.Common.{Bool, ap, sym, subst, ◌∙◌}
+use Rattle.std.proofs.Common.{Bool, ap, sym, subst}
 use Rattle.packet_reading.specs.Begun.{OutStops}
 use Rattle.pet_base.specs.Lent.{seen}
 use Rattle.pet_keep.specs.Keeps.{end_of_output}
-use Rattle.pet_keep.proofs.CameSoFar.{output_of_end, read_to_end}
+use Rattle.pet_keep.proofs.CameSoFar.{read_to_end}
 use Rattle.pet_keep.proofs.keeping.keep_to_end.Goals as goal
 
 pub returns-in-Ok-clause-out : goal.returns-in-Ok-clause-out
@@ -13,4 +13,4 @@ returns-in-Ok-clause-out g c =
 pub returns-in-Err-clause-out : goal.returns-in-Err-clause-out
 returns-in-Err-clause-out g c =
     subst (λ (failed : Bool). OutStops failed (seen c.args.outside.now) (seen c.keep_from.new.outside))
-    (output_of_end c.in-Err.stop ∙ ap end_of_output (sym c.end_of_stop.ensures)) c.in-Err.ensures.out
+    (ap end_of_output (sym c.end_of_stop.ensures)) c.in-Err.ensures.out

@@ -1,6 +1,6 @@
 use Rattle.std.proofs.Common.{ℕ, List, ◌<◌, length, refl, ap, arith}
 use Rattle.outside_files.specs.laws.PrintedLaws.{line_put, count_once}
-use Rattle.pet_tool.proofs.top.put_line.Goals as goal
+use Rattle.pet_text.proofs.told.put_line.Goals as goal
 
 pub returns-clause-prints : goal.returns-clause-prints
 returns-clause-prints g c =
