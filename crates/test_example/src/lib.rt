@@ -8,9 +8,11 @@
 mod byte_entries;
 mod entries;
 mod old_stores;
+mod rows;
 mod source;
 
 pub use byte_entries::{BYTE_ENTRY_LENGTH, byte_packets};
 pub use entries::{ENTRY_LENGTH, packets};
 pub use old_stores::{OLD_EMPTY_STORE, old_store, old_wide_store};
+pub use rows::{first_number_wrong, first_wrong};
 pub use source::{PLAN, PRIORITIES, SESSION, STREAM};

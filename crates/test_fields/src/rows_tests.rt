@@ -6,7 +6,6 @@ use crate::{digest, words};
 use field_elements::Gf16Plain;
 use field_rows::{Block, MAX_WIDTH, Rows, block_values, lay_out, push_stripe};
 use pet_base::{NoMemory, Steps};
-use pet_field::Gf16Tables;
 use std::alloc::{AllocError, Global};
 use std::marker::Brand;
 use std::sync::ledger::{Blank, Ledger};
@@ -116,42 +115,24 @@ fn digests<F: Rows<Elem = u16>, L: Ledger>(
     Ok([first, second, third])
 }
 
-/// The number of the first row of a table whose digests are others, or how many rows there are.
-fn first_wrong<F: Rows<Elem = u16>>(
-    alloc: Global,
-    f: &F,
-    cases: &[[u32; 6]],
-) -> Result<usize, AllocError>
+/// Whether the digests of a row of the table are so.
+fn is_so<F: Rows<Elem = u16>>(alloc: Global, f: &F, case: &[u32; 6]) -> bool
     requires all { (a : ℕ) → a < 65536 → F.is_element a }
 {
-    let mut right = 0;
-    for case in cases {
-        let [count, width, x, values, scaled, added] = *case;
-        if count > 40 || width > 32 || x > 65_535 {
-            return Ok(right);
-        }
-        let (count, width) = (count as usize, width as usize);
-        let found = digests::<F, Brand>(alloc, f, count, width, x as u16, Blank::new(1))?;
-        if found != [values, scaled, added] {
-            return Ok(right);
-        }
-        right = right.saturating_add(1);
+    let [count, width, x, values, scaled, added] = *case;
+    if count > 40 || width > 32 || x > 65_535 {
+        return false;
     }
-    Ok(right)
+    let (count, width) = (count as usize, width as usize);
+    let found = digests::<F, Brand>(alloc, f, count, width, x as u16, Blank::new(1));
+    found == Ok([values, scaled, added])
 }
 
-#[test]
-fn agrees_with_a_model(rt: HostRuntime) {
-    let alloc = rt.alloc();
-    let tables = Gf16Tables::new(alloc).expect(&rt, "memory");
-    assert_eq!(rt;
-        first_wrong(alloc, &tables, &CASES).expect(&rt, "memory"),
-        8
-    );
-    assert_eq!(rt;
-        first_wrong(alloc, &Gf16Plain, &CASES).expect(&rt, "memory"),
-        8
-    );
+/// The number of the first row of the table that is not so.
+pub(crate) fn first_other<F: Rows<Elem = u16>>(alloc: Global, f: &F) -> Option<usize>
+    requires all { (a : ℕ) → a < 65536 → F.is_element a }
+{
+    CASES.iter().position(|case| !is_so(alloc, f, case))
 }
 
 /// 36 stripes of three, two and one elements, in blocks.

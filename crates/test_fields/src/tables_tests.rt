@@ -1,5 +1,6 @@
 //! Products and inverses of the field of 65,536 elements by tables, and its other calls.
-use crate::field_tests::{spelt_product, wrong_rows};
+use crate::field_tests::spelt_product;
+use crate::has_product_and_inverse;
 use field_elements::Field;
 use pet_field::Gf16Tables;
 use std::marker::Brand;
@@ -70,11 +71,17 @@ const VECTORS: [[u16; 4]; 60] = [
     [0x8925, 0xcd9b, 0x510b, 0xfa03],
 ];
 
+/// Whether a row is so.
+fn is_so(field: &Gf16Tables, row: &[u16; 4]) -> bool {
+    let [a, b, product, inverse] = *row;
+    let others = (product, inverse);
+    has_product_and_inverse::<Gf16Tables, Brand>(field, a, b, others, Blank::new(1))
+}
+
 #[test]
 fn agrees_with_a_model(rt: HostRuntime) {
     let field = Gf16Tables::new(rt.alloc()).expect(&rt, "memory");
-    let wrong = wrong_rows::<Gf16Tables, Brand>(&field, &VECTORS, Blank::new(1));
-    assert_eq!(rt; wrong, 0);
+    assert_eq!(rt; VECTORS.iter().position(|row| !is_so(&field, row)), None);
 }
 
 #[test]

@@ -2,10 +2,8 @@
 ghost use Rattle.std.specs.Prelude.{◌≡◌, ◌+◌, ◌*◌, ◌<◌, ◌≤◌, ◌^◌, length, slice_index, IfOk, ℕ, vec_len};
 
 use crate::digest;
-use field_elements::Gf16Plain;
 use field_transform::{Subspaces, convert, values, values_at_coset};
 use pet_base::Steps;
-use pet_field::Gf16Tables;
 use std::alloc::{AllocError, Global};
 use std::marker::Brand;
 use std::sync::ledger::{Blank, Ledger};
@@ -122,50 +120,29 @@ fn digests<F: Subspaces<Elem = u16>, L: Ledger>(
     Ok((digest(&rows[..end]), digest(&converted[..end])))
 }
 
-/// The number of the first row of the table whose digest is another, or how many rows there are.
-fn first_wrong<F: Subspaces<Elem = u16>>(alloc: Global, f: &F) -> Result<usize, AllocError>
+/// Whether both digests of a row of the table are so.
+fn is_so<F: Subspaces<Elem = u16>>(alloc: Global, f: &F, case: &[u32; 6]) -> bool
     requires levels { 8 ≤ F.LEVELS }
     requires count { F.COUNT ≡ 65536 }
     requires all { (a : ℕ) → a < 65536 → F.is_element a }
     requires nothing { F.coding.ops.nought ≡ 0 }
 {
-    let mut right = 0;
-    for [width, level, known, block, count, digest] in CASES {
-        let size = 1 << level.min(7);
-        if width > 100 || level > 7 || known > size || count > size || block > 65_535 >> level {
-            return Ok(right);
-        }
-        let found = digests::<F, Brand>(
-            alloc,
-            f,
-            width as usize,
-            level,
-            known as usize,
-            block,
-            count as usize,
-            Blank::new(1),
-        )?;
-        if found != (digest, digest) {
-            return Ok(right);
-        }
-        right = right.saturating_add(1);
+    let [width, level, known, block, count, digest] = *case;
+    let size = 1 << level.min(7);
+    if width > 100 || level > 7 || known > size || count > size || block > 65_535 >> level {
+        return false;
     }
-    Ok(right)
+    let (width, known, count) = (width as usize, known as usize, count as usize);
+    let blank = Blank::new(1);
+    digests::<F, Brand>(alloc, f, width, level, known, block, count, blank) == Ok((digest, digest))
 }
 
-#[test]
-fn agrees_with_a_model(rt: HostRuntime) {
-    let tables = Gf16Tables::new(rt.alloc()).expect(&rt, "memory");
-    assert_eq!(rt;
-        first_wrong(rt.alloc(), &tables).expect(&rt, "memory"),
-        CASES.len()
-    );
-}
-
-#[test]
-fn agrees_with_a_model_by_single_products(rt: HostRuntime) {
-    assert_eq!(rt;
-        first_wrong(rt.alloc(), &Gf16Plain).expect(&rt, "memory"),
-        CASES.len()
-    );
+/// The number of the first row of the table that is not so.
+pub(crate) fn first_other<F: Subspaces<Elem = u16>>(alloc: Global, f: &F) -> Option<usize>
+    requires levels { 8 ≤ F.LEVELS }
+    requires count { F.COUNT ≡ 65536 }
+    requires all { (a : ℕ) → a < 65536 → F.is_element a }
+    requires nothing { F.coding.ops.nought ≡ 0 }
+{
+    CASES.iter().position(|case| !is_so(alloc, f, case))
 }

@@ -2,11 +2,9 @@
 ghost use Rattle.std.specs.Prelude.{◌≡◌, ℕ, ◌+◌, ◌*◌, ◌<◌, ◌≤◌, length};
 
 use crate::{digest, words};
-use field_elements::Gf16Plain;
 use field_rows::{Block, MAX_WIDTH};
 use field_values::AllValues;
 use pet_base::{MAX_PACKETS, NoMemory, Steps};
-use pet_field::Gf16Tables;
 use std::alloc::Global;
 use std::marker::Brand;
 use std::sync::ledger::{Blank, Ledger};
@@ -69,45 +67,27 @@ fn digest_of_values<F: AllValues<Elem = u16>, L: Ledger>(
     values(alloc, f, &rows, block, first, count, &mut steps)
 }
 
-/// The number of the first row of a table whose digest is another, or how many rows there are.
-fn first_wrong<F: AllValues<Elem = u16>>(
-    alloc: Global,
-    f: &F,
-    cases: &[[u32; 5]],
-) -> Result<usize, NoMemory>
+/// Whether the digest of a row of the table is so.
+fn is_so<F: AllValues<Elem = u16>>(alloc: Global, f: &F, case: &[u32; 5]) -> bool
     requires all { (a : ℕ) → a < 65536 → F.is_element a }
     requires points { 4096 ≤ F.COUNT }
 {
-    let mut right = 0;
-    for case in cases {
-        let [length, width, first, count, digest] = *case;
-        if length > 4_096 || width > 32 || first > 4_096 || count > 4_096 - first {
-            return Ok(right);
-        }
-        let block = Block {
-            length: length as usize,
-            width: width as usize,
-        };
-        let (first, count) = (first as usize, count as usize);
-        let found = digest_of_values::<F, Brand>(alloc, f, block, first, count, Blank::new(1))?;
-        if found != digest {
-            return Ok(right);
-        }
-        right = right.saturating_add(1);
+    let [length, width, first, count, digest] = *case;
+    if length > 4_096 || width > 32 || first > 4_096 || count > 4_096 - first {
+        return false;
     }
-    Ok(right)
+    let block = Block {
+        length: length as usize,
+        width: width as usize,
+    };
+    let (first, count) = (first as usize, count as usize);
+    digest_of_values::<F, Brand>(alloc, f, block, first, count, Blank::new(1)) == Ok(digest)
 }
 
-#[test]
-fn agrees_with_a_model(rt: HostRuntime) {
-    let alloc = rt.alloc();
-    let tables = Gf16Tables::new(alloc).expect(&rt, "memory");
-    assert_eq!(rt;
-        first_wrong(alloc, &tables, &CASES).expect(&rt, "memory"),
-        10
-    );
-    assert_eq!(rt;
-        first_wrong(alloc, &Gf16Plain, &CASES).expect(&rt, "memory"),
-        10
-    );
+/// The number of the first row of the table that is not so.
+pub(crate) fn first_other<F: AllValues<Elem = u16>>(alloc: Global, f: &F) -> Option<usize>
+    requires all { (a : ℕ) → a < 65536 → F.is_element a }
+    requires points { 4096 ≤ F.COUNT }
+{
+    CASES.iter().position(|case| !is_so(alloc, f, case))
 }

@@ -2,17 +2,10 @@
 //! has the packets that came, and what was written and printed is a front of what a run writes and prints.
 use crate::fixtures::{ALL, ORDER, datagrams, disk_of, entries_of, is_journal, store_of};
 use crate::keeping::{BY_FILE, BY_LINK, Ended, Given, keep_given};
-use pet_base::{MemoryLink, MemoryPlace, MemorySink, NoMemory};
+use pet_base::NoMemory;
 use pet_keep::KeepStatus;
 use std::alloc::Global;
-
-/// What fails.
-#[derive(Clone, Copy)]
-enum Object {
-    Files,
-    Link,
-    Output,
-}
+use test_outside::{Object, is_front, objects_failing};
 
 /// The words; what is printed; and how many calls a run makes of the link and of the output.
 type Row = (&'static [&'static str], &'static str, [u64; 2]);
@@ -27,52 +20,15 @@ const MOST_CALLS: u64 = 100;
 
 /// What a run is given where this call of this object fails, or every one from it on.
 fn given(alloc: Global, object: Object, call: u64, on: bool) -> Result<Given, NoMemory> {
-    let mut failing = Vec::new(alloc);
-    if !on {
-        failing.push(call)?;
-    }
-    let none = Vec::new(alloc);
-    let feed = datagrams(alloc)?;
-    let (mut place, mut link, mut out) = match object {
-        Object::Files => (
-            MemoryPlace::new(alloc, failing),
-            MemoryLink::new(alloc, feed, none),
-            MemorySink::new(alloc, Vec::new(alloc)),
-        ),
-        Object::Link => (
-            MemoryPlace::new(alloc, none),
-            MemoryLink::new(alloc, feed, failing),
-            MemorySink::new(alloc, Vec::new(alloc)),
-        ),
-        Object::Output => (
-            MemoryPlace::new(alloc, none),
-            MemoryLink::new(alloc, feed, Vec::new(alloc)),
-            MemorySink::new(alloc, failing),
-        ),
-    };
+    let fails = (object, call, on);
+    let (mut place, link, out) = objects_failing(alloc, datagrams(alloc)?, fails)?;
     place.add("q", &entries_of(alloc, &ORDER)?)?;
-    if on {
-        match object {
-            Object::Files => place.failing_from(call),
-            Object::Link => link.failing_from(call),
-            Object::Output => out.failing_from(call),
-        }
-    }
     Ok(Given {
         disk: disk_of(alloc, b"", None)?,
         place,
         link,
         out,
     })
-}
-
-/// Whether these bytes are a front of those, or all of them where they must be whole.
-fn is_front(bytes: &[u8], all: &[u8], whole: bool) -> bool {
-    if whole {
-        bytes == all
-    } else {
-        all.get(..bytes.len()) == Some(bytes)
-    }
 }
 
 /// Whether the journal is whole and on the disk, of all packets or else of the first so many that came.

@@ -4,6 +4,7 @@ use crate::keeping::{Ended, keep_packets};
 use pet_base::NoMemory;
 use pet_keep::{KeepStatus, MemoryDisk};
 use std::alloc::Global;
+use test_example::first_number_wrong;
 
 /// How many calls the first run makes of its disk: four to begin a journal, and four for each packet.
 const CALLS: u64 = 12;
@@ -51,24 +52,24 @@ fn surely_kept(calls: u64) -> usize {
     (calls.saturating_sub(4) / 4 % 256) as usize
 }
 
-/// The first call at which the first run stops and what it leaves is otherwise than it is to be.
-fn first_otherwise(alloc: Global) -> Result<Option<u64>, NoMemory> {
-    for call in 0..=CALLS {
-        let first = keep_packets(alloc, disk_of(alloc, b"", Some(call))?, &[3, 0])?;
-        let so = is_stopped(&first) == (call < CALLS);
-        for bytes in [first.disk.bytes(), first.disk.synced()] {
-            if !so || !has_front(alloc, bytes, surely_kept(call))? || !goes_on(alloc, bytes)? {
-                return Ok(Some(call));
-            }
+/// Whether the first run stops at this call where it is to, and what it leaves is as it is to be.
+fn is_left(alloc: Global, call: u64) -> Result<bool, NoMemory> {
+    let first = keep_packets(alloc, disk_of(alloc, b"", Some(call))?, &[3, 0])?;
+    let so = is_stopped(&first) == (call < CALLS);
+    for bytes in [first.disk.bytes(), first.disk.synced()] {
+        if !so || !has_front(alloc, bytes, surely_kept(call))? || !goes_on(alloc, bytes)? {
+            return Ok(false);
         }
     }
-    Ok(None)
+    Ok(true)
 }
 
 #[test]
-fn goes_on_from_each_stop_of_the_first_run(rt: HostRuntime) -> Result<(), NoMemory> {
-    assert_eq!(rt; first_otherwise(rt.alloc())?, None);
-    Ok(())
+fn goes_on_from_each_stop_of_the_first_run(rt: HostRuntime) {
+    assert_eq!(rt;
+        first_number_wrong(CALLS, |call| is_left(rt.alloc(), call)),
+        None
+    );
 }
 
 /// A disk of no bytes, of which this one call fails.
@@ -91,19 +92,18 @@ fn is_so(alloc: Global, disk: MemoryDisk, call: u64) -> Result<bool, NoMemory> {
     )
 }
 
-/// The first call that fails where a run is otherwise: that call alone, or each from it on.
-fn first_failing_otherwise(alloc: Global) -> Result<Option<u64>, NoMemory> {
-    for call in 0..=ALL_CALLS {
-        let once = is_so(alloc, failing_once(alloc, call)?, call)?;
-        if !once || !is_so(alloc, disk_of(alloc, b"", Some(call))?, call)? {
-            return Ok(Some(call));
-        }
-    }
-    Ok(None)
+/// Whether a run is so where this call fails alone, and where each from it on does.
+fn stops_and_goes_on(alloc: Global, call: u64) -> Result<bool, NoMemory> {
+    Ok(
+        is_so(alloc, failing_once(alloc, call)?, call)?
+            && is_so(alloc, disk_of(alloc, b"", Some(call))?, call)?,
+    )
 }
 
 #[test]
-fn stops_at_each_call_that_fails(rt: HostRuntime) -> Result<(), NoMemory> {
-    assert_eq!(rt; first_failing_otherwise(rt.alloc())?, None);
-    Ok(())
+fn stops_at_each_call_that_fails(rt: HostRuntime) {
+    assert_eq!(rt;
+        first_number_wrong(ALL_CALLS, |call| stops_and_goes_on(rt.alloc(), call)),
+        None
+    );
 }

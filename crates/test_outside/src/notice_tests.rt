@@ -61,28 +61,6 @@ static UNAIMED: [Row; 2] = [
     ),
 ];
 
-/// The first file that is read, or that fails with other words.
-fn first_read(place: &mut FilePlace<'_, HostRuntime, &Heard>, heard: &Heard) -> Option<usize> {
-    for row in 0..UNREAD.len() {
-        let (name, line) = UNREAD[row];
-        if place.enter(name).is_ok() || !heard.is(line) {
-            return Some(row);
-        }
-    }
-    None
-}
-
-/// The first file that is made, or that fails with other words.
-fn first_made(place: &mut FilePlace<'_, HostRuntime, &Heard>, heard: &Heard) -> Option<usize> {
-    for row in 0..UNMADE.len() {
-        let (name, line) = UNMADE[row];
-        if place.create(name).is_ok() || !heard.is(line) {
-            return Some(row);
-        }
-    }
-    None
-}
-
 /// The letters of a long name, and how many of them are shown before three dots.
 const LETTERS: usize = 600;
 
@@ -109,8 +87,10 @@ fn cuts_a_long_name(
 fn it_is_said_why_a_file_cannot_be_opened(rt: HostRuntime) -> Result<(), Fail> {
     let heard = Heard::new(rt.alloc());
     let mut place = FilePlace::new(&rt, &heard);
-    assert_eq!(rt; first_read(&mut place, &heard), None);
-    assert_eq!(rt; first_made(&mut place, &heard), None);
+    let is_read = |row: &Row| place.enter(row.0).is_ok() || !heard.is(row.1);
+    assert_eq!(rt; UNREAD.iter().position(is_read), None);
+    let is_made = |row: &Row| place.create(row.0).is_ok() || !heard.is(row.1);
+    assert_eq!(rt; UNMADE.iter().position(is_made), None);
     assert!(rt; cuts_a_long_name(rt.alloc(), &mut place, &heard)?);
     Ok(())
 }
@@ -171,28 +151,6 @@ fn it_is_said_why_a_file_cannot_be_read_or_written(rt: HostRuntime) {
     assert!(rt; says_what_the_system_says(&mut place, &heard));
 }
 
-/// The first address at which something is received, or that fails with other words.
-fn first_bound(link: &mut UdpLink<'_, HostRuntime, &Heard>, heard: &Heard) -> Option<usize> {
-    for row in 0..UNBOUND.len() {
-        let (address, line) = UNBOUND[row];
-        if link.bind(address).is_ok() || !heard.is(line) {
-            return Some(row);
-        }
-    }
-    None
-}
-
-/// The first address to which something is sent, or that fails with other words.
-fn first_aimed(link: &mut UdpLink<'_, HostRuntime, &Heard>, heard: &Heard) -> Option<usize> {
-    for row in 0..UNAIMED.len() {
-        let (address, line) = UNAIMED[row];
-        if link.aim(address).is_ok() || !heard.is(line) {
-            return Some(row);
-        }
-    }
-    None
-}
-
 /// One byte more than a datagram may have over IPv4.
 const TOO_LONG: usize = 65_508;
 
@@ -212,8 +170,10 @@ fn says_where_it_sends(
 fn it_is_said_why_an_address_cannot_be_used(rt: HostRuntime) -> Result<(), Fail> {
     let heard = Heard::new(rt.alloc());
     let mut link = UdpLink::new(rt.alloc(), &rt, &heard);
-    assert_eq!(rt; first_bound(&mut link, &heard), None);
-    assert_eq!(rt; first_aimed(&mut link, &heard), None);
+    let is_bound = |row: &Row| link.bind(row.0).is_ok() || !heard.is(row.1);
+    assert_eq!(rt; UNBOUND.iter().position(is_bound), None);
+    let is_aimed = |row: &Row| link.aim(row.0).is_ok() || !heard.is(row.1);
+    assert_eq!(rt; UNAIMED.iter().position(is_aimed), None);
     assert!(rt; says_where_it_sends(rt.alloc(), &mut link, &heard)?);
     Ok(())
 }

@@ -1,17 +1,15 @@
 //! What the tests of all three commands share: a run of a command on objects in memory, and the first row of a table that it
 //! does not agree with.
-ghost use Rattle.std.specs.Prelude.{◌≡◌, ◌<◌};
-
 use crate::files::{File, add, holds};
 use crate::links::link_of;
 use command_merge::{MergeEnd, merge};
 use command_receive::{ReceiveEnd, receive};
 use command_video::{VideoEnd, video};
 use outside_routes::Route;
-use pet_base::{Link, MemoryPlace, MemorySink, NoMemory, Outside, Place, Sink, Steps};
+use pet_base::{Link, MemoryPlace, MemorySink, NoMemory, Outside, Place, Sink};
 use std::alloc::Global;
-use std::marker::Brand;
-use std::sync::ledger::{Blank, Ledger};
+use std::sync::ledger::Ledger;
+use test_outside::{Runs, run_on};
 
 /// A command, and how it ends.
 #[derive(Clone, Copy)]
@@ -50,62 +48,45 @@ pub(crate) fn first_wrong(alloc: Global, cases: &[Case]) -> Option<usize> {
 }
 
 /// Whether this case is so.
-fn is_so(alloc: Global, case: &Case) -> Result<bool, NoMemory> {
+pub(crate) fn is_so(alloc: Global, case: &Case) -> Result<bool, NoMemory> {
     let mut place = MemoryPlace::new(alloc, Vec::from_slice(alloc, case.1[1])?);
     add(alloc, &mut place, "a", case.0.0)?;
     add(alloc, &mut place, "b", case.0.1)?;
     Ok(
-        ends_so(alloc, case, &mut place)?
+        ends_so(alloc, (case.0.0, case.2, case.4), case.1, &mut place)?
             && holds(alloc, &place, "c", case.3.0)?
             && holds(alloc, &place, "d", case.3.1)?,
     )
 }
 
-/// Whether the command ends so on the place, prints this and sends nothing.
-fn ends_so(alloc: Global, case: &Case, place: &mut MemoryPlace) -> Result<bool, NoMemory> {
-    let mut link = link_of(alloc, case.0.0, case.1[0])?;
-    let mut out = MemorySink::new(alloc, Vec::from_slice(alloc, case.1[2])?);
-    let ended = runs::<Brand>(alloc, case.2, place, &mut link, &mut out, Blank::new(1));
-    Ok(ended && out.bytes() == case.4.as_bytes() && link.sent().is_empty())
+/// Whether the command, to which these entries come by the link, ends so on the place, prints this and sends nothing.
+pub(crate) fn ends_so(
+    alloc: Global,
+    (entries, run, printed): (Option<File>, Run, &str),
+    failing: [&[u64]; 3],
+    place: &mut MemoryPlace,
+) -> Result<bool, NoMemory> {
+    let mut link = link_of(alloc, entries, failing[0])?;
+    let mut out = MemorySink::new(alloc, Vec::from_slice(alloc, failing[2])?);
+    let ended = run_on(alloc, &run, place, &mut link, &mut out);
+    Ok(ended && out.bytes() == printed.as_bytes() && link.sent().is_empty())
 }
 
-/// Whether the command ends so on the place, the link and the output.
-pub(crate) fn runs<L: Ledger>(
-    alloc: Global,
-    run: Run,
-    place: &mut impl Place,
-    link: &mut impl Link,
-    out: &mut MemorySink,
-    blank: Blank,
-) -> bool
-    requires name { blank.name ≡ L.name }
-    requires parts { blank.parts ≡ L.parts }
-    requires some { 0 < blank.parts }
-{
-    let mut steps = Steps::<L>::new(blank);
-    let mut outside = Outside {
-        place,
-        link,
-        out,
-        steps: &mut steps,
-    };
-    ends(alloc, run, &mut outside)
-}
-
-/// Whether the command ends so on the outside.
-fn ends<P: Place, K: Link, S: Sink, L: Ledger>(
-    alloc: Global,
-    run: Run,
-    outside: &mut Outside<P, K, S, L>,
-) -> bool {
-    match run {
-        Run::Merge(end) => merge(alloc, "a", "b", "c", outside.place, outside.steps) == end,
-        Run::Video(end) => video(alloc, "a", "c", outside.place, outside.steps) == end,
-        Run::Receive(session, end) => {
-            receive(alloc, Route::File("a"), session, "c", "d", outside) == end
-        }
-        Run::Hear(session, end) => {
-            receive(alloc, Route::Udp("x:1"), session, "c", "d", outside) == end
+impl Runs<bool> for Run {
+    fn run<P: Place, K: Link, S: Sink, L: Ledger>(
+        &self,
+        alloc: Global,
+        outside: &mut Outside<P, K, S, L>,
+    ) -> bool {
+        match *self {
+            Run::Merge(end) => merge(alloc, "a", "b", "c", outside.place, outside.steps) == end,
+            Run::Video(end) => video(alloc, "a", "c", outside.place, outside.steps) == end,
+            Run::Receive(session, end) => {
+                receive(alloc, Route::File("a"), session, "c", "d", outside) == end
+            }
+            Run::Hear(session, end) => {
+                receive(alloc, Route::Udp("x:1"), session, "c", "d", outside) == end
+            }
         }
     }
 }

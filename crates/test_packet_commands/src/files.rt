@@ -4,6 +4,9 @@ use pet_base::{MemoryPlace, NoMemory};
 use std::alloc::{AllocError, Global};
 use test_example::{SESSION, packets};
 
+/// A packet's session; how many groups this has, and which is the packet's; and how many packets this has, and which it is.
+pub(crate) type Packet = ([u8; 8], [u8; 4]);
+
 /// A piece of a file.
 #[derive(Clone, Copy)]
 pub(crate) enum Piece {
@@ -12,41 +15,39 @@ pub(crate) enum Piece {
     Packet(usize),
     /// The head of a store of this session, of so many packets.
     Head([u8; 8], u8),
+    /// The entry of a packet that was made outside: the length and the need of each layer, and its words and its tag in hexadecimal digits.
+    Entry(Packet, &'static [(u8, u8)], &'static str),
+    /// Bytes in hexadecimal digits.
+    Hex(&'static str),
 }
 
 /// A file: its pieces on end.
 pub(crate) type File = &'static [Piece];
 
-/// The number of a session that is not the example's, and the tag of its store of no packet.
+/// The number of a session that is not the example's, the only packet of its only group, and the tag of its store of no packet.
 pub(crate) const OTHER_SESSION: [u8; 8] = [0, 1, 2, 3, 4, 5, 6, 7];
 
-pub(crate) const OTHER_TAG: [u8; 16] = [
-    0x00, 0xB5, 0x1C, 0x1E, 0x18, 0xF6, 0x71, 0x99, 0xA7, 0x56, 0x5F, 0x1C, 0x0E, 0x54, 0x74, 0x04,
-];
+pub(crate) const ONE: Packet = (OTHER_SESSION, [1, 0, 1, 0]);
+
+pub(crate) const OTHER_TAG: Piece = Piece::Hex("00B51C1E18F67199A7565F1C0E547404");
 
 /// The tags of stores of the example session: of no packet, of packets 2 and 5, and of all.
-const NOTHING_TAG: [u8; 16] = [
-    0xCC, 0xDB, 0x3B, 0x0A, 0x73, 0x3B, 0xD5, 0x31, 0x2E, 0x79, 0xFF, 0xE6, 0x7C, 0xC1, 0x0D, 0xAA,
-];
+const NOTHING_TAG: Piece = Piece::Hex("CCDB3B0A733BD5312E79FFE67CC10DAA");
 
-const TWO_AND_FIVE_TAG: [u8; 16] = [
-    0x4F, 0xFE, 0x1B, 0x34, 0x05, 0xC1, 0xD8, 0xC8, 0xA2, 0x62, 0x56, 0xD3, 0xBA, 0x20, 0x34, 0x1F,
-];
+const TWO_AND_FIVE_TAG: Piece = Piece::Hex("4FFE1B3405C1D8C8A26256D3BA20341F");
 
-const EXAMPLE_TAG: [u8; 16] = [
-    0x2B, 0x37, 0xBD, 0x5E, 0xDC, 0xAA, 0x9B, 0xE4, 0x63, 0x58, 0xD8, 0x67, 0x17, 0x7C, 0x77, 0xD2,
-];
+const EXAMPLE_TAG: Piece = Piece::Hex("2B37BD5EDCAA9BE46358D867177C77D2");
 
 /// The stores with these tags.
-pub(crate) const OTHER_NOTHING: File = &[Piece::Head(OTHER_SESSION, 0), Piece::Bytes(&OTHER_TAG)];
+pub(crate) const OTHER_NOTHING: File = &[Piece::Head(OTHER_SESSION, 0), OTHER_TAG];
 
-pub(crate) const NOTHING: File = &[Piece::Head(SESSION, 0), Piece::Bytes(&NOTHING_TAG)];
+pub(crate) const NOTHING: File = &[Piece::Head(SESSION, 0), NOTHING_TAG];
 
 pub(crate) const TWO_AND_FIVE: File = &[
     Piece::Head(SESSION, 2),
     Piece::Packet(2),
     Piece::Packet(5),
-    Piece::Bytes(&TWO_AND_FIVE_TAG),
+    TWO_AND_FIVE_TAG,
 ];
 
 pub(crate) const WHOLE: File = &[
@@ -57,7 +58,7 @@ pub(crate) const WHOLE: File = &[
     Piece::Packet(3),
     Piece::Packet(4),
     Piece::Packet(5),
-    Piece::Bytes(&EXAMPLE_TAG),
+    EXAMPLE_TAG,
 ];
 
 /// Puts a piece behind the bytes.
@@ -69,11 +70,53 @@ pub(crate) fn append(bytes: &mut Vec<u8>, piece: &Piece) -> Result<(), AllocErro
             None => Ok(()),
         },
         Piece::Head(session, count) => bytes.extend_from_slice(&store_head(session, *count)),
+        Piece::Entry(packet, layers, digits) => append_entry(bytes, packet, *layers, *digits),
+        Piece::Hex(digits) => append_digits(bytes, *digits),
+    }
+}
+
+/// Puts the entry of a packet behind the bytes.
+fn append_entry(
+    bytes: &mut Vec<u8>,
+    (session, [groups, group, packets, number]): &Packet,
+    layers: &[(u8, u8)],
+    digits: &str,
+) -> Result<(), AllocError> {
+    let mut frame = Vec::from_slice(*bytes.allocator(), b"PET2")?;
+    frame.extend_from_slice(session)?;
+    frame.extend_from_slice(&[0, 0, 0, *groups, 0, 0, 0, *group, 0, *packets, 0, *number])?;
+    frame.push((layers.len() % 256) as u8)?;
+    for (length, need) in layers {
+        frame.extend_from_slice(&[0, 0, 0, *length, 0, *need])?;
+    }
+    append_digits(&mut frame, digits)?;
+    bytes.extend_from_slice(&[0, (frame.len() % 256) as u8])?;
+    bytes.extend_from_slice(&frame)
+}
+
+/// Puts the bytes behind that have these digits, two each; a space stands between words and a tag.
+fn append_digits(bytes: &mut Vec<u8>, digits: &str) -> Result<(), AllocError> {
+    for part in digits.as_bytes().split(|digit| *digit == b' ') {
+        for pair in part.chunks(2) {
+            if let [high, low] = pair {
+                bytes.push(value_of(*high) << 4 | value_of(*low))?;
+            }
+        }
+    }
+    Ok(())
+}
+
+/// What a hexadecimal digit is worth.
+fn value_of(digit: u8) -> u8 {
+    match digit {
+        b'0'..=b'9' => digit - b'0',
+        b'A'..=b'F' => digit - b'A' + 10,
+        _ => 0,
     }
 }
 
 /// The bytes of a file.
-pub(crate) fn bytes_of(alloc: Global, file: File) -> Result<Vec<u8>, AllocError> {
+pub(crate) fn bytes_of(alloc: Global, file: &[Piece]) -> Result<Vec<u8>, AllocError> {
     let mut bytes = Vec::new(alloc);
     for piece in file {
         append(&mut bytes, piece)?;

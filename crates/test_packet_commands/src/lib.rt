@@ -27,10 +27,6 @@ mod receive_link_tests;
 #[cfg(test)]
 mod receive_tests;
 #[cfg(test)]
-mod run_table_fixtures;
-#[cfg(test)]
-mod untold;
-#[cfg(test)]
 mod video_fixtures;
 #[cfg(test)]
 mod video_tests;

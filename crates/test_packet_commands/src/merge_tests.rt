@@ -1,9 +1,10 @@
 //! `merge` of stores in memory that were made outside.
-use crate::cases::{ALL_GO, Case, Run, first_wrong};
+use crate::cases::{ALL_GO, Case, Run, first_wrong, is_so};
 use crate::files::{File, NOTHING, OTHER_NOTHING, OTHER_TAG, Piece, TWO_AND_FIVE, WHOLE, bytes_of};
 use crate::merge_fixtures::{OF_CHANGED, ONE_AND_TWO, THREE};
 use command_merge::MergeEnd;
-use std::alloc::Global;
+use pet_base::NoMemory;
+use std::alloc::{AllocError, Global};
 use store_text::StoreKind;
 use test_example::SESSION;
 
@@ -17,85 +18,46 @@ static LENGTHS: [(File, usize); 4] = [
     (WHOLE, 578),
 ];
 
-/// The number of the first store of another length.
-fn first_other(alloc: Global, stores: &[(File, usize)]) -> Option<usize> {
-    for row in 0..stores.len() {
-        let (store, length) = stores[row];
-        if !bytes_of(alloc, store).is_ok_and(|bytes| bytes.len() == length) {
-            return Some(row);
-        }
-    }
-    None
+/// Whether a store has this length.
+fn has_length(alloc: Global, (store, length): &(File, usize)) -> Result<bool, AllocError> {
+    Ok(bytes_of(alloc, *store)?.len() == *length)
 }
 
 #[test]
 fn stores_have_their_lengths(rt: HostRuntime) {
-    assert_eq!(rt; first_other(rt.alloc(), &LENGTHS), None);
+    assert_eq!(rt;
+        test_example::first_wrong(&LENGTHS, |row| has_length(rt.alloc(), row)),
+        None
+    );
 }
 
+/// Two stores, and how many packets their union has, and it.
+type Merged = (File, File, u32, File);
+
 /// Stores of the example session in either order, and their union.
-static MERGED: [Case; 8] = [
-    (
-        (Some(ONE_AND_TWO), Some(TWO_AND_FIVE)),
-        ALL_GO,
-        Run::Merge(MergeEnd::Done(3)),
-        (Some(THREE), None),
-        "",
-    ),
-    (
-        (Some(TWO_AND_FIVE), Some(ONE_AND_TWO)),
-        ALL_GO,
-        Run::Merge(MergeEnd::Done(3)),
-        (Some(THREE), None),
-        "",
-    ),
-    (
-        (Some(ONE_AND_TWO), Some(ONE_AND_TWO)),
-        ALL_GO,
-        Run::Merge(MergeEnd::Done(2)),
-        (Some(ONE_AND_TWO), None),
-        "",
-    ),
-    (
-        (Some(ONE_AND_TWO), Some(ONE_AND_TWO)),
-        ALL_GO,
-        Run::Merge(MergeEnd::Done(2)),
-        (Some(ONE_AND_TWO), None),
-        "",
-    ),
-    (
-        (Some(NOTHING), Some(WHOLE)),
-        ALL_GO,
-        Run::Merge(MergeEnd::Done(6)),
-        (Some(WHOLE), None),
-        "",
-    ),
-    (
-        (Some(WHOLE), Some(NOTHING)),
-        ALL_GO,
-        Run::Merge(MergeEnd::Done(6)),
-        (Some(WHOLE), None),
-        "",
-    ),
-    (
-        (Some(TWO_AND_FIVE), Some(WHOLE)),
-        ALL_GO,
-        Run::Merge(MergeEnd::Done(6)),
-        (Some(WHOLE), None),
-        "",
-    ),
-    (
-        (Some(WHOLE), Some(TWO_AND_FIVE)),
-        ALL_GO,
-        Run::Merge(MergeEnd::Done(6)),
-        (Some(WHOLE), None),
-        "",
-    ),
+static MERGED: [Merged; 7] = [
+    (ONE_AND_TWO, TWO_AND_FIVE, 3, THREE),
+    (TWO_AND_FIVE, ONE_AND_TWO, 3, THREE),
+    (ONE_AND_TWO, ONE_AND_TWO, 2, ONE_AND_TWO),
+    (NOTHING, WHOLE, 6, WHOLE),
+    (WHOLE, NOTHING, 6, WHOLE),
+    (TWO_AND_FIVE, WHOLE, 6, WHOLE),
+    (WHOLE, TWO_AND_FIVE, 6, WHOLE),
 ];
+
+/// Whether the stores of a row are merged so.
+fn is_merged(alloc: Global, (first, second, count, union): &Merged) -> Result<bool, NoMemory> {
+    let run = Run::Merge(MergeEnd::Done(*count));
+    let files = (Some(*first), Some(*second));
+    is_so(alloc, &(files, ALL_GO, run, (Some(*union), None), ""))
+}
 
 #[test]
 fn merges_stores_of_the_example_session_in_either_order(rt: HostRuntime) {
-    assert_eq!(rt; first_wrong(rt.alloc(), &MERGED), None);
+    assert_eq!(rt;
+        test_example::first_wrong(&MERGED, |row| is_merged(rt.alloc(), row)),
+        None
+    );
 }
 
 /// Files that are no stores, for their mark and their length, and a store with the tag of another.
@@ -107,67 +69,51 @@ const UNTAGGED: File = &[
     Piece::Head(SESSION, 2),
     Piece::Packet(1),
     Piece::Packet(2),
-    Piece::Bytes(&OTHER_TAG),
+    OTHER_TAG,
 ];
 
+/// Two files, where they are there, and how `merge` ends that makes no file.
+type Refused = ((Option<File>, Option<File>), MergeEnd);
+
 /// Stores that are bad or cannot be joined, and files that are missing.
-static REFUSED: [Case; 9] = [
+static REFUSED: [Refused; 9] = [
     (
         (Some(ONE_AND_TWO), Some(OTHER_NOTHING)),
-        ALL_GO,
-        Run::Merge(MergeEnd::OtherSession),
-        (None, None),
-        "",
+        MergeEnd::OtherSession,
     ),
-    (
-        (Some(ONE_AND_TWO), Some(OF_CHANGED)),
-        ALL_GO,
-        Run::Merge(MergeEnd::Clash(0, 2)),
-        (None, None),
-        "",
-    ),
+    ((Some(ONE_AND_TWO), Some(OF_CHANGED)), MergeEnd::Clash(0, 2)),
     (
         (Some(LONG), Some(ONE_AND_TWO)),
-        ALL_GO,
-        Run::Merge(MergeEnd::BadFirst(0, StoreKind::Magic)),
-        (None, None),
-        "",
+        MergeEnd::BadFirst(0, StoreKind::Magic),
     ),
     (
         (Some(SHORT), Some(ONE_AND_TWO)),
-        ALL_GO,
-        Run::Merge(MergeEnd::BadFirst(24, StoreKind::Cut)),
-        (None, None),
-        "",
+        MergeEnd::BadFirst(24, StoreKind::Cut),
     ),
     (
         (Some(ONE_AND_TWO), Some(LONG)),
-        ALL_GO,
-        Run::Merge(MergeEnd::BadSecond(0, StoreKind::Magic)),
-        (None, None),
-        "",
+        MergeEnd::BadSecond(0, StoreKind::Magic),
     ),
     (
         (Some(ONE_AND_TWO), Some(UNTAGGED)),
-        ALL_GO,
-        Run::Merge(MergeEnd::BadSecond(198, StoreKind::Tag)),
-        (None, None),
-        "",
+        MergeEnd::BadSecond(198, StoreKind::Tag),
     ),
-    (
-        (Some(LONG), None),
-        ALL_GO,
-        Run::Merge(MergeEnd::BadFirst(0, StoreKind::Magic)),
-        (None, None),
-        "",
-    ),
-    ((Some(ONE_AND_TWO), None), ALL_GO, FAULT, (None, None), ""),
-    ((None, Some(LONG)), ALL_GO, FAULT, (None, None), ""),
+    ((Some(LONG), None), MergeEnd::BadFirst(0, StoreKind::Magic)),
+    ((Some(ONE_AND_TWO), None), MergeEnd::PlaceFault),
+    ((None, Some(LONG)), MergeEnd::PlaceFault),
 ];
+
+/// Whether the files of a row are refused so.
+fn is_refused(alloc: Global, (files, end): &Refused) -> Result<bool, NoMemory> {
+    is_so(alloc, &(*files, ALL_GO, Run::Merge(*end), (None, None), ""))
+}
 
 #[test]
 fn refuses_stores_that_are_bad_or_cannot_be_joined(rt: HostRuntime) {
-    assert_eq!(rt; first_wrong(rt.alloc(), &REFUSED), None);
+    assert_eq!(rt;
+        test_example::first_wrong(&REFUSED, |row| is_refused(rt.alloc(), row)),
+        None
+    );
 }
 
 const PAIR: (Option<File>, Option<File>) = (Some(ONE_AND_TWO), Some(TWO_AND_FIVE));

@@ -1,24 +1,20 @@
 //! `receive` from a link: the example session, each call failing, and when the layers are put.
-use crate::cases::{ALL_GO, Case, Run, first_wrong, runs};
+use crate::cases::{ALL_GO, Case, Run, first_wrong};
 use crate::files::{File, OTHER_SESSION, WHOLE};
 use crate::links::feed_of;
 use crate::quiet_link::QuietLink;
 use crate::receive_fixtures::{
-    ALL, ALL_RECORDS, ALL_TOTALS, EMPTY, FIRST, FIRST_STORE, FIRST_STORE_HEAD, FIRST_STORE_OF_ONE,
-    FIRST_STORE_UNTAGGED, RECORD_HEAD, SHORT_TOTALS, WHOLE_RECORD,
+    ALL, ALL_RECORDS, ALL_TOTALS, BOTH, FIRST, HEAD_ALONE, NO_BYTE, NO_FILE, RECORD_ALONE,
+    SHORT_TOTALS, UNTAGGED, WITH_HEAD, WITH_NO_STORE, WITH_ONE,
 };
-use crate::untold::UntoldPlace;
 use command_receive::ReceiveEnd;
 use pet_base::MemorySink;
 use std::cell::Cell;
-use std::marker::Brand;
-use std::sync::ledger::Blank;
 use std::test::Fail;
 use test_example::SESSION;
+use test_outside::{UntoldPlace, run_on};
 
 const ENTRIES: (Option<File>, Option<File>) = (Some(FIRST), None);
-
-const BOTH: (Option<File>, Option<File>) = (Some(WHOLE_RECORD), Some(FIRST_STORE));
 
 const DONE: Run = Run::Hear(OTHER_SESSION, ReceiveEnd::Done(SHORT_TOTALS));
 
@@ -40,24 +36,12 @@ static HEARD: [Case; 7] = [
         BOUND,
     ),
     // the address
-    (ENTRIES, [&[0], &[], &[]], FAULT, (None, None), ""),
+    (ENTRIES, [&[0], &[], &[]], FAULT, NO_FILE, ""),
     // the datagrams, of which the second shows the layer, and the end
-    (ENTRIES, [&[1], &[], &[]], FAULT, (Some(EMPTY), None), BOUND),
-    (ENTRIES, [&[2], &[], &[]], FAULT, (Some(EMPTY), None), BOUND),
-    (
-        ENTRIES,
-        [&[3], &[], &[]],
-        FAULT,
-        (Some(WHOLE_RECORD), None),
-        BOUND,
-    ),
-    (
-        ENTRIES,
-        [&[4], &[], &[]],
-        FAULT,
-        (Some(WHOLE_RECORD), None),
-        BOUND,
-    ),
+    (ENTRIES, [&[1], &[], &[]], FAULT, NO_BYTE, BOUND),
+    (ENTRIES, [&[2], &[], &[]], FAULT, NO_BYTE, BOUND),
+    (ENTRIES, [&[3], &[], &[]], FAULT, RECORD_ALONE, BOUND),
+    (ENTRIES, [&[4], &[], &[]], FAULT, RECORD_ALONE, BOUND),
     // there are no more calls
     (ENTRIES, [&[5], &[], &[]], DONE, BOTH, BOUND),
 ];
@@ -70,61 +54,19 @@ fn leaves_the_whole_text_where_a_call_of_the_link_fails(rt: HostRuntime) {
 /// Calls of the place and of the output that fail.
 static FAILING: [Case; 11] = [
     // LAYERS is made, behind the line of the port
-    (ENTRIES, [&[], &[0], &[]], PLACE_FAULT, (None, None), BOUND),
+    (ENTRIES, [&[], &[0], &[]], PLACE_FAULT, NO_FILE, BOUND),
     // the head of the record, and its bytes
-    (
-        ENTRIES,
-        [&[], &[1], &[]],
-        PLACE_FAULT,
-        (Some(EMPTY), None),
-        BOUND,
-    ),
-    (
-        ENTRIES,
-        [&[], &[2], &[]],
-        PLACE_FAULT,
-        (Some(RECORD_HEAD), None),
-        BOUND,
-    ),
+    (ENTRIES, [&[], &[1], &[]], PLACE_FAULT, NO_BYTE, BOUND),
+    (ENTRIES, [&[], &[2], &[]], PLACE_FAULT, HEAD_ALONE, BOUND),
     // STORE is made, and its head, two packets and tag are put
-    (
-        ENTRIES,
-        [&[], &[3], &[]],
-        PLACE_FAULT,
-        (Some(WHOLE_RECORD), None),
-        BOUND,
-    ),
-    (
-        ENTRIES,
-        [&[], &[4], &[]],
-        PLACE_FAULT,
-        (Some(WHOLE_RECORD), Some(EMPTY)),
-        BOUND,
-    ),
-    (
-        ENTRIES,
-        [&[], &[5], &[]],
-        PLACE_FAULT,
-        (Some(WHOLE_RECORD), Some(FIRST_STORE_HEAD)),
-        BOUND,
-    ),
-    (
-        ENTRIES,
-        [&[], &[6], &[]],
-        PLACE_FAULT,
-        (Some(WHOLE_RECORD), Some(FIRST_STORE_OF_ONE)),
-        BOUND,
-    ),
-    (
-        ENTRIES,
-        [&[], &[7], &[]],
-        PLACE_FAULT,
-        (Some(WHOLE_RECORD), Some(FIRST_STORE_UNTAGGED)),
-        BOUND,
-    ),
+    (ENTRIES, [&[], &[3], &[]], PLACE_FAULT, RECORD_ALONE, BOUND),
+    (ENTRIES, [&[], &[4], &[]], PLACE_FAULT, WITH_NO_STORE, BOUND),
+    (ENTRIES, [&[], &[5], &[]], PLACE_FAULT, WITH_HEAD, BOUND),
+    (ENTRIES, [&[], &[6], &[]], PLACE_FAULT, WITH_ONE, BOUND),
+    (ENTRIES, [&[], &[7], &[]], PLACE_FAULT, UNTAGGED, BOUND),
     (ENTRIES, [&[], &[8], &[]], DONE, BOTH, BOUND),
     // the line of the port, before LAYERS is made; nothing is printed behind it
-    (ENTRIES, [&[], &[], &[0]], OUT_FAULT, (None, None), ""),
+    (ENTRIES, [&[], &[], &[0]], OUT_FAULT, NO_FILE, ""),
     (ENTRIES, [&[], &[], &[1]], DONE, BOTH, BOUND),
 ];
 
@@ -139,13 +81,13 @@ fn puts_each_layer_before_the_next_datagram(rt: HostRuntime) -> Result<(), Fail>
     let feed = feed_of(alloc, ALL)?;
     let asked = Cell::new(0);
     let mut link = QuietLink::new(&feed, &[], &asked);
-    let mut place = UntoldPlace::new(alloc, &asked);
+    let mut place = UntoldPlace::new(alloc, "c", &asked);
     let mut out = MemorySink::new(alloc, Vec::new(alloc));
     let done = Run::Hear(SESSION, ReceiveEnd::Done(ALL_TOTALS));
-    let ended = runs::<Brand>(alloc, done, &mut place, &mut link, &mut out, Blank::new(1));
+    let ended = run_on(alloc, &done, &mut place, &mut link, &mut out);
     assert!(rt; ended);
     // each record is put in two
-    assert!(rt; place.moments.as_slice() == [3, 3, 4, 4, 6, 6].as_slice());
+    assert!(rt; place.moments() == [3, 3, 4, 4, 6, 6].as_slice());
     assert!(rt; out.bytes() == b"bound 7\n".as_slice());
     Ok(())
 }
@@ -157,9 +99,9 @@ fn asks_a_link_for_nothing_once_it_was_quiet(rt: HostRuntime) -> Result<(), Fail
     let later = feed_of(alloc, ALL)?;
     let asked = Cell::new(0);
     let mut link = QuietLink::new(&feed, &later, &asked);
-    let mut place = UntoldPlace::new(alloc, &asked);
+    let mut place = UntoldPlace::new(alloc, "c", &asked);
     let mut out = MemorySink::new(alloc, Vec::new(alloc));
-    let ended = runs::<Brand>(alloc, DONE, &mut place, &mut link, &mut out, Blank::new(1));
+    let ended = run_on(alloc, &DONE, &mut place, &mut link, &mut out);
     assert!(rt; ended);
     // three datagrams, and the quiet behind them
     assert!(rt; asked.get() == 4);

@@ -15,23 +15,27 @@ pub const MESSAGE: [u8; 70] = [
     0x00, 0x00, 0x18, 0x77, 0x77, 0x00,
 ];
 
+/// Its layers: 2, 3 and 5 of 6 packets show them.
+pub const LAYERS: [LayerSize; 3] = [
+    LayerSize {
+        length: 46,
+        need: 2,
+    },
+    LayerSize { length: 7, need: 3 },
+    LayerSize {
+        length: 15,
+        need: 5,
+    },
+];
+
 /// The header of the group in so many packets, with this need of its last layer: the example session has 6 and 5.
 pub fn header_of(packets: u16, last_need: u16) -> Result<Header, Fail>
     ensures groups { IfOk result (λ header. header.groups ≡ 1) }
     ensures group { IfOk result (λ header. header.group ≡ 0) }
     ensures packets { IfOk result (λ header. header.table.packets ≡ packets) }
 {
-    let layers = [
-        LayerSize {
-            length: 46,
-            need: 2,
-        },
-        LayerSize { length: 7, need: 3 },
-        LayerSize {
-            length: 15,
-            need: last_need,
-        },
-    ];
+    let mut layers = LAYERS;
+    layers[2].need = last_need;
     Ok(Header {
         session: SESSION,
         groups: 1,

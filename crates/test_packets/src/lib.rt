@@ -7,7 +7,7 @@
 
 mod group_fixtures;
 
-pub use group_fixtures::{MESSAGE, header_of};
+pub use group_fixtures::{LAYERS, MESSAGE, header_of};
 
 #[cfg(test)]
 mod byte_frame_tests;

@@ -75,7 +75,7 @@ fn are_first(sent: &[Vec<u8>], many: usize) -> bool {
 }
 
 /// Whether the packets of the group are sent as this row says.
-fn sends(
+fn is_so(
     alloc: Global,
     encoder: &PacketEncoder<'_, Gf16Tables>,
     row: &Row,
@@ -90,24 +90,16 @@ fn sends(
     Ok(told == row.2 && has_entries(bytes, row.3) && are_first(link.sent(), row.4))
 }
 
-/// The number of the first row that is sent otherwise, or how many there are where the group has other words.
-fn first_other(alloc: Global, rows: &[Row]) -> Result<Option<usize>, Fail> {
-    let field = Gf16Tables::new(alloc)?;
-    let header = header_of(6, 5)?;
-    if header.table.words() != 35 {
-        return Ok(Some(rows.len()));
-    }
-    let encoder = PacketEncoder::new(alloc, &field, FORMAT, header, &MESSAGE)?;
-    for row in 0..rows.len() {
-        if !sends(alloc, &encoder, &rows[row]).unwrap_or(false) {
-            return Ok(Some(row));
-        }
-    }
-    Ok(None)
-}
-
 #[test]
 fn sends_the_packets_of_the_example_group(rt: HostRuntime) -> Result<(), Fail> {
-    assert_eq!(rt; first_other(rt.alloc(), &ROWS)?, None);
+    let alloc = rt.alloc();
+    let field = Gf16Tables::new(alloc)?;
+    let header = header_of(6, 5)?;
+    assert_eq!(rt; header.table.words(), 35);
+    let encoder = PacketEncoder::new(alloc, &field, FORMAT, header, &MESSAGE)?;
+    let other = ROWS
+        .iter()
+        .position(|row| is_so(alloc, &encoder, row) != Ok(true));
+    assert_eq!(rt; other, None);
     Ok(())
 }

@@ -1,7 +1,7 @@
 //! What a receiver answers that takes in what another has kept.
 ghost use Rattle.std.specs.Prelude.{◌≡◌, ◌<◌};
 
-use crate::receive_fixtures::{EXAMPLE, EXAMPLE_2, EXAMPLE_5, WORDS_1};
+use crate::receive_fixtures::{EXAMPLE, EXAMPLE_2, EXAMPLE_5, Packet, WORDS_1, frame_of};
 use field_elements::Gf16Plain;
 use packet_verdicts::Absorb;
 use pet_base::{NoMemory, Steps};
@@ -16,8 +16,8 @@ const SESSION: [u8; 8] = [0, 1, 2, 3, 4, 5, 6, 7];
 /// Another session.
 const OTHER: [u8; 8] = [0, 1, 2, 3, 4, 5, 6, 8];
 
-/// Datagrams.
-type Frames = &'static [&'static [u8]];
+/// Packets, whose frames come.
+type Frames = &'static [Packet];
 
 /// What the groups of a receiver may cost, and its session; what comes to it, and to another of the session of the frames; what
 /// it answers when it takes in what the other has kept: the layers that are newly shown, or a fault; how many packets it has
@@ -31,9 +31,9 @@ type Row = (
     u16,
 );
 
-const FIRST_TWO: Frames = &[&EXAMPLE, &EXAMPLE_2];
+const FIRST_TWO: Frames = &[EXAMPLE, EXAMPLE_2];
 
-const LAST: Frames = &[&EXAMPLE_5];
+const LAST: Frames = &[EXAMPLE_5];
 
 /// Two packets show the example's layer 0 and three layer 1, and its group takes 534 bytes.
 static ROWS: [Row; 8] = [
@@ -60,7 +60,7 @@ static ROWS: [Row; 8] = [
     (
         1_000,
         SESSION,
-        (&[&WORDS_1], LAST),
+        (&[WORDS_1], LAST),
         Err(Absorb::Clash(0, 5)),
         (1, 0),
         4,
@@ -75,29 +75,30 @@ static ROWS: [Row; 8] = [
     ),
 ];
 
-/// Hands these datagrams to a receiver.
+/// Hands the frames of these packets to a receiver.
 fn accept_all<L: Ledger>(
+    alloc: Global,
     receiver: &mut Receiver<'_, Gf16Plain>,
-    datagrams: &[&[u8]],
+    packets: &[Packet],
     steps: &mut Steps<L>,
 ) -> Result<(), NoMemory> {
-    for datagram in datagrams {
-        receiver.accept(datagram, steps)?;
+    for packet in packets {
+        receiver.accept(&frame_of(alloc, packet)?, steps)?;
     }
     Ok(())
 }
 
-/// Whether a receiver answers so when it takes in what another has kept that these datagrams have come to.
+/// Whether a receiver answers so when it takes in what another has kept that these frames have come to.
 fn takes_in<'f, L: Ledger>(
     alloc: Global,
     field: &'f Gf16Plain,
     mine: &mut Receiver<'f, Gf16Plain>,
-    datagrams: &[&[u8]],
+    packets: &[Packet],
     answer: Result<&[(u32, u8)], Absorb>,
     steps: &mut Steps<L>,
 ) -> Result<bool, NoMemory> {
     let mut other = Receiver::new(alloc, field, SESSION, 1_000);
-    accept_all(&mut other, datagrams, steps)?;
+    accept_all(alloc, &mut other, packets, steps)?;
     Ok(match (mine.absorb(&other, steps), answer) {
         (Ok(shown), Ok(wanted)) => shown.as_slice() == wanted,
         (Err(fault), Err(wanted)) => fault == wanted,
@@ -114,7 +115,7 @@ fn is_so<L: Ledger>(alloc: Global, row: &Row, blank: Blank) -> Result<bool, NoMe
     let mut steps = Steps::<L>::new(blank);
     let field = Gf16Plain;
     let mut mine = Receiver::new(alloc, &field, row.1, row.0);
-    accept_all(&mut mine, row.2.0, &mut steps)?;
+    accept_all(alloc, &mut mine, row.2.0, &mut steps)?;
     let is_taken_in = takes_in(alloc, &field, &mut mine, row.2.1, row.3, &mut steps)?;
     let packets = match mine.header(0) {
         Some(header) => header.table.packets(),
@@ -147,10 +148,10 @@ fn lends<L: Ledger>(alloc: Global, blank: Blank) -> Result<bool, NoMemory>
     let mut steps = Steps::<L>::new(blank);
     let field = Gf16Plain;
     let mut mine = Receiver::new(alloc, &field, SESSION, 1_000);
-    accept_all(&mut mine, FIRST_TWO, &mut steps)?;
+    accept_all(alloc, &mut mine, FIRST_TWO, &mut steps)?;
     let is_taken_in = takes_in(alloc, &field, &mut mine, LAST, Ok(&[(0, 1)]), &mut steps)?;
     let payload = mine.packet(0, 5);
-    Ok(is_taken_in && mine.groups() == Some(1) && payload == Some(&EXAMPLE_5[43..73]))
+    Ok(is_taken_in && mine.groups() == Some(1) && payload == Some(EXAMPLE_5.2))
 }
 
 #[test]

@@ -1,15 +1,13 @@
 //! What the tests of each command share: a run of a command on objects in memory, and the first row of a table that is not so.
-ghost use Rattle.std.specs.Prelude.{◌≡◌, ◌<◌};
-
 use command_plan::{CheckEnd, PlanEnd, check, plan};
 use command_send::{SendEnd, send};
 use outside_routes::Route;
-use pet_base::{Link, MemoryLink, MemoryPlace, MemorySink, NoMemory, Outside, Place, Sink, Steps};
+use pet_base::{Link, MemoryLink, MemoryPlace, MemorySink, NoMemory, Outside, Place, Sink};
 use session_source::SourceFault;
 use std::alloc::{AllocError, Global};
-use std::marker::Brand;
-use std::sync::ledger::{Blank, Ledger};
+use std::sync::ledger::Ledger;
 use test_example::packets;
+use test_outside::{Runs, run_on};
 
 /// A stream: its front, and bytes that follow it so many times.
 pub(crate) type Stream = (&'static [u8], &'static [u8], u32);
@@ -123,7 +121,7 @@ fn has_packets(
 fn sends(alloc: Global, case: &Case, place: &mut MemoryPlace) -> Result<bool, NoMemory> {
     let mut link = link_of(alloc, case.1[1])?;
     let mut out = MemorySink::new(alloc, Vec::new(alloc));
-    let ended = runs::<Brand>(alloc, case.2, place, &mut link, &mut out, Blank::new(1));
+    let ended = run_on(alloc, &case.2, place, &mut link, &mut out);
     Ok(ended && out.bytes().is_empty() && are_first(link.sent(), case.4))
 }
 
@@ -142,43 +140,21 @@ pub(crate) fn are_first(sent: &[Vec<u8>], many: usize) -> bool {
             && datagram.len() == 89)
 }
 
-/// Whether the command ends so on the place, the link and the output.
-pub(crate) fn runs<L: Ledger>(
-    alloc: Global,
-    run: Run,
-    place: &mut impl Place,
-    link: &mut impl Link,
-    out: &mut MemorySink,
-    blank: Blank,
-) -> bool
-    requires name { blank.name ≡ L.name }
-    requires parts { blank.parts ≡ L.parts }
-    requires some { 0 < blank.parts }
-{
-    let mut steps = Steps::<L>::new(blank);
-    let mut outside = Outside {
-        place,
-        link,
-        out,
-        steps: &mut steps,
-    };
-    ends(alloc, run, &mut outside)
-}
-
-/// Whether the command ends so on the outside.
-fn ends<P: Place, K: Link, S: Sink, L: Ledger>(
-    alloc: Global,
-    run: Run,
-    outside: &mut Outside<P, K, S, L>,
-) -> bool {
-    match run {
-        Run::Plan(Ok(text)) => match plan(alloc, "s", "f", outside.place) {
-            PlanEnd::Done(bytes) => bytes.as_slice() == text.as_bytes(),
-            _ => false,
-        },
-        Run::Plan(Err(fault)) => plan(alloc, "s", "f", outside.place) == PlanEnd::from(fault),
-        Run::Check(end) => check(alloc, "s", "f", "p", outside.place) == end,
-        Run::Send(end) => send(alloc, "s", "f", Route::File("d"), outside) == end,
-        Run::SendByLink(end) => send(alloc, "s", "f", Route::Udp("x:1"), outside) == end,
+impl Runs<bool> for Run {
+    fn run<P: Place, K: Link, S: Sink, L: Ledger>(
+        &self,
+        alloc: Global,
+        outside: &mut Outside<P, K, S, L>,
+    ) -> bool {
+        match *self {
+            Run::Plan(Ok(text)) => match plan(alloc, "s", "f", outside.place) {
+                PlanEnd::Done(bytes) => bytes.as_slice() == text.as_bytes(),
+                _ => false,
+            },
+            Run::Plan(Err(fault)) => plan(alloc, "s", "f", outside.place) == PlanEnd::from(fault),
+            Run::Check(end) => check(alloc, "s", "f", "p", outside.place) == end,
+            Run::Send(end) => send(alloc, "s", "f", Route::File("d"), outside) == end,
+            Run::SendByLink(end) => send(alloc, "s", "f", Route::Udp("x:1"), outside) == end,
+        }
     }
 }

@@ -2,11 +2,12 @@
 use crate::cases::{ALL_GO, Files, NO_TYPE, Run, Stream, is_so};
 use command_plan::CheckEnd;
 use mpeg_scan::Scan;
+use pet_base::NoMemory;
 use priority_file::PriorityFault;
 use session_source::SourceFault;
 use std::alloc::Global;
 use stream_session::SessionFault;
-use test_example::{PLAN, PRIORITIES, STREAM};
+use test_example::{PLAN, PRIORITIES, STREAM, first_wrong};
 
 /// The example stream; a head and an I picture; heads in one piece of 64,931 and of 64,933 bytes; groups of ten bytes.
 const EXAMPLE: Stream = (&STREAM, &[], 0);
@@ -62,13 +63,10 @@ type Row = (Files, Run);
 
 /// The number of the first of these rows that is not so.
 fn first_other(alloc: Global, rows: &[Row]) -> Option<usize> {
-    for row in 0..rows.len() {
-        let (files, run) = rows[row];
-        if !is_so(alloc, &(files, ALL_GO, run, None, 0)).unwrap_or(false) {
-            return Some(row);
-        }
-    }
-    None
+    first_wrong(
+        rows,
+        |(files, run)| is_so(alloc, &(*files, ALL_GO, *run, None, 0)),
+    )
 }
 
 /// Streams and priorities, and their plan or why there is none.
@@ -210,15 +208,9 @@ const ALL: Files = (Some(EXAMPLE), Some(PRIORITIES), Some(PLAN));
 /// The call of the place that fails, and the command with its end.
 type Failing = (&'static [u64], Run);
 
-/// The number of the first of these rows that is not so of all three files.
-fn first_wrong(alloc: Global, rows: &[Failing]) -> Option<usize> {
-    for row in 0..rows.len() {
-        let (calls, run) = rows[row];
-        if !is_so(alloc, &(ALL, [calls, &[]], run, None, 0)).unwrap_or(false) {
-            return Some(row);
-        }
-    }
-    None
+/// Whether a run of all three files ends so.
+fn fails_so(alloc: Global, (calls, run): &Failing) -> Result<bool, NoMemory> {
+    is_so(alloc, &(ALL, [*calls, &[]], *run, None, 0))
 }
 
 /// Of each file there are three calls: it is entered, has all its bytes taken, and is at its end.
@@ -244,5 +236,8 @@ static FAILING: [Failing; 17] = [
 
 #[test]
 fn fails_where_a_call_of_the_outside_does(rt: HostRuntime) {
-    assert_eq!(rt; first_wrong(rt.alloc(), &FAILING), None);
+    assert_eq!(rt;
+        first_wrong(&FAILING, |row| fails_so(rt.alloc(), row)),
+        None
+    );
 }

@@ -1,16 +1,14 @@
 //! `send` by a link in memory. The packets, their session and the marks were made outside.
 use crate::cases::{
-    ALL_GO, Case, ONE_GROUP, Run, TWO_GROUPS, are_first, first_wrong, link_of, place_of, runs,
+    ALL_GO, Case, ONE_GROUP, Run, TWO_GROUPS, are_first, first_wrong, link_of, place_of,
 };
-use crate::send_tests::{EXAMPLE, SENT};
-use crate::untold_place::UntoldPlace;
+use crate::send_tests::{EXAMPLE, SENT, run_untold};
 use crate::{NO_MARK, SECOND_MARK, changed_at};
 use command_send::SendEnd;
 use pet_base::{MemorySink, NoMemory};
 use std::alloc::Global;
-use std::marker::Brand;
-use std::sync::ledger::Blank;
-use test_example::{PRIORITIES, STREAM};
+use test_example::STREAM;
+use test_outside::run_on;
 
 const DONE: Run = Run::SendByLink(SendEnd::Done(SENT));
 
@@ -40,7 +38,7 @@ fn sends_all_or_nothing(alloc: Global, call: u64) -> Result<bool, NoMemory> {
     let mut link = link_of(alloc, &[])?;
     let mut out = MemorySink::new(alloc, Vec::new(alloc));
     let run = Run::SendByLink(SendEnd::PlaceFault);
-    let stopped = runs::<Brand>(alloc, run, &mut place, &mut link, &mut out, Blank::new(1));
+    let stopped = run_on(alloc, &run, &mut place, &mut link, &mut out);
     Ok(
         (stopped && out.bytes().is_empty() && are_first(link.sent(), link.sent().len()))
             || are_first(link.sent(), 6),
@@ -65,12 +63,8 @@ fn sends_untold(
     end: SendEnd,
     many: usize,
 ) -> Result<bool, NoMemory> {
-    let mut place = UntoldPlace::new(alloc, PRIORITIES.as_bytes(), first, second);
-    let mut link = link_of(alloc, &[])?;
-    let mut out = MemorySink::new(alloc, Vec::new(alloc));
-    let run = Run::SendByLink(end);
-    let ended = runs::<Brand>(alloc, run, &mut place, &mut link, &mut out, Blank::new(1));
-    Ok(ended && out.bytes().is_empty() && link.sent().len() == many)
+    let ended = run_untold(alloc, (first, second), Run::SendByLink(end))?;
+    Ok(ended.is_some_and(|(_, sent)| sent == many))
 }
 
 #[test]

@@ -1,7 +1,7 @@
 //! `send` over files in memory, and over a place that tells nothing. Session numbers, packets and marks were made outside.
 use crate::cases::{
     ALL_GO, Case, Files, GROUPS, NO_TYPE, ONE_GROUP, Run, TWO_GROUPS, first_wrong, link_of,
-    packet_file, place_of, runs,
+    packet_file, place_of,
 };
 use crate::untold_place::UntoldPlace;
 use crate::{CHANGED_MARK, EXAMPLE_MARK, FIRST_MARK, NO_MARK, SECOND_MARK, THIRD_MARK, changed_at};
@@ -10,10 +10,9 @@ use mpeg_scan::Scan;
 use pet_base::{MemorySink, NoMemory};
 use priority_file::PriorityFault;
 use std::alloc::Global;
-use std::marker::Brand;
-use std::sync::ledger::Blank;
 use stream_session::GroupMark;
 use test_example::{PRIORITIES, SESSION, STREAM};
+use test_outside::run_on;
 
 /// What is sent of the example session.
 pub(crate) const SENT: Sent = Sent {
@@ -140,40 +139,35 @@ pub(crate) fn end_of(told: Told) -> SendEnd {
     }
 }
 
-/// Whether `send` of a stream that is opened twice ends so over a place that tells nothing.
-fn compares(
+/// How many bytes a run of a stream that is opened twice makes of `d`, where it is made, and how many datagrams it sends, over a place
+/// that tells nothing. None where it ends otherwise, or prints something.
+pub(crate) fn run_untold(
     alloc: Global,
     (first, second): (&[u8], Option<&[u8]>),
-    told: Told,
-    sent: usize,
-) -> Result<bool, NoMemory> {
+    run: Run,
+) -> Result<Option<(Option<usize>, usize)>, NoMemory> {
     let mut place = UntoldPlace::new(alloc, PRIORITIES.as_bytes(), first, second);
     let mut link = link_of(alloc, &[])?;
     let mut out = MemorySink::new(alloc, Vec::new(alloc));
-    let run = Run::Send(end_of(told));
-    let ended = runs::<Brand>(alloc, run, &mut place, &mut link, &mut out, Blank::new(1));
-    Ok(
-        ended
-            && out.bytes().is_empty()
-            && place.output().map(|bytes| bytes.len()) == Some(sent)
-            && link.sent().is_empty(),
-    )
+    if !run_on(alloc, &run, &mut place, &mut link, &mut out) || !out.bytes().is_empty() {
+        return Ok(None);
+    }
+    let made = place.output().map(|bytes| bytes.len());
+    Ok(Some((made, link.sent().len())))
 }
 
-/// The number of the first row that is compared otherwise.
-fn first_other(alloc: Global, rows: &[Again]) -> Option<usize> {
-    for row in 0..rows.len() {
-        let (first, second, told, sent) = rows[row];
-        if !compares(alloc, (first, second), told, sent).unwrap_or(false) {
-            return Some(row);
-        }
-    }
-    None
+/// Whether both readings of a row are compared so.
+fn compares(alloc: Global, (first, second, told, sent): &Again) -> Result<bool, NoMemory> {
+    let run = Run::Send(end_of(*told));
+    Ok(run_untold(alloc, (*first, *second), run)? == Some((Some(*sent), 0)))
 }
 
 #[test]
 fn compares_both_readings_where_nothing_is_told(rt: HostRuntime) {
-    assert_eq!(rt; first_other(rt.alloc(), &READ_AGAIN), None);
+    assert_eq!(rt;
+        test_example::first_wrong(&READ_AGAIN, |row| compares(rt.alloc(), row)),
+        None
+    );
 }
 
 /// How many bytes `send` of the example session leaves where this call of the place fails, and whether it stopped there. None
@@ -183,8 +177,7 @@ fn front(alloc: Global, call: u64) -> Result<Option<(bool, usize)>, NoMemory> {
     let mut place = place_of(alloc, &EXAMPLE, &[call])?;
     let mut link = link_of(alloc, &[])?;
     let mut out = MemorySink::new(alloc, Vec::new(alloc));
-    let blank = Blank::new(1);
-    let stopped = runs::<Brand>(alloc, NO_PLACE, &mut place, &mut link, &mut out, blank);
+    let stopped = run_on(alloc, &NO_PLACE, &mut place, &mut link, &mut out);
     let held = place.bytes_of("d").unwrap_or(&[]);
     let is_front = packets.as_slice().starts_with(held) && out.bytes().is_empty();
     let is_so = is_front && (stopped || held.len() == packets.len());

@@ -3,7 +3,7 @@ use crate::system_fixtures::WRAPPED;
 use mpeg_system::{System, UnwrapEnd, WrapEnd, unwrap_loop, wrap_loop};
 use pet_base::{MemoryPlace, NoMemory};
 use std::alloc::Global;
-use test_example::STREAM;
+use test_example::{STREAM, first_wrong};
 
 /// What is run of `a` into `c`, and how it ends.
 #[derive(Clone, Copy)]
@@ -81,17 +81,7 @@ fn is_so(alloc: Global, case: &Case) -> Result<bool, NoMemory> {
     Ok(ended && place.bytes_of("c") == case.3)
 }
 
-/// The number of the first case that is not so.
-fn first_wrong(alloc: Global) -> Option<usize> {
-    for (i, case) in CASES.iter().enumerate() {
-        if !is_so(alloc, case).unwrap_or(false) {
-            return Some(i);
-        }
-    }
-    None
-}
-
 #[test]
 fn unwraps_and_wraps_files_and_stops_at_each_failure(rt: HostRuntime) {
-    assert_eq!(rt; first_wrong(rt.alloc()), None);
+    assert_eq!(rt; first_wrong(&CASES, |case| is_so(rt.alloc(), case)), None);
 }

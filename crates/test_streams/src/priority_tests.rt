@@ -3,6 +3,7 @@ use crate::priority_of;
 use pet_base::Kind;
 use priority_file::{KindSet, LayerRule, Priority, PriorityFault, read_priority};
 use std::alloc::{AllocError, Global};
+use test_example::first_wrong;
 
 /// Spellings of the example priorities.
 static SPELLINGS: [&str; 4] = [
@@ -281,53 +282,32 @@ fn spaces(alloc: Global, count: usize) -> Result<Vec<u8>, AllocError> {
 }
 
 /// Whether a text is read as a priority of the example, with these layers of a D picture and of the first B picture.
-fn is_read_as_example(alloc: Global, text: &str) -> bool {
-    match read_priority(alloc, text.as_bytes()) {
-        Ok(priority) => {
-            is_example(&priority)
-                && priority.layer_of(Kind::D, 0) == 0
-                && priority.layer_of(Kind::B, 1) == 2
-        }
-        Err(_) => false,
-    }
-}
-
-/// The number of the first text that is read otherwise.
-fn first_other(alloc: Global, texts: &[&str]) -> Option<usize> {
-    for row in 0..texts.len() {
-        if !is_read_as_example(alloc, texts[row]) {
-            return Some(row);
-        }
-    }
-    None
+fn is_read_as_example(alloc: Global, text: &str) -> Result<bool, PriorityFault> {
+    let priority = read_priority(alloc, text.as_bytes())?;
+    Ok(
+        is_example(&priority)
+            && priority.layer_of(Kind::D, 0) == 0
+            && priority.layer_of(Kind::B, 1) == 2,
+    )
 }
 
 #[test]
 fn reads_each_spelling_of_the_example_priorities(rt: HostRuntime) {
-    assert_eq!(rt; first_other(rt.alloc(), &SPELLINGS), None);
+    assert_eq!(rt;
+        first_wrong(&SPELLINGS, |row| is_read_as_example(rt.alloc(), row)),
+        None
+    );
 }
 
 /// Whether the file of a row is read as a priority with its layers.
-fn is_read(alloc: Global, row: &Read) -> bool {
-    match read_priority(alloc, row.0.as_bytes()) {
-        Ok(priority) => has_layers(priority.layers.as_slice(), row.1),
-        Err(_) => false,
-    }
-}
-
-/// The number of the first row that is read otherwise.
-fn first_read_otherwise(alloc: Global, rows: &[Read]) -> Option<usize> {
-    for row in 0..rows.len() {
-        if !is_read(alloc, &rows[row]) {
-            return Some(row);
-        }
-    }
-    None
+fn is_read(alloc: Global, row: &Read) -> Result<bool, PriorityFault> {
+    let priority = read_priority(alloc, row.0.as_bytes())?;
+    Ok(has_layers(priority.layers.as_slice(), row.1))
 }
 
 #[test]
 fn reads_kinds_places_and_needs(rt: HostRuntime) {
-    assert_eq!(rt; first_read_otherwise(rt.alloc(), &READ), None);
+    assert_eq!(rt; first_wrong(&READ, |row| is_read(rt.alloc(), row)), None);
 }
 
 /// The layers of the first, the second and the tenth B picture of a group, of the first P picture and of the first I picture.
@@ -360,19 +340,9 @@ fn is_made(row: &Made) -> bool {
     priority_of(row.0, row.1).is_some() == row.2
 }
 
-/// The number of the first row that is made otherwise.
-fn first_made_otherwise(rows: &[Made]) -> Option<usize> {
-    for row in 0..rows.len() {
-        if !is_made(&rows[row]) {
-            return Some(row);
-        }
-    }
-    None
-}
-
 #[test]
 fn makes_a_priority_within_its_bounds(rt: HostRuntime) {
-    assert_eq!(rt; first_made_otherwise(&MADE), None);
+    assert_eq!(rt; MADE.iter().position(|row| !is_made(row)), None);
 }
 
 /// Why files of 32 layers and of 33 are refused.
@@ -393,20 +363,18 @@ fn is_refused(alloc: Global, row: &Refused) -> bool {
     fault_of(alloc, row.0.as_bytes()) == Some(row.1)
 }
 
-/// The number of the first row that is refused for another cause.
-fn first_refused_otherwise(alloc: Global, rows: &[Refused]) -> Option<usize> {
-    for row in 0..rows.len() {
-        if !is_refused(alloc, &rows[row]) {
-            return Some(row);
-        }
-    }
-    None
-}
-
 #[test]
 fn refuses_by_the_first_cause(rt: HostRuntime) {
-    assert_eq!(rt; first_refused_otherwise(rt.alloc(), &REFUSED), None);
-    assert_eq!(rt; first_refused_otherwise(rt.alloc(), &REFUSED_FIRST), None);
+    assert_eq!(rt;
+        REFUSED.iter().position(|row| !is_refused(rt.alloc(), row)),
+        None
+    );
+    assert_eq!(rt;
+        REFUSED_FIRST
+            .iter()
+            .position(|row| !is_refused(rt.alloc(), row)),
+        None
+    );
 }
 
 /// Why files are refused that are no text, of 65,536 spaces, and of one more.

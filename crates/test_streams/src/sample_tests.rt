@@ -3,6 +3,7 @@ use pet_base::{MAX_SAMPLE_GROUPS, NoMemory};
 use sha2::{Digest, Sha256};
 use std::alloc::Global;
 use stream_sample::sample_stream;
+use test_example::first_wrong;
 
 /// A seed and a number of groups, the bytes of the stream, and the first 8 bytes of its SHA-256 digest. A program in Python has
 /// them.
@@ -43,17 +44,7 @@ fn is_made(alloc: Global, row: &Row) -> Result<bool, NoMemory> {
     Ok(made.len() == length && Sha256::digest(made)[..8] == digest[..])
 }
 
-/// The number of the first row whose stream is another.
-fn first_other(alloc: Global, rows: &[Row]) -> Option<usize> {
-    for row in 0..rows.len() {
-        if !is_made(alloc, &rows[row]).unwrap_or(false) {
-            return Some(row);
-        }
-    }
-    None
-}
-
 #[test]
 fn makes_streams_of_numbers(rt: HostRuntime) {
-    assert_eq!(rt; first_other(rt.alloc(), &ROWS), None);
+    assert_eq!(rt; first_wrong(&ROWS, |row| is_made(rt.alloc(), row)), None);
 }

@@ -3,7 +3,7 @@ use crate::{EXAMPLE_PIECES, pieces_on_end};
 use mpeg_scan::{Piece, Scan, Scanner};
 use pet_base::Kind;
 use std::alloc::{AllocError, Global};
-use test_example::STREAM;
+use test_example::{STREAM, first_wrong};
 
 /// An accepted stream, and the kind, the code and the bytes of each of its pieces.
 type Accepted = (&'static [u8], &'static [(Kind, u8, u64)]);
@@ -84,19 +84,12 @@ fn is_read(alloc: Global, row: &Accepted) -> Result<bool, AllocError> {
     Ok(true)
 }
 
-/// The number of the first row that is read otherwise.
-fn first_read_otherwise(alloc: Global, rows: &[Accepted]) -> Option<usize> {
-    for row in 0..rows.len() {
-        if !is_read(alloc, &rows[row]).unwrap_or(false) {
-            return Some(row);
-        }
-    }
-    None
-}
-
 #[test]
 fn reads_the_pieces_of_streams_cut_anywhere(rt: HostRuntime) {
-    assert_eq!(rt; first_read_otherwise(rt.alloc(), &ACCEPTED), None);
+    assert_eq!(rt;
+        first_wrong(&ACCEPTED, |row| is_read(rt.alloc(), row)),
+        None
+    );
 }
 
 /// A stream, and why it is refused.
@@ -128,17 +121,10 @@ fn is_refused(alloc: Global, row: &Refused) -> Result<bool, AllocError> {
     Ok([end, fed, finished] == [Err(row.1); 3] && pieces.len() == given)
 }
 
-/// The number of the first row that is refused otherwise.
-fn first_refused_otherwise(alloc: Global, rows: &[Refused]) -> Option<usize> {
-    for row in 0..rows.len() {
-        if !is_refused(alloc, &rows[row]).unwrap_or(false) {
-            return Some(row);
-        }
-    }
-    None
-}
-
 #[test]
 fn refuses_each_stream_again_at_the_next_calls(rt: HostRuntime) {
-    assert_eq!(rt; first_refused_otherwise(rt.alloc(), &REFUSED), None);
+    assert_eq!(rt;
+        first_wrong(&REFUSED, |row| is_refused(rt.alloc(), row)),
+        None
+    );
 }

@@ -3,6 +3,7 @@ use crate::layers_of;
 use crate::sizes::{Sizes, sized};
 use std::alloc::{AllocError, Global};
 use stripe_plan::{ByteTable, Table, TableFault, datagram_length_by, stripes};
+use test_example::first_wrong;
 
 /// Stripes on end of one length: how many, and the length.
 type Run = (u32, u16);
@@ -80,17 +81,10 @@ fn is_refused(alloc: Global, row: &Refused) -> Result<bool, AllocError> {
     Ok(ByteTable::new(row.0, &layers).err() == row.2)
 }
 
-/// The number of the first row that is refused otherwise.
-fn first_refused_otherwise(alloc: Global, rows: &[Refused]) -> Option<usize> {
-    for row in 0..rows.len() {
-        if !is_refused(alloc, &rows[row]).unwrap_or(false) {
-            return Some(row);
-        }
-    }
-    None
-}
-
 #[test]
 fn refuses_by_the_first_broken_bound(rt: HostRuntime) {
-    assert_eq!(rt; first_refused_otherwise(rt.alloc(), &REFUSED), None);
+    assert_eq!(rt;
+        first_wrong(&REFUSED, |row| is_refused(rt.alloc(), row)),
+        None
+    );
 }

@@ -4,6 +4,7 @@ use std::alloc::{AllocError, Global};
 use stripe_plan::{
     OldTable, Table, TableFault, bound, count, datagram_length, next_start, stripes,
 };
+use test_example::first_wrong;
 
 /// The lengths and needs of layers, and packets, with the words, the stripes of their plan, the bound and the counts.
 type Worked = (Sizes, u16, u32, u32, u32, (u16, u16, u16));
@@ -55,19 +56,12 @@ fn is_worked(alloc: Global, row: &Worked) -> Result<bool, AllocError> {
     }
 }
 
-/// The number of the first row whose table has other numbers.
-fn first_with_other_numbers(alloc: Global, rows: &[Worked]) -> Option<usize> {
-    for row in 0..rows.len() {
-        if !is_worked(alloc, &rows[row]).unwrap_or(false) {
-            return Some(row);
-        }
-    }
-    None
-}
-
 #[test]
 fn has_the_numbers_of_worked_tables(rt: HostRuntime) {
-    assert_eq!(rt; first_with_other_numbers(rt.alloc(), &WORKED), None);
+    assert_eq!(rt;
+        first_wrong(&WORKED, |row| is_worked(rt.alloc(), row)),
+        None
+    );
 }
 
 /// Packets and layers, and the end of each stripe of their plan.
@@ -121,19 +115,12 @@ fn is_planned(alloc: Global, row: &Planned) -> Result<bool, AllocError> {
     }
 }
 
-/// The number of the first row that is planned otherwise.
-fn first_planned_otherwise(alloc: Global, rows: &[Planned]) -> Option<usize> {
-    for row in 0..rows.len() {
-        if !is_planned(alloc, &rows[row]).unwrap_or(false) {
-            return Some(row);
-        }
-    }
-    None
-}
-
 #[test]
 fn goes_over_the_stripes(rt: HostRuntime) {
-    assert_eq!(rt; first_planned_otherwise(rt.alloc(), &PLANNED), None);
+    assert_eq!(rt;
+        first_wrong(&PLANNED, |row| is_planned(rt.alloc(), row)),
+        None
+    );
 }
 
 /// Packets and layers, and why there is no such table and none of the first version.
@@ -205,19 +192,12 @@ fn is_refused(alloc: Global, row: &Refused) -> Result<bool, AllocError> {
     Ok(Table::new(row.0, &layers).err() == row.2 && OldTable::new(row.0, &layers).err() == row.3)
 }
 
-/// The number of the first row that is refused otherwise.
-fn first_refused_otherwise(alloc: Global, rows: &[Refused]) -> Option<usize> {
-    for row in 0..rows.len() {
-        if !is_refused(alloc, &rows[row]).unwrap_or(false) {
-            return Some(row);
-        }
-    }
-    None
-}
-
 #[test]
 fn refuses_by_the_first_broken_bound(rt: HostRuntime) {
-    assert_eq!(rt; first_refused_otherwise(rt.alloc(), &REFUSED), None);
+    assert_eq!(rt;
+        first_wrong(&REFUSED, |row| is_refused(rt.alloc(), row)),
+        None
+    );
 }
 
 /// Whether a copy of the table is the same.
@@ -258,19 +238,9 @@ fn is_old(alloc: Global, row: &Old) -> Result<bool, AllocError> {
     }
 }
 
-/// The number of the first row that is otherwise.
-fn first_other(alloc: Global, rows: &[Old]) -> Option<usize> {
-    for row in 0..rows.len() {
-        if !is_old(alloc, &rows[row]).unwrap_or(false) {
-            return Some(row);
-        }
-    }
-    None
-}
-
 #[test]
 fn has_eight_bytes_more_in_frames_of_the_first_version(rt: HostRuntime) {
-    assert_eq!(rt; first_other(rt.alloc(), &OLD), None);
+    assert_eq!(rt; first_wrong(&OLD, |row| is_old(rt.alloc(), row)), None);
 }
 
 /// How many stripes the words have, one from each set bit of `cuts` on, or the words' number and one more where a stripe
@@ -325,17 +295,10 @@ fn has_fewest(alloc: Global, row: &Searched) -> Result<bool, AllocError> {
     }
 }
 
-/// The number of the first row whose plan has more or fewer stripes than the search finds.
-fn first_with_more(alloc: Global, rows: &[Searched]) -> Option<usize> {
-    for row in 0..rows.len() {
-        if !has_fewest(alloc, &rows[row]).unwrap_or(false) {
-            return Some(row);
-        }
-    }
-    None
-}
-
 #[test]
 fn has_as_few_stripes_as_a_search_over_all_partitions(rt: HostRuntime) {
-    assert_eq!(rt; first_with_more(rt.alloc(), &SEARCHED), None);
+    assert_eq!(rt;
+        first_wrong(&SEARCHED, |row| has_fewest(rt.alloc(), row)),
+        None
+    );
 }

@@ -1,4 +1,4 @@
-use Rattle.test_packets.proofs.receive_tests.first_wrong.Given as goal
+use Rattle.test_packets.proofs.receive_tests.are_so.Given as goal
 
 abbrev pub ghosts-is_so : goal.ghosts-is_so
 ghosts-is_so a = record { name = a.blank.name; parts = a.blank.parts }
