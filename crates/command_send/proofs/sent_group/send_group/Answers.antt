@@ -63,6 +63,6 @@ returns-clause-sends g c =
       c.in_ok-put_packets.ensures.sends,
     )
 
--- an edit that answers a change here is refused at once
+-- a body that answers a change here is refused at once
 pub returns-clause-idle : goal.returns-clause-idle
 returns-clause-idle g c = tt

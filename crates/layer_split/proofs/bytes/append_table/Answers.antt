@@ -14,7 +14,7 @@ returns-in_err-append_entry-clause-begins c =
     (to_be_bytes w32 (length c.args.runs.now) ++ flat_map run_entry (take c.loop-run.run-index c.args.runs.now))
     c.loop-run.invariant c.append_entry.ensures.begins
 
--- the edit that leaves out the count is refused here
+-- a body that leaves out the count is refused here
 pub loop-run-init : goal.loop-run-init
 loop-run-init c = search rules
 

@@ -10,6 +10,6 @@ returns-in_err-write_entry-clause-part g c =
     let r = routes g.P.Place g.K.Link c.args.place.now c.args.link.now in
     on_any_err c.from_residual.result (part_nothing (way_of c.args.to) (c.args.datagram.now ∷ []) r r refl refl)
 
--- the edits of this call are refused here, without a search for an answer to offer
+-- a mistake in the body is refused here, without a search for an answer to offer
 pub returns-clause-sends : goal.returns-clause-sends
 returns-clause-sends g c = search rules

@@ -9,6 +9,6 @@ returns-clause-shown g c = c.in_ok-shown.ensures
 pub returns-clause-joined : goal.returns-clause-joined
 returns-clause-joined g c = (c.open_all.new.groups.entries, c.in_ok-open_all.ensures.opened, c.join_all.ensures.joined)
 
--- edits are refused here, without a search for an answer to offer
+-- a mistake in the body is refused here, without a search for an answer to offer
 pub returns-clause-err : goal.returns-clause-err
 returns-clause-err g c = tt

@@ -6,7 +6,7 @@ use Rattle.packet_frame.specs.View.{view}
 use Rattle.packet_verdicts.proofs.ByCounts.{next_verdict}
 use Rattle.packet_verdicts.proofs.judge.judge_in.Goals as goal
 
--- edits are refused here, without a search for an answer to offer
+-- a mistake in the body is refused here, without a search for an answer to offer
 pub returns-then-eq : goal.returns-then-eq
 returns-then-eq c = search rules
 

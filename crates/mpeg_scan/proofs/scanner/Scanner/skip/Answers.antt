@@ -1,5 +1,5 @@
 -- The run is read as byte by byte.
-use Rattle.std.proofs.Common.{refl, arith, rules}
+use Rattle.std.proofs.Common.{refl, arith}
 use Rattle.mpeg_scan.proofs.Skipping.{skips, skips_too_far}
 use Rattle.mpeg_scan.proofs.scanner.Scanner.skip.Goals as goal
 
@@ -33,7 +33,3 @@ returns-clause-ok c s p r =
       refused = refl;
     })
     s p r
-
--- its edit is refused here, without a search for an answer to offer
-pub returns-then-end-saturating_sub-clause-refused : goal.returns-then-end-saturating_sub-clause-refused
-returns-then-end-saturating_sub-clause-refused c = search rules
