@@ -1,5 +1,5 @@
-//! Products and inverses of the field of 65,536 elements, and elements as bytes.
-ghost use Rattle.std.specs.Prelude.{◌≡◌, ◌<◌, length};
+//! Products and inverses of the field of 65,536 elements, elements as bytes, and its other calls.
+ghost use Rattle.std.specs.Prelude.{◌≡◌, ◌<◌, ℕ, length};
 
 use crate::has_product_and_inverse;
 use field_elements::{Field, Gf16Plain};
@@ -163,16 +163,38 @@ pub(crate) fn spelt_product<F: Field, L: Ledger>(
     field.write(product, into);
 }
 
+/// What the other calls of a field of 65,536 elements give: zero, one, the point of 4,095, a sum and a difference; and its
+/// constants.
+pub(crate) fn others<F: Field<Elem = u16>>(field: &F) -> ([u16; 5], usize, u32)
+    requires all { (a : ℕ) → a < 65536 → F.is_element a }
+    requires count { F.COUNT ≡ 65536 }
+{
+    let sum = field.add(0x1234, 0xFFFF);
+    let difference = field.sub(0x1234, 0xFFFF);
+    let calls = [
+        field.zero(),
+        field.one(),
+        field.point(4_095),
+        sum,
+        difference,
+    ];
+    (calls, F::WIDTH, F::COUNT)
+}
+
+/// What these are, by hand.
+pub(crate) const OTHERS: ([u16; 5], usize, u32) = ([0, 1, 4_095, 0xEDCB, 0xEDCB], 2, 65_536);
+
 #[test]
 fn agrees_with_gf_complete(rt: HostRuntime) {
     assert_eq!(rt; VECTORS.iter().position(|row| !is_so(row)), None);
 }
 
 #[test]
-fn multiplies_spelt_elements(rt: HostRuntime) {
+fn computes_as_any_field(rt: HostRuntime) {
     for (a, b, want) in [([0, 2], [0x80, 0], [0x10, 0x0B]), ([0, 3], [0, 3], [0, 5])] {
         let mut product = [0u8; 2];
         spelt_product::<Gf16Plain, Brand>(&Gf16Plain, &a, &b, &mut product, Blank::new(1));
         assert_eq!(rt; product, want);
     }
+    assert!(rt; others(&Gf16Plain) == OTHERS);
 }

@@ -21,13 +21,13 @@ fn line<L: Ledger>(first: (u16, u16), second: (u16, u16), blank: Blank) -> [u16;
     into
 }
 
-/// The line through two points that are met one after the other.
+/// The line through two points that are met one after the other, and how many were met.
 fn met_line<L: Ledger>(
     alloc: Global,
     first: (u16, u16),
     second: (u16, u16),
     blank: Blank,
-) -> Result<[u16; 2], NoMemory>
+) -> Result<([u16; 2], u32), NoMemory>
     requires name { blank.name ≡ L.name }
     requires parts { blank.parts ≡ L.parts }
     requires some { 0 < blank.parts }
@@ -39,7 +39,7 @@ fn met_line<L: Ledger>(
     progress.add(first.0, &first.1.to_be_bytes(), &mut steps);
     progress.add(second.0, &second.1.to_be_bytes(), &mut steps);
     let coefficients = progress.coefficients(0);
-    Ok([coefficients[0], coefficients[1]])
+    Ok(([coefficients[0], coefficients[1]], progress.met()))
 }
 
 #[test]
@@ -48,6 +48,6 @@ fn finds_the_line_in_both_orders(rt: HostRuntime) {
         let at_once = line::<Brand>(first, second, Blank::new(1));
         let met = met_line::<Brand>(rt.alloc(), first, second, Blank::new(1)).expect(&rt, "memory");
         assert_eq!(rt; at_once, [5, 7]);
-        assert_eq!(rt; met, [5, 7]);
+        assert_eq!(rt; met, ([5, 7], 2));
     }
 }

@@ -1,24 +1,25 @@
-//! Values and products of polynomials, over the field of 65,536 elements.
+//! Values, products and sums of polynomials, over the field of 65,536 elements.
 ghost use Rattle.std.specs.Prelude.{◌≡◌, ◌<◌};
 
 use field_elements::Gf16Plain;
 use pet_base::Steps;
-use pet_poly::{eval, times_linear};
+use pet_poly::{add_scaled, eval, eval_monic, times_linear};
 use std::marker::Brand;
 use std::sync::ledger::{Blank, Ledger};
 
-/// The value of 5 + 7 X.
-fn value<L: Ledger>(x: u16, blank: Blank) -> u16
+/// The values of 5 + 7 X and of 5 + 7 X + X X.
+fn values<L: Ledger>(x: u16, blank: Blank) -> [u16; 2]
     requires name { blank.name ≡ L.name }
     requires parts { blank.parts ≡ L.parts }
     requires some { 0 < blank.parts }
 {
     let mut steps = Steps::<L>::new(blank);
-    eval(&Gf16Plain, &[5, 7], x, &mut steps)
+    let line = eval(&Gf16Plain, &[5, 7], x, &mut steps);
+    [line, eval_monic(&Gf16Plain, &[5, 7], x, &mut steps)]
 }
 
-/// The product of X - 1 and X - 2.
-fn product<L: Ledger>(blank: Blank) -> [u16; 2]
+/// The product of X - 1 and X - 2, and to it twice 3 added at its front.
+fn products<L: Ledger>(blank: Blank) -> [[u16; 2]; 2]
     requires name { blank.name ≡ L.name }
     requires parts { blank.parts ≡ L.parts }
     requires some { 0 < blank.parts }
@@ -26,19 +27,19 @@ fn product<L: Ledger>(blank: Blank) -> [u16; 2]
     let mut steps = Steps::<L>::new(blank);
     let mut low = [1, 0];
     times_linear(&Gf16Plain, &mut low, 1, 2, &mut steps);
-    low
+    let mut sum = low;
+    add_scaled(&Gf16Plain, &mut sum, &[3], 2, &mut steps);
+    [low, sum]
 }
 
 #[test]
-fn gives_values_of_a_line(rt: HostRuntime) {
-    for (x, want) in [(0, 5), (1, 2), (2, 11), (3, 12)] {
-        assert_eq!(rt; value::<Brand>(x, Blank::new(1)), want);
+fn gives_values_of_two_polynomials(rt: HostRuntime) {
+    for (x, want) in [(0, [5, 5]), (1, [2, 3]), (2, [11, 15]), (3, [12, 9])] {
+        assert_eq!(rt; values::<Brand>(x, Blank::new(1)), want);
     }
 }
 
 #[test]
-fn multiplies_by_a_linear_factor(rt: HostRuntime) {
-    let low = product::<Brand>(Blank::new(1));
-    assert_eq!(rt; low[0], 2);
-    assert_eq!(rt; low[1], 3);
+fn multiplies_by_a_linear_factor_and_adds_a_multiple(rt: HostRuntime) {
+    assert_eq!(rt; products::<Brand>(Blank::new(1)), [[2, 3], [4, 3]]);
 }

@@ -1,7 +1,6 @@
 //! Products and inverses of the field of 65,536 elements by tables, and its other calls.
-use crate::field_tests::spelt_product;
+use crate::field_tests::{OTHERS, others, spelt_product};
 use crate::has_product_and_inverse;
-use field_elements::Field;
 use pet_field::Gf16Tables;
 use std::marker::Brand;
 use std::sync::ledger::Blank;
@@ -92,9 +91,5 @@ fn computes_as_any_field(rt: HostRuntime) {
         spelt_product::<Gf16Tables, Brand>(&field, &a, &b, &mut product, Blank::new(1));
         assert_eq!(rt; product, want);
     }
-    assert_eq!(rt; field.zero(), 0);
-    assert_eq!(rt; field.one(), 1);
-    assert_eq!(rt; field.add(0x1234, 0xFFFF), 0xEDCB);
-    assert_eq!(rt; field.sub(0x1234, 0xFFFF), 0xEDCB);
-    assert_eq!(rt; field.point(4_095), 4_095);
+    assert!(rt; others(&field) == OTHERS);
 }

@@ -1,5 +1,6 @@
 //! One call of a file, of the link or of the output fails, or every call from one on: the status is that of the object, the journal
-//! has the packets that came, and what was written and printed is a front of what a run writes and prints.
+//! has the packets that came, and what was written and printed is a front of what a run writes and prints. Words of no
+//! form are told first, whatever fails.
 use crate::fixtures::{ALL, ORDER, datagrams, disk_of, entries_of, is_journal, store_of};
 use crate::keeping::{BY_FILE, BY_LINK, Ended, Given, keep_given};
 use pet_base::NoMemory;
@@ -102,5 +103,7 @@ fn leaves_fronts_whatever_call_fails(rt: HostRuntime) -> Result<(), NoMemory> {
             assert_eq!(rt; of_output, Some(row.2[1]));
         }
     }
+    let unread = keep_given(rt.alloc(), &[], given(rt.alloc(), Object::Files, 0, true)?)?;
+    assert_eq!(rt; unread.status, KeepStatus::Usage);
     Ok(())
 }

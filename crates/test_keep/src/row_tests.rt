@@ -1,7 +1,9 @@
-//! Two packets of the example session, then the others on the same disk, and a file that is no journal.
+//! Two packets of the example session, then the others on the same disk, and a file that is no journal; and the number of each
+//! status.
 use crate::fixtures::{ALL, Store, TWO, disk_of, is_journal, store_of};
 use crate::keeping::{Ended, keep_packets};
 use pet_base::NoMemory;
+use pet_keep::KeepStatus;
 use std::alloc::Global;
 
 /// The packets that come; the status and what is printed; how many packets the journal then has, and how many bytes; the store
@@ -61,6 +63,21 @@ fn first_otherwise(alloc: Global) -> Result<Option<usize>, NoMemory> {
     Ok(None)
 }
 
+/// Each status, and its number.
+static STATUSES: [(KeepStatus, u8); 11] = [
+    (KeepStatus::Done, 0),
+    (KeepStatus::Usage, 1),
+    (KeepStatus::NoMemory, 2),
+    (KeepStatus::PlaceFault, 3),
+    (KeepStatus::LinkFault, 4),
+    (KeepStatus::OutFault, 5),
+    (KeepStatus::OtherSession, 10),
+    (KeepStatus::Incomplete, 12),
+    (KeepStatus::TurnsSpent, 13),
+    (KeepStatus::DiskFault, 22),
+    (KeepStatus::BadJournal(9), 23),
+];
+
 #[test]
 fn goes_on_from_run_to_run(rt: HostRuntime) -> Result<(), NoMemory> {
     assert_eq!(rt; first_otherwise(rt.alloc())?, None);
@@ -71,7 +88,8 @@ fn goes_on_from_run_to_run(rt: HostRuntime) -> Result<(), NoMemory> {
 fn leaves_a_file_that_is_no_journal(rt: HostRuntime) -> Result<(), NoMemory> {
     let bytes = b"PETX0123456789";
     let ended = keep_packets(rt.alloc(), disk_of(rt.alloc(), bytes, None)?, &[3, 0])?;
-    assert_eq!(rt; ended.status.code(), 23);
+    assert_eq!(rt; ended.status, KeepStatus::BadJournal(0));
+    assert!(rt; STATUSES.iter().all(|(status, code)| status.code() == *code));
     assert_eq!(rt; ended.out.bytes(), b"fault journal 0\n".as_slice());
     assert_eq!(rt; ended.disk.bytes(), bytes.as_slice());
     assert_eq!(rt; ended.place.bytes_of("t"), None);

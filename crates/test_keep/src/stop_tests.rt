@@ -1,10 +1,17 @@
-//! A run that stops at each call of its disk, and the runs that go on from what it leaves.
+//! A run that stops at each call of its disk, and the runs that go on from what it leaves; what a keeper answers then; and a file
+//! that cannot be made.
+ghost use Rattle.std.specs.Prelude.{◌≡◌, ◌<◌};
+
 use crate::fixtures::{ALL, ORDER, disk_of, is_journal, journal_of, store_of};
 use crate::keeping::{Ended, keep_packets};
-use pet_base::NoMemory;
-use pet_keep::{KeepStatus, MemoryDisk};
+use pet_base::{Failed, NoMemory, Steps};
+use pet_field::Gf16Tables;
+use pet_keep::{Disk, FileDisk, KeepFault, KeepStatus, Keeper, MemoryDisk, StartFault};
+use pet_receive::Verdict;
 use std::alloc::Global;
-use test_example::first_number_wrong;
+use std::marker::Brand;
+use std::sync::ledger::{Blank, Ledger};
+use test_example::{SESSION, first_number_wrong, packets};
 
 /// How many calls the first run makes of its disk: four to begin a journal, and four for each packet.
 const CALLS: u64 = 12;
@@ -100,10 +107,48 @@ fn stops_and_goes_on(alloc: Global, call: u64) -> Result<bool, NoMemory> {
     )
 }
 
+/// How many calls a keeper makes of its disk for a new journal and its first packet.
+const FIRST_CALLS: u64 = 8;
+
+/// Whether a keeper does not start on a disk that fails at once; and one whose disk fails behind its first packet answers so to the
+/// second, answers to the third that it is stopped, and has the first.
+fn tells_that_its_disk_failed<L: Ledger>(alloc: Global, blank: Blank) -> Result<bool, NoMemory>
+    requires name { blank.name ≡ L.name }
+    requires parts { blank.parts ≡ L.parts }
+    requires some { 0 < blank.parts }
+{
+    let field = Gf16Tables::new(alloc)?;
+    let mut steps = Steps::<L>::new(blank);
+    let failing = disk_of(alloc, b"", Some(0))?;
+    let unstarted = match Keeper::start(alloc, &field, SESSION, failing, 1_000, &mut steps) {
+        Ok(_) => false,
+        Err((_, fault)) => fault == StartFault::DiskFault,
+    };
+    let disk = disk_of(alloc, b"", Some(FIRST_CALLS))?;
+    let Ok(mut keeper) = Keeper::start(alloc, &field, SESSION, disk, 1_000, &mut steps) else {
+        return Ok(false);
+    };
+    let packets = packets();
+    let first = keeper.accept(&packets[0][2..], &mut steps);
+    let second = keeper.accept(&packets[1][2..], &mut steps);
+    let third = keeper.accept(&packets[2][2..], &mut steps);
+    Ok(
+        unstarted
+            && matches!(first, Ok(Verdict::Kept(_)))
+            && (second, third) == (Err(KeepFault::DiskFault), Err(KeepFault::Stopped))
+            && keeper.receiver().has(0, 0)
+            && keeper.stop().bytes().len() >= 105,
+    )
+}
+
 #[test]
-fn stops_at_each_call_that_fails(rt: HostRuntime) {
+fn stops_at_each_call_that_fails(rt: HostRuntime) -> Result<(), NoMemory> {
     assert_eq!(rt;
         first_number_wrong(ALL_CALLS, |call| stops_and_goes_on(rt.alloc(), call)),
         None
     );
+    assert!(rt; tells_that_its_disk_failed::<Brand>(rt.alloc(), Blank::new(1))?);
+    let mut file = FileDisk::new(&rt, "pet_keep_missing/j");
+    assert_eq!(rt; file.length(), Err(Failed));
+    Ok(())
 }

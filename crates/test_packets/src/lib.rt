@@ -1,5 +1,5 @@
-//! Tests over the public calls of `packet_frame`, `pet_encode`, `packet_sending`, `packet_verdicts` and `pet_receive`, as a
-//! caller sees them.
+//! Tests over the public calls of `packet_frame`, `packet_set`, `pet_encode`, `packet_sending`, `packet_verdicts` and
+//! `pet_receive`, as a caller sees them.
 //!
 //! They stand apart because the gate proves a crate with tests twice, once alone and once with them: here the second time is
 //! the tests' own. No program uses this crate.
@@ -21,5 +21,7 @@ mod receive_fixtures;
 mod receive_tests;
 #[cfg(test)]
 mod send_tests;
+#[cfg(test)]
+mod set_tests;
 #[cfg(test)]
 mod union_tests;

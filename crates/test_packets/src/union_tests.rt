@@ -139,7 +139,14 @@ fn takes_in_what_another_has_kept(rt: HostRuntime) {
     assert_eq!(rt; first_wrong(rt.alloc(), &ROWS), None);
 }
 
-/// Whether a receiver lends the payload of a packet that it took in, and tells how many groups there are.
+/// Whether a receiver has the tags of a packet that came to it and of one that it took in beside them, and of no other.
+fn has_tags(receiver: &Receiver<'_, Gf16Plain>) -> bool {
+    receiver.tag(0, 2) == Some(EXAMPLE_2.3.to_be_bytes())
+        && receiver.tag(0, 5) == Some(EXAMPLE_5.3.to_be_bytes())
+        && receiver.tag(0, 1).is_none()
+}
+
+/// Whether a receiver lends the payload of a packet that it took in, has its tag, counts it, and tells how many groups there are.
 fn lends<L: Ledger>(alloc: Global, blank: Blank) -> Result<bool, NoMemory>
     requires name { blank.name ≡ L.name }
     requires parts { blank.parts ≡ L.parts }
@@ -150,8 +157,14 @@ fn lends<L: Ledger>(alloc: Global, blank: Blank) -> Result<bool, NoMemory>
     let mut mine = Receiver::new(alloc, &field, SESSION, 1_000);
     accept_all(alloc, &mut mine, FIRST_TWO, &mut steps)?;
     let is_taken_in = takes_in(alloc, &field, &mut mine, LAST, Ok(&[(0, 1)]), &mut steps)?;
+    let counted = (mine.groups(), mine.count(0), mine.has(0, 5), mine.has(0, 1));
     let payload = mine.packet(0, 5);
-    Ok(is_taken_in && mine.groups() == Some(1) && payload == Some(EXAMPLE_5.2))
+    Ok(
+        is_taken_in
+            && counted == (Some(1), 3, true, false)
+            && payload == Some(EXAMPLE_5.2)
+            && has_tags(&mine),
+    )
 }
 
 #[test]

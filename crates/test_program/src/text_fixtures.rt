@@ -39,7 +39,8 @@ const NONE: GroupMark = GroupMark {
 };
 
 /// Statuses with their numbers and lines.
-pub(crate) static FAULTS: [(Status, u8, &str); 25] = [
+pub(crate) static FAULTS: [(Status, u8, &str); 27] = [
+    (Status::Done, 0, ""),
     (Status::Incomplete, 12, "fault incomplete\n"),
     (Status::LinkFault, 4, "fault link\n"),
     (
@@ -62,6 +63,11 @@ pub(crate) static FAULTS: [(Status, u8, &str); 25] = [
         Status::BadPlan(PlanKind::TooManyGroups, 65_535),
         8,
         "fault plan TooManyGroups 65535\n",
+    ),
+    (
+        Status::BadPlan(PlanKind::Lines, 2),
+        8,
+        "fault plan Lines 2\n",
     ),
     (
         Status::BadStore(1, 24, StoreKind::Cut),

@@ -3,8 +3,9 @@ use crate::text_fixtures::{FAULTS, OTHERS};
 use arrayvec::ArrayVec;
 use pet_base::NoMemory;
 use pet_text::{
-    Command, End, Status, WordsFault, bound_line, fault_line, least_line, merged_line, read_words,
-    receive_line, send_line, video_line,
+    Command, End, KeepWords, Status, WordsFault, bound_line, fault_line, least_line, merged_line,
+    migrated_line, read_keep_words, read_words, receive_line, relay_line, repaired_line, send_line,
+    unwrapped_line, video_line, wrapped_line,
 };
 use std::alloc::{AllocError, Global};
 
@@ -79,8 +80,11 @@ fn text_of(end: &End) -> &str {
 /// Whether the datagrams of a command come from or go to a link.
 fn is_by_link(command: &Command) -> bool {
     match command {
-        Command::Receive { from, .. } => matches!(from, End::Udp(_)),
-        Command::Send { to, .. } | Command::Repair { to, .. } => matches!(to, End::Udp(_)),
+        Command::Receive { from, .. }
+        | Command::Breceive { from, .. }
+        | Command::Relay { from, .. } => matches!(from, End::Udp(_)),
+        Command::Send { to, .. } | Command::Bsend { to, .. } | Command::Repair { to, .. } =>
+            matches!(to, End::Udp(_)),
         _ => false,
     }
 }
@@ -88,7 +92,9 @@ fn is_by_link(command: &Command) -> bool {
 /// The session that a command names.
 fn session_of(command: &Command) -> Option<[u8; 8]> {
     match command {
-        Command::Receive { session, .. } => Some(*session),
+        Command::Receive { session, .. }
+        | Command::Breceive { session, .. }
+        | Command::Relay { session, .. } => Some(*session),
         _ => None,
     }
 }
@@ -105,7 +111,7 @@ type Row = (
 const NAMED: Option<[u8; 8]> = Some([0, 1, 2, 3, 4, 5, 6, 7]);
 
 /// The words of each command, and addresses up to their last colon. Port 0, which is one that is to be found, is only received at.
-static READ: [Row; 29] = [
+static READ: [Row; 33] = [
     (
         &["receive", "file:a", SESSION, "b", "c"],
         ["receive", "a", "b", "c"],
@@ -144,6 +150,30 @@ static READ: [Row; 29] = [
         false,
     ),
     (&["video", "t", "o"], ["video", "t", "o", ""], None, false),
+    (
+        &["migrate", "t", "o"],
+        ["migrate", "t", "o", ""],
+        None,
+        false,
+    ),
+    (
+        &["bsend", "s", "f", "file:d"],
+        ["bsend", "s", "f", "d"],
+        None,
+        false,
+    ),
+    (
+        &["breceive", "udp:x:1", SESSION, "l"],
+        ["breceive", "x:1", "l", ""],
+        NAMED,
+        true,
+    ),
+    (
+        &["relay", "udp:x:1", SESSION, "file:d"],
+        ["relay", "x:1", "d", ""],
+        NAMED,
+        true,
+    ),
     (
         &["unwrap", "m", "e0", "o"],
         ["unwrap", "m", "o", ""],
@@ -284,9 +314,23 @@ fn first_wrong(alloc: Global, rows: &[Row]) -> Option<usize> {
     None
 }
 
+/// Whether these are the words of the other program as they stand below.
+fn are_read(words: &KeepWords) -> bool {
+    [
+        text_of(&words.from),
+        words.journal.as_str(),
+        words.store.as_str(),
+    ] == ["q", "j", "t"]
+        && words.session == [0, 1, 2, 3, 4, 5, 6, 7]
+}
+
 #[test]
-fn reads_the_words_of_each_command(rt: HostRuntime) {
+fn reads_the_words_of_each_command(rt: HostRuntime) -> Result<(), AllocError> {
     assert_eq!(rt; first_wrong(rt.alloc(), &READ), None);
+    let kept = words(rt.alloc(), &["file:q", SESSION, "j", "t"])?;
+    assert!(rt; read_keep_words(rt.alloc(), &kept).is_ok_and(|words| are_read(&words)));
+    assert!(rt; read_keep_words(rt.alloc(), &kept[..3]).err() == Some(WordsFault::Usage));
+    Ok(())
 }
 
 static REFUSED: [&[&str]; 33] = [
@@ -382,7 +426,7 @@ fn prints_the_lines_of_receive(rt: HostRuntime) {
 }
 
 #[test]
-fn prints_the_lines_of_check_send_merge_and_video(rt: HostRuntime) {
+fn prints_the_lines_of_the_other_commands(rt: HostRuntime) {
     let session = [0xA5, 0xAC, 0x94, 0x61, 0xB0, 0x3B, 0xCF, 0x36];
     let mut room: ArrayVec<u8, 64> = ArrayVec::new();
     send_line(&session, u32::MAX, u32::MAX, &mut room);
@@ -394,6 +438,21 @@ fn prints_the_lines_of_check_send_merge_and_video(rt: HostRuntime) {
     let mut room: ArrayVec<u8, 64> = ArrayVec::new();
     merged_line(7, &mut room);
     assert!(rt; room.as_slice() == b"merged 7\n".as_slice());
+    let mut room: ArrayVec<u8, 64> = ArrayVec::new();
+    migrated_line(6, &mut room);
+    assert!(rt; room.as_slice() == b"migrated 6\n".as_slice());
+    let mut room: ArrayVec<u8, 64> = ArrayVec::new();
+    repaired_line(1, 6, &mut room);
+    assert!(rt; room.as_slice() == b"repaired 1 datagrams 6\n".as_slice());
+    let mut room: ArrayVec<u8, 64> = ArrayVec::new();
+    relay_line(7, 6, &mut room);
+    assert!(rt; room.as_slice() == b"read 7 sent 6\n".as_slice());
+    let mut room: ArrayVec<u8, 64> = ArrayVec::new();
+    unwrapped_line(44, &mut room);
+    assert!(rt; room.as_slice() == b"unwrapped 44\n".as_slice());
+    let mut room: ArrayVec<u8, 64> = ArrayVec::new();
+    wrapped_line(67, &mut room);
+    assert!(rt; room.as_slice() == b"wrapped 67\n".as_slice());
     let mut room: ArrayVec<u8, 64> = ArrayVec::new();
     video_line(u64::MAX, &mut room);
     assert!(rt; room.as_slice() == b"video 18446744073709551615\n".as_slice());

@@ -178,7 +178,8 @@ fn layer_and_message(alloc: Global) -> Result<Vec<u8>, NoMemory> {
     lengths.push(46);
     lengths.push(7);
     lengths.push(15);
-    let cut = GroupCut { runs, lengths };
+    let mut cut = GroupCut { runs, lengths };
+    cut.rebase(0);
     let mut bytes = Vec::new(alloc);
     layer_bytes(&STREAM, &cut, 0, &mut bytes)?;
     message(&STREAM, &cut, &mut bytes)?;

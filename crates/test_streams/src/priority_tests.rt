@@ -322,17 +322,21 @@ fn layers_by_place(alloc: Global, text: &str) -> Option<[u8; 5]> {
     ])
 }
 
-/// Whether the set of the P pictures and of the first B picture of a group has that place alone.
-fn has_first_b_alone() -> bool {
+/// Whether the set of the P pictures and of the first B picture of a group has that kind and that place alone.
+fn has_p_and_first_b_alone() -> bool {
     let set = KindSet { bits: 16_388 };
-    set.has_place(Kind::B, 1) && !set.has_place(Kind::P, 1) && !set.has_place(Kind::B, 9)
+    set.has(Kind::P)
+        && !set.has(Kind::B)
+        && set.has_place(Kind::B, 1)
+        && !set.has_place(Kind::P, 1)
+        && !set.has_place(Kind::B, 9)
 }
 
 #[test]
 fn gives_a_listed_place_its_layer(rt: HostRuntime) {
     let layers = layers_by_place(rt.alloc(), FIRST_B_WITH_P);
     assert_eq!(rt; layers, Some([1, 2, 2, 1, 0]));
-    assert!(rt; has_first_b_alone());
+    assert!(rt; has_p_and_first_b_alone());
 }
 
 /// Whether the layers of a row are a priority exactly where that is told.
