@@ -1,7 +1,7 @@
 //! How the program starts: its words, and the command that they give, over the files, the network and the output of this
 //! machine.
 //!
-//! `pet` is this alone, and `trial_loopback` runs it as two processes, of which one receives what the other sends. What the
+//! `pet` is this alone, and `trial` runs it as two processes, of which one receives what the other sends. What the
 //! words are for is told by `run`, and what the real ends tell by `pet_ends`.
 ghost use Rattle.std.specs.Prelude.{◌≡◌, ◌<◌, ◌↔◌, None};
 ghost use Rattle.pet_text.specs.Words.{texts_of, command_of};

@@ -1,6 +1,6 @@
 use Rattle.std.proofs.Common.{◌<◌}
 use Rattle.std.proofs.lemmas.List.Elements.{All-map}
-use Rattle.bench_rows.proofs.calls.add_fitting.Goals as goal
+use Rattle.trial.proofs.calls.add_fitting.Goals as goal
 
 pub add_products-requires-clause-factors : goal.add_products-requires-clause-factors
 add_products-requires-clause-factors g c =

@@ -1,5 +1,5 @@
 use Rattle.std.proofs.Common.{◌≡◌, ◌<◌, length, All}
-use Rattle.bench_rows.proofs.calls.prepared.Given as goal
+use Rattle.trial.proofs.calls.prepared.Given as goal
 
 abbrev pub invariant-loop-i : goal.invariant-loop-i
 invariant-loop-i l = record {

@@ -7,7 +7,7 @@ use field_transform::values;
 use pet_base::Steps;
 use pet_field::Gf16Tables;
 use std::alloc::{AllocError, Global};
-use std::sync::ledger::{Blank, Ledger};
+use std::sync::ledger::Ledger;
 
 /// The values at so many points: 2 to the power `LEVEL`.
 const LEVEL: u32 = 7;
@@ -23,13 +23,8 @@ pub fn transformed<L: Ledger>(
     tables: &Gf16Tables,
     group: &Group,
     row: &[u16],
-    blank: Blank,
-) -> Result<Vec<u16>, AllocError>
-    requires name { blank.name ≡ L.name }
-    requires parts { blank.parts ≡ L.parts }
-    requires some { 0 < blank.parts }
-{
-    let mut steps = Steps::<L>::new(blank);
+    steps: &mut Steps<L>,
+) -> Result<Vec<u16>, AllocError> {
     let stripes = usize::from(group.stripes);
     let mut rows = zeros(alloc, POINTS * stripes)?;
     put_values(
@@ -39,7 +34,7 @@ pub fn transformed<L: Ledger>(
         stripes,
         usize::from(group.packets),
         &mut rows,
-        &mut steps,
+        steps,
     );
     Ok(rows)
 }

@@ -1,12 +1,13 @@
 //! A group encoded and decoded, by blocks and stripe by stripe.
-ghost use Rattle.std.specs.Prelude.{◌≡◌, ℕ, ◌<◌, All};
+ghost use Rattle.std.specs.Prelude.{◌<◌, All};
 
-use crate::calls::{add, inverse_at, prepared, scale, value, values};
+use crate::calls::{add, inverse_at, prepared, scale, values};
 use field_elements::Field;
 use field_rows::Rows;
 use field_vectors::Products;
 use pet_base::Steps;
 use pet_field::Gf16Tables;
+use pet_poly::eval;
 use std::alloc::{AllocError, Global};
 use std::sync::ledger::Ledger;
 
@@ -78,7 +79,7 @@ fn singly<L: Ledger>(
 ) {
     if length > 0 {
         for (stripe, place) in row.chunks_exact(length).zip(into.iter_mut()) {
-            *place = value(tables, stripe, x, steps);
+            *place = eval(tables, stripe, x, steps);
         }
     }
 }

@@ -1,12 +1,12 @@
 //! A group of stripes of one length, and its packets.
-ghost use Rattle.std.specs.Prelude.{◌≡◌, ℕ, ◌<◌, length, vec_len, IfOk};
+ghost use Rattle.std.specs.Prelude.{◌≡◌, vec_len, IfOk};
 
 use crate::coding::{Known, Way, absorb, packet};
 use field_rows::transpose;
 use pet_base::Steps;
 use pet_field::Gf16Tables;
 use std::alloc::{AllocError, Global};
-use std::sync::ledger::{Blank, Ledger};
+use std::sync::ledger::Ledger;
 
 /// So many stripes of so many words, and how many packets are made of them.
 #[derive(Clone, Copy, Drop)]
@@ -76,13 +76,8 @@ pub fn encode<L: Ledger>(
     group: &Group,
     way: Way,
     row: &[u16],
-    blank: Blank,
-) -> Result<Vec<u16>, AllocError>
-    requires name { blank.name ≡ L.name }
-    requires parts { blank.parts ≡ L.parts }
-    requires some { 0 < blank.parts }
-{
-    let mut steps = Steps::<L>::new(blank);
+    steps: &mut Steps<L>,
+) -> Result<Vec<u16>, AllocError> {
     let laid = lay_out(alloc, group, way.width(), row)?;
     let stripes = usize::from(group.stripes);
     let mut packets = vec![in alloc; 0u16; stripes * usize::from(group.packets)]?;
@@ -96,7 +91,7 @@ pub fn encode<L: Ledger>(
                 usize::from(group.length),
                 x,
                 into,
-                &mut steps,
+                steps,
             );
         }
     }
@@ -111,13 +106,8 @@ pub fn decode<L: Ledger>(
     group: &Group,
     width: usize,
     packets: &[u16],
-    blank: Blank,
-) -> Result<Known, AllocError>
-    requires name { blank.name ≡ L.name }
-    requires parts { blank.parts ≡ L.parts }
-    requires some { 0 < blank.parts }
-{
-    let mut steps = Steps::<L>::new(blank);
+    steps: &mut Steps<L>,
+) -> Result<Known, AllocError> {
     let mut known = Known {
         places: vec![in alloc; 0u16; group.words()]?,
         product: Vec::new(alloc),
@@ -127,7 +117,7 @@ pub fn decode<L: Ledger>(
     let length = usize::from(group.length);
     if stripes > 0 {
         for (payload, x) in packets.chunks_exact(stripes).zip(0..group.length) {
-            absorb(alloc, tables, &mut known, length, x, payload, &mut steps)?;
+            absorb(alloc, tables, &mut known, length, x, payload, steps)?;
         }
     }
     Ok(known)

@@ -6,7 +6,7 @@ use field_rows::{MAX_WIDTH, Rows};
 use field_vectors::Products;
 use pet_base::Steps;
 use pet_field::Gf16Tables;
-use pet_poly::{eval, eval_monic};
+use pet_poly::eval_monic;
 use std::alloc::{AllocError, Global};
 use std::sync::ledger::Ledger;
 
@@ -81,16 +81,6 @@ fn add_fitting<L: Ledger>(
     requires room { length factors.now * length row.now ≤ length rows.old }
 {
     tables.add_products(factors, row, rows, steps);
-}
-
-/// The value at a point of the coefficients.
-pub fn value<L: Ledger>(
-    tables: &Gf16Tables,
-    coefficients: &[u16],
-    x: u16,
-    steps: &mut Steps<L>,
-) -> u16 {
-    eval(tables, coefficients, x, steps)
 }
 
 /// The inverse of the value at a point of a monic polynomial, or nothing at a root.

@@ -1,6 +1,4 @@
 //! A keeper over a real file whose user tells what was acknowledged.
-ghost use Rattle.std.specs.Prelude.{◌≡◌, ◌<◌};
-
 use packet_frame::read_frame;
 use pet_base::{Got, Link, MAX_DATAGRAMS, MAX_ENTRY, MAX_PACKETS, MAX_SESSION, Steps};
 use pet_ends::UdpLink;
@@ -10,34 +8,26 @@ use pet_receive::{Receiver, Verdict};
 use pet_text::{End, KeepWords};
 use std::alloc::AllocError;
 use std::io;
-use std::sync::ledger::{Blank, Ledger};
+use std::sync::ledger::Ledger;
 
 /// Keeps what comes by the link of FROM in JOURNAL. It prints `has GROUP NUMBER` of each packet that the journal has, then `bound
 /// PORT`, and then `kept GROUP NUMBER` of each packet once it is acknowledged. It answers whether nothing failed.
-pub fn tell_kept<L: Ledger>(rt: &HostRuntime, words: &KeepWords, blank: Blank) -> io::Result<bool>
-    requires name { blank.name ≡ L.name }
-    requires parts { blank.parts ≡ L.parts }
-    requires some { 0 < blank.parts }
-{
+pub fn tell_kept<L: Ledger>(
+    rt: &HostRuntime,
+    words: &KeepWords,
+    steps: &mut Steps<L>,
+) -> io::Result<bool> {
     let End::Udp(address) = &words.from else {
         return Ok(false);
     };
     let Ok(field) = Gf16Tables::new(rt.alloc()) else {
         return Err(AllocError.into());
     };
-    let mut steps = Steps::<L>::new(blank);
     let disk = FileDisk::new(rt, words.journal.as_str());
-    match Keeper::start(
-        rt.alloc(),
-        &field,
-        words.session,
-        disk,
-        MAX_SESSION,
-        &mut steps,
-    ) {
+    match Keeper::start(rt.alloc(), &field, words.session, disk, MAX_SESSION, steps) {
         Ok(mut keeper) => {
             tell_journal(rt, keeper.receiver())?;
-            keep_link(rt, address.as_str(), &mut keeper, &mut steps)
+            keep_link(rt, address.as_str(), &mut keeper, steps)
         }
         Err(_) => Ok(false),
     }
