@@ -3,7 +3,7 @@ ghost use Rattle.std.specs.Prelude.{◌≡◌, ◌≤◌, ◌+◌, ◌++◌, [],
 ghost use Rattle.pet_base.specs.declared.limits.TheConstants.{MAX_ENTRY};
 ghost use Rattle.pet_base.specs.Entries.{entry_text, first_entry};
 ghost use Rattle.pet_ends.specs.Waits.{Waits, LacksEntry, HasMadeRoom};
-ghost use Rattle.pet_ends.specs.declared.waiting.TheConstants.{MOST_KEPT, LENGTH_BYTES};
+ghost use Rattle.pet_ends.specs.declared.waiting.TheConstants.{LENGTH_BYTES};
 
 use pet_base::MAX_ENTRY;
 use std::alloc::Global;

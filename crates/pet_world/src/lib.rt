@@ -17,4 +17,4 @@ mod world;
 
 pub use fault::WorldFault;
 pub use pet_base::{Event, Shown};
-pub use world::{MAX_RECEIVERS, World};
+pub use world::{MAX_RECEIVERS, World, limits_are};

@@ -25,6 +25,12 @@ use store_text::BadStore;
 /// The most receivers of a world.
 pub const MAX_RECEIVERS: u8 = 8;
 
+/// The number of the limit. Definitions name the constant alone, so without this clause every proof would hold of another
+/// number too. It does nothing.
+pub fn limits_are()
+    ensures { MAX_RECEIVERS ≡ 8 }
+{}
+
 /// Receivers of one session, and what makes the session's packets.
 #[derive(Drop)]
 pub struct World<'f, F: Rows> {

@@ -3,8 +3,10 @@ ghost use Rattle.std.specs.Prelude.{◌≤◌, length};
 
 use crate::system_fixtures::{MIXED, MIXED_VIDEO, WRAPPED};
 use mpeg_system::{System, Unwrap, wrap};
+use pet_base::NoMemory;
+use sha2::{Digest, Sha256};
 use std::alloc::{AllocError, Global};
-use test_example::STREAM;
+use test_example::{STREAM, first_wrong};
 
 /// The first so many bytes of a stream, how it ends, and the video that was given until then.
 type Row = (&'static [u8], usize, Result<(), System>, &'static [u8]);
@@ -156,4 +158,47 @@ fn wraps_nothing_as_a_pack_and_an_end(rt: HostRuntime) {
     let mut text = Vec::new(rt.alloc());
     assert!(rt; wrap(&[], &mut text).is_ok());
     assert!(rt; text.len() == 16 && is_read(rt.alloc(), 0xE0, &text, Err(System::NoVideo), &[]));
+}
+
+/// The bytes of a video and of its wrapped form, and the first 8 bytes of the form's SHA-256 digest. A program in Python has
+/// them.
+type LongRow = (usize, usize, [u8; 8]);
+
+/// One full packet, two of them, and a packet of one byte more.
+static LONG_ROWS: [LongRow; 3] = [
+    (
+        2_000,
+        2_023,
+        [0x38, 0x7B, 0x77, 0x80, 0xF6, 0x04, 0x6A, 0x45],
+    ),
+    (
+        4_000,
+        4_030,
+        [0x0E, 0xFF, 0x51, 0x10, 0xD0, 0x7B, 0x4C, 0xF2],
+    ),
+    (
+        4_001,
+        4_038,
+        [0xA6, 0x9C, 0x83, 0xBF, 0x0E, 0xF8, 0x3B, 0xA8],
+    ),
+];
+
+/// Whether the video of a row, which has the bytes 0 to 250 again and again, is wrapped so.
+fn is_wrapped(alloc: Global, row: &LongRow) -> Result<bool, NoMemory> {
+    let (length, whole, digest) = *row;
+    let mut video = Vec::new(alloc);
+    for i in 0..length {
+        video.push((i % 251) as u8)?;
+    }
+    let mut text = Vec::new(alloc);
+    wrap(&video, &mut text)?;
+    Ok(text.len() == whole && Sha256::digest(&text)[..8] == digest[..])
+}
+
+#[test]
+fn wraps_a_packet_for_each_2000_bytes_and_for_the_rest(rt: HostRuntime) {
+    assert_eq!(rt;
+        first_wrong(&LONG_ROWS, |row| is_wrapped(rt.alloc(), row)),
+        None
+    );
 }
