@@ -55,8 +55,16 @@ static READ: [Read; 8] = [
 type Refused = (&'static str, PriorityFault);
 
 /// One file for each refusal, each with one cause.
-static REFUSED: [Refused; 26] = [
+static REFUSED: [Refused; 28] = [
     ("packets = ", PriorityFault::Text),
+    (
+        "more = 1\npackets = 6\nlayer = [{name = 'base', kinds = ['head', 'I'], need = 2}, {name = 'P', kinds = ['P'], need = 3}, {name = 'B', kinds = ['B'], need = 5}]\n",
+        PriorityFault::UnknownKey,
+    ),
+    (
+        "packets = 6\nlayer = [{name = 'base', kinds = ['head', 'I', 'P', 'B', 'B'], need = 2}]\n",
+        PriorityFault::KindTwice,
+    ),
     (
         "packets = 6\nlayer = [{name = 'base', kinds = ['head', 'I'], need = 2}, {name = 'P', kinds = ['P'], need = 3}, {name = 'B', kinds = ['B'], need = 5, more = 1}]\n",
         PriorityFault::UnknownKey,

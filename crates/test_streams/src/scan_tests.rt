@@ -95,11 +95,12 @@ fn reads_the_pieces_of_streams_cut_anywhere(rt: HostRuntime) {
 /// A stream, and why it is refused.
 type Refused = (&'static [u8], Scan);
 
-static REFUSED: [Refused; 8] = [
+static REFUSED: [Refused; 9] = [
     (&[], Scan::Empty),
-    // another byte first, a picture, and a pack
+    // another byte first, a picture, a slice, and a pack
     (&[0x12, 0, 0, 1, 0xB3], Scan::NoHead(0)),
     (&[0, 0, 1, 0, 0, 8], Scan::NoHead(2)),
+    (&[0, 0, 1, 1], Scan::NoHead(2)),
     (&[0, 0, 1, 0xBA], Scan::System(0)),
     // a later pack
     (&[0, 0, 1, 0xB3, 5, 0, 0, 1, 0xBA], Scan::System(5)),
