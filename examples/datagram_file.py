@@ -38,7 +38,7 @@ def look(file, name):
     return lengths
 
 
-def datagrams(file):
-    """The datagrams of a file that was looked at, from here on."""
-    while head := file.read(HEAD):
-        yield file.read(int.from_bytes(head, "big"))
+def datagrams(file, lengths):
+    """The datagrams of these lengths from here on."""
+    for length in lengths:
+        yield file.read(HEAD + length)[HEAD:]
