@@ -13,6 +13,8 @@ import pathlib
 import subprocess
 import sys
 
+# The module beside this script is not compiled into a folder there, which ./install would not know.
+sys.dont_write_bytecode = True
 import wrong_frames
 
 HERE = pathlib.Path(__file__).resolve().parent
