@@ -10,7 +10,7 @@ use std::alloc::Global;
 use std::marker::Brand;
 use std::sync::ledger::{Blank, Ledger};
 use std::test::Fail;
-use test_example::{SESSION, packets};
+use test_script::{SESSION, packets};
 
 /// A record: its arrival, its layer, and where the layer's bytes stand in the message.
 type Record = (u8, u8, (usize, usize));

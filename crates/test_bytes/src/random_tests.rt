@@ -12,7 +12,7 @@ use std::marker::Brand;
 use std::sync::ledger::{Blank, Ledger};
 use std::test::Fail;
 use stripe_plan::{Table, counts, stripes};
-use test_example::SESSION;
+use test_script::SESSION;
 
 /// How many sessions are drawn.
 const SESSIONS: u32 = 200;

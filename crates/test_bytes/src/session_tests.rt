@@ -15,7 +15,7 @@ use std::marker::Brand;
 use std::sync::ledger::{Blank, Ledger};
 use std::test::Fail;
 use stripe_plan::stripes;
-use test_example::SESSION;
+use test_script::SESSION;
 
 /// The bytes of a frame.
 const FRAME_LENGTH: usize = 88;

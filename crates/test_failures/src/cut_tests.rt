@@ -6,7 +6,7 @@ use pet_tool::run;
 use std::alloc::Global;
 use std::marker::Brand;
 use std::sync::ledger::{Blank, Ledger};
-use test_example::{PRIORITIES, STREAM};
+use test_script::{PRIORITIES, STREAM};
 use text_status::Status;
 
 /// At which lengths the stream is refused, and by which line: it has no head, or ends before a picture's type. From the definitions, by

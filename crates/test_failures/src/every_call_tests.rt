@@ -34,7 +34,7 @@ const BOTH: &[(&str, Text)] = &[("l", Text::Layers), ("t", Text::Store)];
 
 /// What reads a stream.
 static OF_STREAMS: [Row; 6] = [
-    (&["plan", "s", "f"], &[], test_example::PLAN, false),
+    (&["plan", "s", "f"], &[], test_script::PLAN, false),
     (&["check", "s", "f", "p"], &[], "least 1\n", false),
     (
         &["send", "s", "f", "file:d"],

@@ -1,7 +1,7 @@
 //! The example session as the files that commands read and write. Records, tags and the wrapped stream were made outside.
 use pet_base::{MemoryPlace, NoMemory};
 use std::alloc::{AllocError, Global};
-use test_example::{PLAN, PRIORITIES, SESSION, STREAM, byte_packets, old_store, packets};
+use test_script::{PLAN, PRIORITIES, SESSION, STREAM, byte_packets, old_store, packets};
 
 /// The store of the example session that has no packet.
 pub(crate) const NOTHING: [u8; 32] = [

@@ -4,13 +4,12 @@ ghost use Rattle.std.specs.Prelude.{◌≡◌, ◌<◌, IfOk};
 ghost use Rattle.pet_base.specs.Feed.{AreShort};
 
 use crate::example::files;
-use crate::{Watch, Watched};
 use pet_base::{MAX_ENTRY, MemoryLink, MemoryPlace, MemorySink, NoMemory, Steps};
 use pet_tool::run;
 use std::alloc::{AllocError, Global};
 use std::marker::Brand;
 use std::sync::ledger::{Blank, Ledger};
-use test_example::packets;
+use test_script::{Watch, Watched, packets};
 use text_status::Status;
 
 /// What fails.

@@ -4,10 +4,6 @@
 //! the tests' own. No program uses this crate.
 #![tactic(auto)]
 
-mod watch;
-
-pub use watch::{Watch, Watched};
-
 #[cfg(test)]
 mod cut_tests;
 #[cfg(test)]

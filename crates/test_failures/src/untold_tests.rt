@@ -8,7 +8,7 @@ use pet_tool::run;
 use std::alloc::Global;
 use std::marker::Brand;
 use std::sync::ledger::{Blank, Ledger};
-use test_example::{BYTE_ENTRY_LENGTH, ENTRY_LENGTH};
+use test_script::{BYTE_ENTRY_LENGTH, ENTRY_LENGTH};
 use text_status::Status;
 
 /// A place that tells nothing. Each input has these bytes, and fails behind them; it keeps what is put to `l`, the file that the

@@ -5,7 +5,7 @@ ghost use Rattle.pet_base.specs.Feed.{AreShort};
 use outside_disk::MemoryDisk;
 use pet_base::MAX_ENTRY;
 use std::alloc::{AllocError, Global};
-use test_example::{SESSION, packets};
+use test_script::{SESSION, packets};
 
 /// The packets of the session, in the order in which they come.
 pub(crate) const ORDER: [u8; 6] = [3, 0, 4, 5, 1, 2];

@@ -11,7 +11,7 @@ use pet_receive::Verdict;
 use std::alloc::{AllocError, Global};
 use std::marker::Brand;
 use std::sync::ledger::{Blank, Ledger};
-use test_example::{SESSION, first_number_wrong};
+use test_script::{SESSION, first_number_wrong};
 
 /// How many seeds are tried, and so twice as many images.
 const SEEDS: u64 = 500;

@@ -8,7 +8,7 @@ use pet_keep::{Keeper, MemoryDisk, StartFault};
 use std::alloc::{AllocError, Global};
 use std::marker::Brand;
 use std::sync::ledger::{Blank, Ledger};
-use test_example::{ENTRY_LENGTH, SESSION, first_wrong};
+use test_script::{ENTRY_LENGTH, SESSION, first_wrong};
 
 /// A piece of a file.
 #[derive(Clone, Copy)]

@@ -11,7 +11,7 @@ use pet_receive::Verdict;
 use std::alloc::Global;
 use std::marker::Brand;
 use std::sync::ledger::{Blank, Ledger};
-use test_example::{SESSION, first_number_wrong, packets};
+use test_script::{SESSION, first_number_wrong, packets};
 
 /// How many calls the first run makes of its disk: four to begin a journal, and four for each packet.
 const CALLS: u64 = 12;

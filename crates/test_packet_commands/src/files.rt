@@ -2,7 +2,7 @@
 use crate::store_head;
 use pet_base::{MemoryPlace, NoMemory};
 use std::alloc::{AllocError, Global};
-use test_example::{SESSION, packets};
+use test_script::{SESSION, packets};
 
 /// A packet's session; how many groups this has, and which is the packet's; and how many packets this has, and which it is.
 pub(crate) type Packet = ([u8; 8], [u8; 4]);

@@ -1,7 +1,7 @@
 //! What the tests of `merge` share: stores of the example session, with tags and a packet of another payload that were made
 //! outside.
 use crate::files::{File, Piece};
-use test_example::SESSION;
+use test_script::SESSION;
 
 /// The tags of stores of the example session: of packets 1 and 2, and of 1, 2 and 5.
 pub(crate) const ONE_AND_TWO_TAG: Piece = Piece::Hex("9090DF044921D6F391C8B9F5EA17DD74");

@@ -6,7 +6,7 @@ use command_merge::MergeEnd;
 use pet_base::NoMemory;
 use std::alloc::{AllocError, Global};
 use store_text::StoreKind;
-use test_example::SESSION;
+use test_script::SESSION;
 
 const FAULT: Run = Run::Merge(MergeEnd::PlaceFault);
 
@@ -26,7 +26,7 @@ fn has_length(alloc: Global, (store, length): &(File, usize)) -> Result<bool, Al
 #[test]
 fn stores_have_their_lengths(rt: HostRuntime) {
     assert_eq!(rt;
-        test_example::first_wrong(&LENGTHS, |row| has_length(rt.alloc(), row)),
+        test_script::first_wrong(&LENGTHS, |row| has_length(rt.alloc(), row)),
         None
     );
 }
@@ -55,7 +55,7 @@ fn is_merged(alloc: Global, (first, second, count, union): &Merged) -> Result<bo
 #[test]
 fn merges_stores_of_the_example_session_in_either_order(rt: HostRuntime) {
     assert_eq!(rt;
-        test_example::first_wrong(&MERGED, |row| is_merged(rt.alloc(), row)),
+        test_script::first_wrong(&MERGED, |row| is_merged(rt.alloc(), row)),
         None
     );
 }
@@ -111,7 +111,7 @@ fn is_refused(alloc: Global, (files, end): &Refused) -> Result<bool, NoMemory> {
 #[test]
 fn refuses_stores_that_are_bad_or_cannot_be_joined(rt: HostRuntime) {
     assert_eq!(rt;
-        test_example::first_wrong(&REFUSED, |row| is_refused(rt.alloc(), row)),
+        test_script::first_wrong(&REFUSED, |row| is_refused(rt.alloc(), row)),
         None
     );
 }

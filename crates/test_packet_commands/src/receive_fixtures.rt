@@ -1,7 +1,7 @@
 //! What the tests of `receive` share: packets, records of layers and stores whose tags were made outside.
 use crate::files::{File, OTHER_SESSION, Piece};
 use command_receive::Totals;
-use test_example::SESSION;
+use test_script::SESSION;
 
 /// What a reading of `FIRST` comes to, and of `WORDS`.
 pub(crate) const SHORT_TOTALS: Totals = Totals {

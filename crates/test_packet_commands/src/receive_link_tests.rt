@@ -11,8 +11,8 @@ use command_receive::ReceiveEnd;
 use pet_base::MemorySink;
 use std::cell::Cell;
 use std::test::Fail;
-use test_example::SESSION;
 use test_outside::{UntoldPlace, run_on};
+use test_script::SESSION;
 
 const ENTRIES: (Option<File>, Option<File>) = (Some(FIRST), None);
 

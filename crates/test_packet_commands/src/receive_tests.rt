@@ -9,7 +9,7 @@ use crate::receive_fixtures::{
 use command_receive::{ReceiveEnd, Totals};
 use pet_base::NoMemory;
 use std::alloc::Global;
-use test_example::SESSION;
+use test_script::SESSION;
 
 const DONE: Run = Run::Receive(OTHER_SESSION, ReceiveEnd::Done(SHORT_TOTALS));
 
@@ -58,7 +58,7 @@ fn is_received(
 #[test]
 fn receives_short_files_of_datagrams(rt: HostRuntime) {
     assert_eq!(rt;
-        test_example::first_wrong(&SHORT, |row| is_received(rt.alloc(), row)),
+        test_script::first_wrong(&SHORT, |row| is_received(rt.alloc(), row)),
         None
     );
 }
@@ -137,7 +137,7 @@ static EXAMPLE: [Received; 3] = [
 #[test]
 fn receives_the_example_session_and_parts_of_it(rt: HostRuntime) {
     assert_eq!(rt;
-        test_example::first_wrong(&EXAMPLE, |row| is_received(rt.alloc(), row)),
+        test_script::first_wrong(&EXAMPLE, |row| is_received(rt.alloc(), row)),
         None
     );
 }

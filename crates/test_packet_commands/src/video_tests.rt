@@ -9,7 +9,7 @@ use command_video::VideoEnd;
 use pet_base::{MemoryPlace, NoMemory};
 use std::alloc::Global;
 use store_text::StoreKind;
-use test_example::{SESSION, STREAM};
+use test_script::{SESSION, STREAM};
 
 const FAULT: Run = Run::Video(VideoEnd::PlaceFault);
 
@@ -252,7 +252,7 @@ fn is_judged(alloc: Global, (layers, entry, tag, end, shown): &Table) -> Result<
 #[test]
 fn judges_each_sentence_of_a_run_table(rt: HostRuntime) {
     assert_eq!(rt;
-        test_example::first_wrong(&TABLES, |row| is_judged(rt.alloc(), row)),
+        test_script::first_wrong(&TABLES, |row| is_judged(rt.alloc(), row)),
         None
     );
 }

@@ -12,7 +12,7 @@ use std::alloc::Global;
 use std::marker::Brand;
 use std::sync::ledger::{Blank, Ledger};
 use std::test::Fail;
-use test_example::packets;
+use test_script::packets;
 
 /// The SHA-256 digest of the frames of the group's packets, where it has as many as a group has at most and no need but those of
 /// the first two layers binds: 14 stripes, of 2, 3 and 8 words. A model in Python has them by Horner's rule, with products by

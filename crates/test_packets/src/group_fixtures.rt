@@ -4,7 +4,7 @@ ghost use Rattle.std.specs.Prelude.{◌≡◌, IfOk};
 use packet_frame::Header;
 use std::test::Fail;
 use stripe_plan::{LayerSize, Table};
-use test_example::SESSION;
+use test_script::SESSION;
 
 /// The message of the group, under the example priorities.
 pub const MESSAGE: [u8; 70] = [

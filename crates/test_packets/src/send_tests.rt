@@ -12,7 +12,7 @@ use std::alloc::{AllocError, Global};
 use std::marker::Brand;
 use std::sync::ledger::{Blank, Ledger};
 use std::test::Fail;
-use test_example::packets;
+use test_script::packets;
 
 /// Where the packets go; the calls of the place and the link that fail; what is answered; how many bytes are then put into the
 /// file, and how many datagrams sent.

@@ -6,7 +6,7 @@ use packet_set::{PacketSet, Put};
 use std::alloc::Global;
 use std::test::Fail;
 use stripe_plan::datagram_length;
-use test_example::packets;
+use test_script::packets;
 
 /// The packet that is put.
 const FOUR: usize = 4;

@@ -1,11 +1,11 @@
 //! `breceive`: its words, and runs over files in memory and by a link. What it makes of its ends is tested in `test_bytes`; the
-//! packets are those of `test_example`.
+//! packets are those of `test_script`.
 use crate::run_fixtures::{Case, Files, Step, all_end, first_wrong, place_of};
 use crate::text_tests::is_refused;
 use pet_base::NoMemory;
 use pet_text::Status;
 use std::alloc::Global;
-use test_example::{PRIORITIES, STREAM, byte_packets};
+use test_script::{PRIORITIES, STREAM, byte_packets};
 
 /// Words of no form.
 static REFUSED: [&[&str]; 7] = [

@@ -1,4 +1,4 @@
-//! `bsend`: its words, and runs over files in memory and by a link. The packets are those of `test_example`, which another program
+//! `bsend`: its words, and runs over files in memory and by a link. The packets are those of `test_script`, which another program
 //! made.
 use crate::run_fixtures::{ALL_GO, Case, Files, Step, all_end, first_wrong, place_of};
 use crate::text_tests::is_refused;
@@ -6,7 +6,7 @@ use mpeg_scan::Scan;
 use pet_base::NoMemory;
 use pet_text::{PlanKind, Status};
 use std::alloc::Global;
-use test_example::{PRIORITIES, STREAM, byte_packets};
+use test_script::{PRIORITIES, STREAM, byte_packets};
 
 /// Words of no form.
 static REFUSED: [&[&str]; 6] = [

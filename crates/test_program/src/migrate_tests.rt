@@ -1,12 +1,12 @@
 //! `migrate`: its words, and runs over files in memory. What it reads and writes of bytes is tested in `test_stores`; the
-//! stores are those of `test_example`.
+//! stores are those of `test_script`.
 use crate::run_fixtures::{Case, Files, NOTHING, Step, all_end, first_wrong, place_of};
 use crate::text_tests::is_refused;
 use pet_base::NoMemory;
 use pet_text::Status;
 use std::alloc::Global;
 use store_text::StoreKind;
-use test_example::{OLD_EMPTY_STORE, PRIORITIES, STREAM, old_store, old_wide_store};
+use test_script::{OLD_EMPTY_STORE, PRIORITIES, STREAM, old_store, old_wide_store};
 
 /// Words of no form.
 static REFUSED: [&[&str]; 5] = [

@@ -5,8 +5,8 @@ use crate::text_tests::is_refused;
 use pet_base::NoMemory;
 use pet_text::Status;
 use std::alloc::{AllocError, Global};
-use test_example::{PRIORITIES, STREAM};
 use test_repair::{FORGED, append_entry};
+use test_script::{PRIORITIES, STREAM};
 
 /// Words of no form: too few, too many, a file that is read and written, two addresses, no session, no FROM, no TO.
 static REFUSED: [&[&str]; 10] = [

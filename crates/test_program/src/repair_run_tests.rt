@@ -5,7 +5,7 @@ use pet_base::NoMemory;
 use pet_text::Status;
 use std::alloc::{AllocError, Global};
 use store_text::StoreKind;
-use test_example::{PRIORITIES, STREAM, packets};
+use test_script::{PRIORITIES, STREAM, packets};
 
 /// Words of no form.
 static REFUSED: [&[&str]; 7] = [

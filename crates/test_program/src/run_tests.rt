@@ -11,7 +11,7 @@ use pet_text::{PlanKind, Status};
 use priority_file::PriorityFault;
 use std::alloc::Global;
 use store_text::StoreKind;
-use test_example::{PLAN, PRIORITIES, STREAM};
+use test_script::{PLAN, PRIORITIES, STREAM};
 
 /// The example session, with no plan file.
 const EXAMPLE: Files = (&STREAM, PRIORITIES, "");

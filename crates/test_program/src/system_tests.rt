@@ -6,7 +6,7 @@ use mpeg_system::System;
 use pet_base::NoMemory;
 use pet_text::{Command, Status, read_words};
 use std::alloc::{AllocError, Global};
-use test_example::{PRIORITIES, STREAM};
+use test_script::{PRIORITIES, STREAM};
 
 /// The id that a command has.
 fn id_of(command: &Command) -> Option<u8> {

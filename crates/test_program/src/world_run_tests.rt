@@ -4,7 +4,7 @@ use crate::text_tests::{is_refused, words};
 use pet_base::{MemoryPlace, NoMemory};
 use pet_text::{Command, PlanKind, Status, read_words};
 use std::alloc::{AllocError, Global};
-use test_example::{PRIORITIES, STREAM};
+use test_script::{PRIORITIES, STREAM};
 
 /// The numbers that a command has.
 fn numbers_of(command: &Command) -> Option<(u64, u32)> {

@@ -9,7 +9,7 @@ use pet_receive::Receiver;
 use std::alloc::Global;
 use std::marker::Brand;
 use std::sync::ledger::{Blank, Ledger};
-use test_example::{ENTRY_LENGTH, SESSION};
+use test_script::{ENTRY_LENGTH, SESSION};
 
 /// The packets that are kept, and why no encoder is made of them.
 static REFUSED: [(&'static [u8], RepairFault); 4] = [

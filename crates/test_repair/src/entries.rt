@@ -1,6 +1,6 @@
 //! The entries of the example session's packets, and of a packet that is forged: its tag was made in Python.
 use std::alloc::AllocError;
-use test_example::packets;
+use test_script::packets;
 
 /// Where a packet is forged: a number that stands for it.
 pub const FORGED: u8 = 6;

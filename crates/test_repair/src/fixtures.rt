@@ -2,7 +2,7 @@
 pub(crate) use crate::FORGED;
 use crate::{append_entry, count_bytes};
 use std::alloc::{AllocError, Global};
-use test_example::SESSION;
+use test_script::SESSION;
 
 /// A store's packets, by number, and its tag.
 pub(crate) type Store = (&'static [u8], [u8; 16]);

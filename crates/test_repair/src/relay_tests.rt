@@ -7,7 +7,7 @@ use pet_repair::{RelayEnd, relay_loop};
 use std::alloc::Global;
 use std::marker::Brand;
 use std::sync::ledger::{Blank, Ledger};
-use test_example::SESSION;
+use test_script::SESSION;
 
 /// The packets of FROM, by number; the calls of the place that fail; the end; and the packets and the bytes that TO then has,
 /// where it was made.

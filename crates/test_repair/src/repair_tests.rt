@@ -8,7 +8,7 @@ use std::alloc::Global;
 use std::marker::Brand;
 use std::sync::ledger::{Blank, Ledger};
 use store_text::StoreKind;
-use test_example::ENTRY_LENGTH;
+use test_script::ENTRY_LENGTH;
 
 /// The store; the calls of the place and of the link that fail; the end; and the packets and the bytes that TO then has, where
 /// TO is a file and was made.

@@ -5,7 +5,7 @@ use pet_base::NoMemory;
 use priority_file::{Priority, read_priority};
 use std::alloc::Global;
 use stream_groups::{CutFault, Group, GroupCutter};
-use test_example::{PRIORITIES, STREAM};
+use test_script::{PRIORITIES, STREAM};
 use test_streams::TWO_GROUPS;
 
 /// Heads, I and D pictures in layer 0, P pictures and the first B picture of a group in layer 1, the others in layer 2.

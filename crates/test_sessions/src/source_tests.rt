@@ -4,7 +4,7 @@ use pet_base::{MemoryPlace, NoMemory};
 use priority_file::PriorityFault;
 use session_source::{Source, SourceFault, read_source};
 use std::alloc::{AllocError, Global};
-use test_example::{PRIORITIES, SESSION, STREAM};
+use test_script::{PRIORITIES, SESSION, STREAM};
 use test_stripes::is_example;
 
 /// The example stream with a picture of another type.

@@ -5,7 +5,7 @@ use layer_split::{
 };
 use pet_base::{Kind, MAX_LAYERS, NoMemory};
 use std::alloc::Global;
-use test_example::STREAM;
+use test_script::STREAM;
 use test_streams::{EXAMPLE_PIECES, piece, pieces_on_end, priority_of, three_layers};
 
 const P: u32 = 4;

@@ -5,7 +5,7 @@ use pet_base::NoMemory;
 use priority_file::{Priority, read_priority};
 use std::alloc::Global;
 use stripe_plan::Table;
-use test_example::PRIORITIES;
+use test_script::PRIORITIES;
 use test_stripes::{layer, layers_of};
 use text_plan::{
     PlanFault, Repeat, lengths_line, plan_group_line, plan_layer_line, plan_session_line,

@@ -4,7 +4,7 @@ use pet_base::NoMemory;
 use session_source::{SourceFault, WholeSource, read_source, read_whole};
 use std::alloc::Global;
 use stream_session::SessionFault;
-use test_example::{PRIORITIES, SESSION, STREAM};
+use test_script::{PRIORITIES, SESSION, STREAM};
 
 /// Whether two groups have a session of at most 67,108,864 bytes, and hold the stream. They have one in any case.
 fn fits(alloc: Global, last: usize) -> Result<Option<bool>, NoMemory> {

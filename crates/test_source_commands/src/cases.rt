@@ -6,8 +6,8 @@ use pet_base::{Link, MemoryLink, MemoryPlace, MemorySink, NoMemory, Outside, Pla
 use session_source::SourceFault;
 use std::alloc::{AllocError, Global};
 use std::sync::ledger::Ledger;
-use test_example::packets;
 use test_outside::{Runs, run_on};
+use test_script::packets;
 
 /// A stream: its front, and bytes that follow it so many times.
 pub(crate) type Stream = (&'static [u8], &'static [u8], u32);

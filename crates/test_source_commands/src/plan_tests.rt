@@ -7,7 +7,7 @@ use priority_file::PriorityFault;
 use session_source::SourceFault;
 use std::alloc::Global;
 use stream_session::SessionFault;
-use test_example::{PLAN, PRIORITIES, STREAM, first_wrong};
+use test_script::{PLAN, PRIORITIES, STREAM, first_wrong};
 
 /// The example stream; a head and an I picture; heads in one piece of 64,931 and of 64,933 bytes; groups of ten bytes.
 const EXAMPLE: Stream = (&STREAM, &[], 0);

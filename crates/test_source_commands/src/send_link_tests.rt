@@ -7,8 +7,8 @@ use crate::{NO_MARK, SECOND_MARK, changed_at};
 use command_send::SendEnd;
 use pet_base::{MemorySink, NoMemory};
 use std::alloc::Global;
-use test_example::STREAM;
 use test_outside::run_on;
+use test_script::STREAM;
 
 const DONE: Run = Run::SendByLink(SendEnd::Done(SENT));
 

@@ -11,8 +11,8 @@ use pet_base::{MemorySink, NoMemory};
 use priority_file::PriorityFault;
 use std::alloc::Global;
 use stream_session::GroupMark;
-use test_example::{PRIORITIES, SESSION, STREAM};
 use test_outside::run_on;
+use test_script::{PRIORITIES, SESSION, STREAM};
 
 /// What is sent of the example session.
 pub(crate) const SENT: Sent = Sent {
@@ -165,7 +165,7 @@ fn compares(alloc: Global, (first, second, told, sent): &Again) -> Result<bool, 
 #[test]
 fn compares_both_readings_where_nothing_is_told(rt: HostRuntime) {
     assert_eq!(rt;
-        test_example::first_wrong(&READ_AGAIN, |row| compares(rt.alloc(), row)),
+        test_script::first_wrong(&READ_AGAIN, |row| compares(rt.alloc(), row)),
         None
     );
 }

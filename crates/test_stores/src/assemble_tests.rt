@@ -10,7 +10,7 @@ use reassemble::{Assemble, assemble};
 use std::alloc::Global;
 use std::marker::Brand;
 use std::sync::ledger::{Blank, Ledger};
-use test_example::{ENTRY_LENGTH, SESSION, STREAM, packets};
+use test_script::{ENTRY_LENGTH, SESSION, STREAM, packets};
 
 /// The only packet of a group of one layer of need 1, the bytes 0, 0, 0 and 1: they tell one run, and have none.
 const NO_RUN: [u8; 51] = [

@@ -10,7 +10,7 @@ use std::marker::Brand;
 use std::sync::ledger::{Blank, Ledger};
 use store_merge::{StoreStop, read_store_file, write_store_file};
 use store_text::StoreKind;
-use test_example::{SESSION, packets};
+use test_script::{SESSION, packets};
 
 /// A receiver that these packets of the example session have come to.
 fn kept<'f, L: Ledger>(

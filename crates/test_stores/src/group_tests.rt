@@ -4,7 +4,7 @@ use crate::store_fixtures::{
 };
 use store_merge::MergeFault;
 use store_text::StoreKind;
-use test_example::SESSION;
+use test_script::SESSION;
 
 /// What both groups cost: four packets each, of 49 bytes.
 const BOTH_COST: u64 = 392;

@@ -4,12 +4,12 @@ ghost use Rattle.std.specs.Prelude.{◌≡◌, ◌≤◌};
 use crate::store_fixtures::{LIMIT, written};
 use std::alloc::{AllocError, Global};
 use store_merge::{MigrateFault, StoreKind, migrate_store};
-use test_example::{OLD_EMPTY_STORE, old_store, old_wide_store};
+use test_script::{OLD_EMPTY_STORE, old_store, old_wide_store};
 
 /// The bytes of an entry of the example session's store.
 const ENTRY: usize = 83;
 
-/// The tag of packet 1 as of a session of two groups, as `data/old_stores.py` of `test_example` made it.
+/// The tag of packet 1 as of a session of two groups, as `data/old_stores.py` of `test_script` made it.
 const OLD_TWO_GROUPS: [u8; 8] = [0xC1, 0xEC, 0x67, 0x82, 0xAB, 0x0B, 0xA3, 0x01];
 
 /// What a store of the first version comes to: how many packets, or why there is none. Where there is none, nothing is appended.

@@ -8,7 +8,7 @@ use std::marker::Brand;
 use std::sync::ledger::{Blank, Ledger};
 use store_merge::read_store;
 use store_text::{BadStore, StoreKind};
-use test_example::{ENTRY_LENGTH, SESSION, packets};
+use test_script::{ENTRY_LENGTH, SESSION, packets};
 
 /// An entry of a store of the example session.
 type Entry = [u8; ENTRY_LENGTH];

@@ -10,7 +10,7 @@ use std::marker::Brand;
 use std::sync::ledger::{Blank, Ledger};
 use store_merge::{MergeFault, merge_stores, write_store};
 use store_text::MARK;
-use test_example::{SESSION, packets};
+use test_script::{SESSION, packets};
 
 /// What the groups of the example session may cost.
 pub(crate) const LIMIT: u64 = 1_000;

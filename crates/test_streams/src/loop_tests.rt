@@ -3,7 +3,7 @@ use crate::system_fixtures::WRAPPED;
 use mpeg_system::{System, UnwrapEnd, WrapEnd, unwrap_loop, wrap_loop};
 use pet_base::{MemoryPlace, NoMemory};
 use std::alloc::Global;
-use test_example::{STREAM, first_wrong};
+use test_script::{STREAM, first_wrong};
 
 /// What is run of `a` into `c`, and how it ends.
 #[derive(Clone, Copy)]

@@ -3,7 +3,7 @@ use crate::priority_of;
 use pet_base::Kind;
 use priority_file::{KindSet, LayerRule, Priority, PriorityFault, read_priority};
 use std::alloc::{AllocError, Global};
-use test_example::first_wrong;
+use test_script::first_wrong;
 
 /// Spellings of the example priorities.
 static SPELLINGS: [&str; 4] = [

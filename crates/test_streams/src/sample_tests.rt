@@ -3,7 +3,7 @@ use pet_base::{MAX_SAMPLE_GROUPS, NoMemory};
 use sha2::{Digest, Sha256};
 use std::alloc::Global;
 use stream_sample::sample_stream;
-use test_example::first_wrong;
+use test_script::first_wrong;
 
 /// A seed and a number of groups, the bytes of the stream, and the first 8 bytes of its SHA-256 digest. A program in Python has
 /// them.

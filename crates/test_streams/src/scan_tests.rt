@@ -3,7 +3,7 @@ use crate::{EXAMPLE_PIECES, pieces_on_end};
 use mpeg_scan::{Piece, Scan, Scanner};
 use pet_base::Kind;
 use std::alloc::{AllocError, Global};
-use test_example::{STREAM, first_wrong};
+use test_script::{STREAM, first_wrong};
 
 /// An accepted stream, and the kind, the code and the bytes of each of its pieces.
 type Accepted = (&'static [u8], &'static [(Kind, u8, u64)]);

@@ -6,7 +6,7 @@ use mpeg_system::{System, Unwrap, wrap};
 use pet_base::NoMemory;
 use sha2::{Digest, Sha256};
 use std::alloc::{AllocError, Global};
-use test_example::{STREAM, first_wrong};
+use test_script::{STREAM, first_wrong};
 
 /// The first so many bytes of a stream, how it ends, and the video that was given until then.
 type Row = (&'static [u8], usize, Result<(), System>, &'static [u8]);

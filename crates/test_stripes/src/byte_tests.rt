@@ -3,7 +3,7 @@ use crate::layers_of;
 use crate::sizes::{Sizes, sized};
 use std::alloc::{AllocError, Global};
 use stripe_plan::{ByteTable, Table, TableFault, datagram_length_by, stripes};
-use test_example::first_wrong;
+use test_script::first_wrong;
 
 /// Stripes on end of one length: how many, and the length.
 type Run = (u32, u16);

@@ -4,7 +4,7 @@ use std::alloc::{AllocError, Global};
 use stripe_plan::{
     OldTable, Table, TableFault, bound, count, datagram_length, next_start, stripes,
 };
-use test_example::first_wrong;
+use test_script::first_wrong;
 
 /// The lengths and needs of layers, and packets, with the words, the stripes of their plan, the bound and the counts.
 type Worked = (Sizes, u16, u32, u32, u32, (u16, u16, u16));

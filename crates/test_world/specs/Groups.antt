@@ -3,7 +3,7 @@ use Rattle.std.specs.Prelude.{◌≡◌, ℕ}
 use Rattle.stripe_plan.specs.Sizes.{IsTable}
 use Rattle.packet_session.specs.Encoding.{Encoding}
 use Rattle.packet_session.specs.Session.{IsMessage}
-use Rattle.test_example.specs.declared.source.TheConstants.{SESSION}
+use Rattle.test_script.specs.declared.source.TheConstants.{SESSION}
 
 -- it is that of this group, of so many
 pub record IsGroupAt (groups group : ℕ) (e : Encoding) : Type 0 where

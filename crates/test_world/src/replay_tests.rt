@@ -7,7 +7,7 @@ use std::alloc::{AllocError, Global};
 use std::marker::Brand;
 use std::sync::ledger::{Blank, Ledger};
 use stream_session::SessionFault;
-use test_example::{PRIORITIES, STREAM};
+use test_script::{PRIORITIES, STREAM};
 
 /// A text: its front, and bytes that follow it so many times.
 type Text = (&'static [u8], &'static [u8], u32);

@@ -13,7 +13,7 @@ use pet_world::World;
 use std::alloc::Global;
 use std::test::Fail;
 use stripe_plan::{LayerSize, Table};
-use test_example::SESSION;
+use test_script::SESSION;
 
 /// The message of the example stream's group, under the example priorities.
 pub const MESSAGE: [u8; 70] = [
