@@ -12,6 +12,7 @@ use Rattle.outside_files.specs.Outputs.{Puts, PutsPart}
 use Rattle.outside_routes.specs.RouteFaults.{IsStop, stop_of_a_place, stop_of_a_link}
 use Rattle.outside_routes.specs.Way.{Way, OnFile, OnLink}
 use Rattle.outside_routes.specs.declared.fault.RouteStop.{RouteStop}
+use Rattle.outside_routes.specs.declared.fault.RouteStop.TheVariants.{NoMemory}
 
 -- what the files and the link that a way may lead to are seen as
 pub record Routes : Type 0 where
@@ -65,6 +66,10 @@ OutputFailed (OnLink address) old new = ⊥
 abbrev pub SendingFailed : Way → LinkSeen → LinkSeen → Type 0
 SendingFailed (OnFile name) old new = ⊥
 SendingFailed (OnLink address) old new = LinkHadFault old new (Blames Aimed old.aimed)
+
+-- want of memory comes with nothing sent
+abbrev pub StopsUnsent : Routes → Routes → RouteStop → Type 0
+StopsUnsent old new stop = stop ≡ NoMemory → new ≡ old
 
 -- the file is empty, and is the output
 pub record IsCreated (name : List ℕ) (old new : Routes) : Type 0 where

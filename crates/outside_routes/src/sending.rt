@@ -4,7 +4,7 @@ ghost use Rattle.outside_routes.specs.RouteFaults.{IsFailure, IsStop, AimedFaile
 ghost use Rattle.pet_base.specs.Causes.{stops};
 ghost use Rattle.pet_base.specs.LinkSeen.{LinkStops};
 ghost use Rattle.pet_base.specs.Seen.{PlaceStops};
-ghost use Rattle.outside_routes.specs.Sending.{routes, Sends, SendsPart, IsOpen, OnlyGrows, OutputFailed, SendingFailed, IsOpened, OnlyOpens, IsUnopened, CreatingFailed};
+ghost use Rattle.outside_routes.specs.Sending.{routes, Sends, SendsPart, IsOpen, OnlyGrows, OutputFailed, SendingFailed, StopsUnsent, IsOpened, OnlyOpens, IsUnopened, CreatingFailed};
 ghost use Rattle.pet_base.specs.Entries.{entry_text};
 ghost use Rattle.outside_routes.specs.Way.{way_of};
 
@@ -89,7 +89,8 @@ pub fn put_entry<P: Place, K: Link>(
 ///
 /// # Errors
 ///
-/// There was no memory, or the object that the route leads to failed. A front of the entry may then stand in the file.
+/// There was no memory, and nothing was sent; or the object that the route leads to failed, and a front of the entry may stand in
+/// the file.
 pub fn put_datagram<P: Place, K: Link>(
     to: Route<'_>,
     place: &mut P,
@@ -108,6 +109,8 @@ pub fn put_datagram<P: Place, K: Link>(
     ensures cause { IfErr result (IsStop
         (OutputFailed (way_of to.entry) (P.seen place.old) (P.seen place.new))
         (SendingFailed (way_of to.entry) (K.seen link.old) (K.seen link.new)) ⊥) }
+    ensures unsent { IfErr result (StopsUnsent (routes P.Place K.Link place.old link.old)
+        (routes P.Place K.Link place.new link.new)) }
     ensures once_place { PlaceStops (stops stop_of_a_place result) (P.seen place.old)
         (P.seen place.new) }
     ensures once_link { LinkStops (stops stop_of_a_link result) (K.seen link.old)
