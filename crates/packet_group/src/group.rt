@@ -61,7 +61,7 @@ impl<'f, F: Rows> OpenGroup<'f, F> {
     {
         let lengths = lengths_of_stripes(alloc, &header.table)?;
         let progress = Progress::new(alloc, field, &lengths)?;
-        let packets = PacketSet::new(alloc, header, F::WIDTH)?;
+        let packets = PacketSet::of_words(alloc, header, F::WIDTH)?;
         let message = message_room(alloc, &header.table, F::WIDTH)?;
         let tags = no_tags(alloc, header.table.packets())?;
         Ok(OpenGroup {

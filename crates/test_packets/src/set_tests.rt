@@ -19,7 +19,7 @@ fn is_put(alloc: Global, payload: &[u8]) -> Result<bool, Fail>
     if header.table.layers().len() != 3 || datagram_length(&header.table) != 89 {
         return Ok(false);
     }
-    let mut set = PacketSet::new(alloc, &header, 2)?;
+    let mut set = PacketSet::new(alloc, &header)?;
     let put = set.put(4, payload);
     Ok(
         put == Put::New
