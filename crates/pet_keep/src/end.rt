@@ -5,7 +5,7 @@ ghost use Rattle.pet_keep.specs.Statuses.{status_of, line_of};
 use crate::status::KeepStatus;
 use arrayvec::ArrayVec;
 use packet_reading::Totals;
-use pet_text::receive_line;
+use pet_text::write_receive;
 
 /// How a run ended, before its line and that of its status are printed.
 #[derive(Clone, Copy, Debug, PartialEq, Eq)]
@@ -61,7 +61,7 @@ pub(crate) fn end_line(end: &KeepEnd, into: &mut ArrayVec<u8, 64>)
 {
     match end {
         KeepEnd::Done(totals) | KeepEnd::Incomplete(totals) | KeepEnd::TurnsSpent(totals) => {
-            receive_line(totals.read, totals.kept, totals.shown, into);
+            write_receive(totals.read, totals.kept, totals.shown, into);
         }
         KeepEnd::Usage
         | KeepEnd::NoMemory

@@ -22,7 +22,9 @@ pub use stream_sample::sample_stream;
 pub use stream_session::GroupMark;
 pub use text_answers::{
     least_line, merged_line, migrated_line, receive_line, relay_line, repaired_line, send_line,
-    unwrapped_line, video_line, wrapped_line,
+    unwrapped_line, video_line, wrapped_line, write_least, write_merged, write_migrated,
+    write_receive, write_relay, write_repaired, write_send, write_unwrapped, write_video,
+    write_wrapped,
 };
 pub use text_plan::{
     PlanFault, Repeat, lengths_line, plan_group_line, plan_layer_line, plan_session_line, read_plan,

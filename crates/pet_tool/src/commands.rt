@@ -39,8 +39,8 @@ use pet_base::{Link, Outside, Place, Sink};
 use pet_byte::ByteEnd;
 use pet_repair::{RelayEnd, RepairEnd};
 use pet_text::{
-    Command, Status, least_line, merged_line, migrated_line, receive_line, relay_line,
-    repaired_line, send_line, unwrapped_line, video_line, wrapped_line,
+    Command, Status, write_least, write_merged, write_migrated, write_receive, write_relay,
+    write_repaired, write_send, write_unwrapped, write_video, write_wrapped,
 };
 use std::alloc::Global;
 use std::sync::ledger::Ledger;
@@ -174,35 +174,35 @@ pub(crate) fn end_line<'a>(end: &'a End, room: &'a mut ArrayVec<u8, 64>) -> &'a 
         End::Plan(PlanEnd::Done(text)) => return text.as_slice(),
         End::Replay(ReplayEnd::Done(text)) => return text.as_slice(),
         End::Sample(SampleEnd::Done(text)) => return text.as_slice(),
-        End::Check(CheckEnd::Done(groups)) => least_line(*groups, room),
+        End::Check(CheckEnd::Done(groups)) => write_least(*groups, room),
         End::Send(SendEnd::Done(sent)) => {
-            send_line(&sent.session, sent.groups, sent.datagrams, room)
+            write_send(&sent.session, sent.groups, sent.datagrams, room)
         }
         End::Bsend(SendEnd::Done(sent)) => {
-            send_line(&sent.session, sent.groups, sent.datagrams, room)
+            write_send(&sent.session, sent.groups, sent.datagrams, room)
         }
         End::Receive(
             ReceiveEnd::Done(totals)
             | ReceiveEnd::Incomplete(totals)
             | ReceiveEnd::TurnsSpent(totals),
-        ) => receive_line(totals.read, totals.kept, totals.shown, room),
+        ) => write_receive(totals.read, totals.kept, totals.shown, room),
         End::Breceive(
             ByteEnd::Done { read, kept, shown }
             | ByteEnd::Incomplete { read, kept, shown }
             | ByteEnd::TurnsSpent { read, kept, shown },
-        ) => receive_line(*read, *kept, *shown, room),
+        ) => write_receive(*read, *kept, *shown, room),
         End::Relay(
             RelayEnd::Done { read, sent }
             | RelayEnd::Incomplete { read, sent }
             | RelayEnd::TurnsSpent { read, sent },
-        ) => relay_line(*read, *sent, room),
-        End::Merge(MergeEnd::Done(packets)) => merged_line(*packets, room),
-        End::Video(VideoEnd::Done(bytes)) => video_line(*bytes, room),
-        End::Unwrap(UnwrapEnd::Done(bytes)) => unwrapped_line(*bytes, room),
-        End::Wrap(WrapEnd::Done(bytes)) => wrapped_line(*bytes, room),
-        End::Migrate(MigrateEnd::Done(packets)) => migrated_line(*packets, room),
+        ) => write_relay(*read, *sent, room),
+        End::Merge(MergeEnd::Done(packets)) => write_merged(*packets, room),
+        End::Video(VideoEnd::Done(bytes)) => write_video(*bytes, room),
+        End::Unwrap(UnwrapEnd::Done(bytes)) => write_unwrapped(*bytes, room),
+        End::Wrap(WrapEnd::Done(bytes)) => write_wrapped(*bytes, room),
+        End::Migrate(MigrateEnd::Done(packets)) => write_migrated(*packets, room),
         End::Repair(RepairEnd::Done { groups, datagrams }) => {
-            repaired_line(*groups, *datagrams, room)
+            write_repaired(*groups, *datagrams, room)
         }
         End::Usage
         | End::NoMemory
