@@ -9,3 +9,4 @@ pub mod LayerBytes
 pub mod Agreement
 pub mod Tagging
 pub mod GivenBack
+pub mod HashedFrames

@@ -7,9 +7,10 @@ ghost use Rattle.packet_set.specs.Packets.{slot_at, with_packet, payload_length,
 ghost use Rattle.pet_interp.specs.Progressive.{step_bound};
 ghost use Rattle.packet_group.specs.OpenGroup.{count_in, HoldsAfter, layers_of, stripe_lengths};
 ghost use Rattle.packet_group.specs.ShownBytes.{IsShownIn, IsShownBytes, Agrees};
-ghost use Rattle.packet_group.specs.Tags.{IsTagOf, AreTagsOf};
+ghost use Rattle.packet_group.specs.Tags.{IsTagOf, AreTagsOf, tag_at};
 ghost use Rattle.packet_group.specs.Written.{ReachesLayer, whole_message};
 
+use crate::hashing::tag_of_packet;
 use crate::learn::learn;
 use crate::tags::{no_tags, tag_in};
 use field_rows::Rows;
@@ -118,11 +119,16 @@ impl<'f, F: Rows> OpenGroup<'f, F> {
         }
     }
 
-    /// The tag of a packet's frame, where it is kept.
+    /// The tag of the frame of a kept packet: the one that is kept beside the packet, and where none is, made anew. It takes no
+    /// memory.
     pub fn tag(&self, number: u16) -> Option<[u8; 16]>
-        ensures { IfSome result (IsTagOf self.now.packets number) }
+        ensures { result ≡ tag_at self.now.packets number }
     {
-        tag_in(&self.tags, number)
+        let payload = self.packets.payload(number)?;
+        match tag_in(&self.tags, number) {
+            Some(tag) => Some(tag),
+            None => Some(tag_of_packet(self.packets.header(), number, payload)),
+        }
     }
 
     /// The tags that are kept, by number.

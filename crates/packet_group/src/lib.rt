@@ -13,6 +13,7 @@
 #![tactic(auto)]
 
 mod group;
+mod hashing;
 mod learn;
 mod tags;
 mod write;

@@ -12,7 +12,7 @@ ghost use Rattle.packet_session.specs.Session.{IsMessage, bytes_of_layer};
 ghost use Rattle.packet_verdicts.specs.KeptSet.{IsKeptSetBy, empty_set, open_group, payload_of, Keeps, count_kept, kept_in_all, keep_by, told_by, cost_kept};
 ghost use Rattle.packet_verdicts.specs.Verdicts.{verdict_in, frame_verdict_by, is_kept, opens, after_in};
 ghost use Rattle.packet_receiver.specs.Arrivals.{Order, HasKept, kept_set, numbers_of, layers_of, stripe_lengths};
-ghost use Rattle.packet_receiver.specs.Tags.{frame_tag, IsKeptTag};
+ghost use Rattle.packet_receiver.specs.Tags.{frame_tag, kept_tag};
 ghost use Rattle.packet_receiver.specs.UnionSteps.{union_steps};
 ghost use Rattle.packet_verdicts.specs.Union.{union, absorb_fault, new_pairs, shown_by_union};
 ghost use Rattle.packet_receiver.specs.ShownBytes.{IsShown, IsShownBytes, Agrees, IsComplete, shown_in_all};
@@ -223,9 +223,9 @@ impl<'f, F: Rows> PacketReceiver<'f, F> {
         }
     }
 
-    /// The tag of a packet's frame as frames are written today, where it is kept beside the packet. It takes no memory.
+    /// The tag of a kept packet's frame, as frames are written today. It takes no memory.
     pub fn tag(&self, group: u32, number: u16) -> Option<[u8; 16]>
-        ensures { IfSome result (IsKeptTag (kept_set self.now) group number) }
+        ensures { result ≡ kept_tag (kept_set self.now) group number }
     {
         match self.groups.get(&group) {
             Some(open) => open.tag(number),

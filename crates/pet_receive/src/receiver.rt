@@ -9,7 +9,7 @@ ghost use Rattle.packet_session.specs.Session.{IsMessage, bytes_of_layer};
 ghost use Rattle.packet_verdicts.specs.KeptSet.{IsKeptSet, empty_set, open_group, payload_of, Keeps, count_kept, kept_in_all, told_by};
 ghost use Rattle.packet_verdicts.specs.Verdicts.{verdict_of, is_kept, opens, after};
 ghost use Rattle.pet_receive.specs.Arrivals.{Order, HasKept, kept_set, numbers_of, layers_of, stripe_lengths};
-ghost use Rattle.pet_receive.specs.Tags.{IsKeptTag};
+ghost use Rattle.pet_receive.specs.Tags.{kept_tag};
 ghost use Rattle.pet_receive.specs.UnionSteps.{union_steps};
 ghost use Rattle.packet_verdicts.specs.Union.{union, absorb_fault, new_pairs, shown_by_union};
 ghost use Rattle.pet_receive.specs.ShownBytes.{IsShown, IsShownBytes, Agrees, IsComplete, shown_in_all};
@@ -157,9 +157,9 @@ impl<'f, F: Rows> Receiver<'f, F> {
         self.core.packet(group, number)
     }
 
-    /// The tag of a packet's frame, where it is kept beside the packet. It takes no memory.
+    /// The tag of a kept packet's frame. It takes no memory.
     pub fn tag(&self, group: u32, number: u16) -> Option<[u8; 16]>
-        ensures { IfSome result (IsKeptTag (kept_set self.now) group number) }
+        ensures { result ≡ kept_tag (kept_set self.now) group number }
     {
         self.core.tag(group, number)
     }
