@@ -73,10 +73,15 @@ pub record Passes (old new : Told) : Type 0 where
   pub since : (t : ℕ) (c : List ℕ) → t ≤ old.clock → new.images t c → old.images t c ⊎ image new c
   pub kept : (t : ℕ) (c : List ℕ) → t ≤ old.clock → old.images t c → new.images t c
 
--- Each image now comes from one before by a step.
+-- Each image now comes from one before by a step, and each before goes by a step to one now.
 pub record Steps (step : List ℕ → List ℕ → Type 0) (old new : Told) : Type 0 where
   pub time : Passes old new
   pub from : (c : List ℕ) → image new c → (d : List ℕ) × image old d × step d c
+  pub all : (d : List ℕ) → image old d → (c : List ℕ) × image new c × step d c
+
+-- All that the step makes of an image before is an image now.
+abbrev pub LeavesAny : (List ℕ → List ℕ → Type 0) → Told → Told → Type 0
+LeavesAny step old new = (d c : List ℕ) → image old d → step d c → image new c
 
 abbrev pub LeavesTorn : ℕ → ℕ → Told → Told → Type 0
 LeavesTorn at n = Steps (Torn at n)
@@ -85,10 +90,15 @@ abbrev pub LeavesCut : ℕ → Told → Told → Type 0
 LeavesCut n = Steps (Cut n)
 
 -- Nothing is written: the same bytes, and no image that there was not.
-pub record Leaves (old new : Told) : Type 0 where
+pub record LeavesNoMore (old new : Told) : Type 0 where
   pub bytes : new.bytes ≡ old.bytes
   pub time : Passes old new
   pub from : (c : List ℕ) → image new c → image old c
+
+-- Nothing is written, and nothing is synced: each image that there was is one now too.
+pub record Leaves (old new : Told) : Type 0 where
+  pub no_more : LeavesNoMore old new
+  pub all : (c : List ℕ) → image old c → image new c
 
 -- What a crash may leave at a moment since, it might have left before, or it has P.
 pub record LeavesOnly (P : List ℕ → Type 0) (old new : Told) : Type 0 where

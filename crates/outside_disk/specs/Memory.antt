@@ -2,7 +2,7 @@
 use Rattle.std.specs.Prelude.{ℕ, ◌≡◌, List, [], ◌∷◌, ◌++◌, length, Vec}
 use Rattle.std.specs.declared.alloc.Global.{Global}
 use Rattle.outside_disk.specs.Disk.{Told, DiskSeen, Tells}
-use Rattle.outside_disk.specs.Events.{content, since}
+use Rattle.outside_disk.specs.Events.{content, next, since, sync_or}
 use Rattle.outside_disk.specs.declared.calls.Calls.{Calls}
 use Rattle.outside_disk.specs.declared.event.Event.{Event}
 use Rattle.outside_disk.specs.declared.event.Event.TheVariants.{Wrote, Cut, Synced}
@@ -35,15 +35,21 @@ pub record KeepsFile (old new : MemoryDisk) : Type 0 where
   pub synced : new.synced ≡ old.synced
   pub events : new.events.items ≡ old.events.items
 
--- one call more was done
+-- the file began with these bytes, and nothing was done to it yet
+pub record IsUntouched (bytes : List ℕ) (m : MemoryDisk) : Type 0 where
+  pub first : m.first.items ≡ bytes
+  pub events : m.events.items ≡ []
+
+-- one call more was done: it alone is recorded, and the bytes, and those of the last sync, are what it makes of them
 pub record Does (event : Event) (old new : MemoryDisk) : Type 0 where
   pub first : new.first ≡ old.first
   pub events : new.events.items ≡ old.events.items ++ event ∷ []
+  pub bytes : memory_bytes new ≡ next (memory_bytes old) event
+  pub synced : memory_synced new ≡ sync_or (memory_bytes old) (memory_synced old) event
 
--- The bytes were written at a place, as many as these; the file was cut to a length; it was synced.
+-- These bytes were written at a place; the file was cut to a length; it was synced.
 abbrev pub HasWritten : ℕ → List ℕ → MemoryDisk → MemoryDisk → Type 0
-HasWritten at bytes old new = (part : Vec ℕ Global) × (length part.items ≡ length bytes)
-    × Does (Wrote at part) old new
+HasWritten at bytes old new = (part : Vec ℕ Global) × (part.items ≡ bytes) × Does (Wrote at part) old new
 
 abbrev pub HasCut : ℕ → MemoryDisk → MemoryDisk → Type 0
 HasCut to old new = Does (Cut to) old new

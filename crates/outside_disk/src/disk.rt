@@ -1,7 +1,7 @@
 //! One file on a disk, as what a read gives and as what a crash may leave.
-ghost use Rattle.std.specs.Prelude.{◌≡◌, ◌≤◌, ◌+◌, ℕ, length, take, drop, OnOk, IfOk};
+ghost use Rattle.std.specs.Prelude.{◌≡◌, ◌≤◌, ◌+◌, ℕ, length, take, drop, OnOk, OnErr, IfOk};
 ghost use Rattle.pet_base.specs.Causes.{HasCause};
-ghost use Rattle.outside_disk.specs.Disk.{DiskSeen, IfTold, IsSound, Between, Holds, Written, IsCutTo, Leaves, LeavesTorn, LeavesCut, IsSynced};
+ghost use Rattle.outside_disk.specs.Disk.{DiskSeen, IfTold, IsSound, Between, Holds, Written, IsCutTo, Leaves, LeavesNoMore, LeavesTorn, LeavesCut, IsSynced};
 
 use pet_base::Failed;
 
@@ -42,10 +42,11 @@ pub trait Disk {
         ensures images { Between (LeavesCut to) (seen self.old) (seen self.new) }
         ensures cause { HasCause (faults self.old) (faults self.new) result };
 
-    /// After it, a crash leaves what a read gives. It changes nothing of that.
+    /// After it, a crash leaves what a read gives. It changes nothing of that, and one that fails changes nothing.
     fn sync(&mut self) -> Result<(), Failed>
         ensures synced { OnOk result (IfTold (seen self.new) IsSynced) }
-        ensures same { Between Leaves (seen self.old) (seen self.new) }
+        ensures same { Between LeavesNoMore (seen self.old) (seen self.new) }
+        ensures failed { OnErr result (Between Leaves (seen self.old) (seen self.new)) }
         ensures cause { HasCause (faults self.old) (faults self.new) result };
 
     /// What it reads as is one of its images, and an image now is one of those since each moment before.

@@ -1,6 +1,6 @@
 //! A file in memory, which keeps all that a crash may leave of it.
 ghost use Rattle.std.specs.Prelude.{◌≡◌, ◌≤◌, true, length, take, IfOk, OnOk, OnErr};
-ghost use Rattle.outside_disk.specs.Disk.{IfTold, image, with_bytes};
+ghost use Rattle.outside_disk.specs.Disk.{IfTold, IsSynced, image, with_bytes};
 ghost use Rattle.outside_disk.specs.Events.{content, replay, last_synced, are_asked};
 
 use crate::calls::Calls;
@@ -30,12 +30,15 @@ pub struct MemoryDisk {
 
 impl MemoryDisk {
     ghost use Rattle.outside_disk.specs.Calls.{Begins, FailsFrom};
-    ghost use Rattle.outside_disk.specs.Memory.{memory_bytes, memory_synced, memory_calls, memory_seen, KeepsFile, HasWritten, HasCut, HasSynced};
+    ghost use Rattle.outside_disk.specs.Memory.{memory_bytes, memory_synced, memory_calls, memory_seen, IsUntouched, KeepsFile, HasWritten, HasCut, HasSynced};
 
-    /// A file of these bytes, all of them on the disk. The calls of these numbers are to fail.
+    /// A file of these bytes, all of them on the disk: nothing was done to it, and a crash leaves just them. The calls of these
+    /// numbers are to fail.
     pub fn new(alloc: Global, bytes: Vec<u8>, failing: Vec<u64>) -> MemoryDisk
         ensures bytes { memory_bytes result ≡ bytes.items }
         ensures synced { memory_synced result ≡ bytes.items }
+        ensures untouched { IsUntouched bytes.items result }
+        ensures image { IfTold (memory_seen result) IsSynced }
         ensures calls { Begins (memory_calls result) failing.items }
     {
         MemoryDisk {
@@ -136,11 +139,11 @@ fn replaced(alloc: Global, old: &[u8], at: usize, part: &[u8]) -> Result<Vec<u8>
 }
 
 impl Disk for MemoryDisk {
-    ghost use Rattle.std.specs.Prelude.{◌≤◌, ◌+◌, ◌≡◌, length, IfOk, OnOk};
+    ghost use Rattle.std.specs.Prelude.{◌≤◌, ◌+◌, ◌≡◌, length, IfOk, OnOk, OnErr};
     ghost use Rattle.pet_base.specs.Causes.{HasCause};
     ghost use Rattle.outside_disk.specs.Calls.{FailsAsListed};
-    ghost use Rattle.outside_disk.specs.Disk.{IfTold, Between, Holds, Written, IsCutTo, Leaves, LeavesTorn, LeavesCut, IsSynced};
-    ghost use Rattle.outside_disk.specs.Memory.{memory_bytes, memory_seen, memory_faults, memory_calls};
+    ghost use Rattle.outside_disk.specs.Disk.{IfTold, Between, Holds, Written, IsCutTo, Torn, Cut, Leaves, LeavesNoMore, LeavesAny, LeavesTorn, LeavesCut, IsSynced};
+    ghost use Rattle.outside_disk.specs.Memory.{memory_bytes, memory_seen, memory_faults, memory_calls, KeepsFile, HasWritten, HasCut, HasSynced};
     ghost use Rattle.outside_disk.specs.laws.MemoryLaws.{is_sound};
 
     ghost seen = { memory_seen };
@@ -152,6 +155,7 @@ impl Disk for MemoryDisk {
     fn length(&mut self) -> Result<u64, Failed>
         ensures number { IfOk result (λ n. IfTold (memory_seen self.old) (λ d. length d.bytes ≡ n)) }
         ensures same { Between Leaves (memory_seen self.old) (memory_seen self.new) }
+        ensures file { KeepsFile self.old self.new }
         ensures cause { HasCause (memory_faults self.old) (memory_faults self.new) result }
         ensures calls { FailsAsListed (memory_calls self.old) (memory_calls self.new) result }
     {
@@ -165,6 +169,7 @@ impl Disk for MemoryDisk {
         requires { IfTold (memory_seen self.old) (λ d. at + length into.old ≤ length d.bytes) }
         ensures filled { OnOk result (IfTold (memory_seen self.old) (λ d. Holds d.bytes at into.new)) }
         ensures same { Between Leaves (memory_seen self.old) (memory_seen self.new) }
+        ensures file { KeepsFile self.old self.new }
         ensures cause { HasCause (memory_faults self.old) (memory_faults self.new) result }
         ensures calls { FailsAsListed (memory_calls self.old) (memory_calls self.new) result }
     {
@@ -183,6 +188,10 @@ impl Disk for MemoryDisk {
             (memory_seen self.new)) }
         ensures images { Between (LeavesTorn at (length bytes.now)) (memory_seen self.old)
             (memory_seen self.new) }
+        ensures any { OnOk result (Between (LeavesAny (Torn at (length bytes.now))) (memory_seen self.old)
+            (memory_seen self.new)) }
+        ensures done { OnOk result (HasWritten at bytes.now self.old self.new) }
+        ensures err { OnErr result (KeepsFile self.old self.new) }
         ensures cause { HasCause (memory_faults self.old) (memory_faults self.new) result }
         ensures calls { FailsAsListed (memory_calls self.old) (memory_calls self.new) result }
     {
@@ -199,6 +208,9 @@ impl Disk for MemoryDisk {
         requires { IfTold (memory_seen self.old) (λ d. to ≤ length d.bytes) }
         ensures cut { OnOk result (Between (IsCutTo to) (memory_seen self.old) (memory_seen self.new)) }
         ensures images { Between (LeavesCut to) (memory_seen self.old) (memory_seen self.new) }
+        ensures any { OnOk result (Between (LeavesAny (Cut to)) (memory_seen self.old) (memory_seen self.new)) }
+        ensures done { OnOk result (HasCut to self.old self.new) }
+        ensures err { OnErr result (KeepsFile self.old self.new) }
         ensures cause { HasCause (memory_faults self.old) (memory_faults self.new) result }
         ensures calls { FailsAsListed (memory_calls self.old) (memory_calls self.new) result }
     {
@@ -213,7 +225,10 @@ impl Disk for MemoryDisk {
 
     fn sync(&mut self) -> Result<(), Failed>
         ensures synced { OnOk result (IfTold (memory_seen self.new) IsSynced) }
-        ensures same { Between Leaves (memory_seen self.old) (memory_seen self.new) }
+        ensures same { Between LeavesNoMore (memory_seen self.old) (memory_seen self.new) }
+        ensures failed { OnErr result (Between Leaves (memory_seen self.old) (memory_seen self.new)) }
+        ensures done { OnOk result (HasSynced self.old self.new) }
+        ensures err { OnErr result (KeepsFile self.old self.new) }
         ensures cause { HasCause (memory_faults self.old) (memory_faults self.new) result }
         ensures calls { FailsAsListed (memory_calls self.old) (memory_calls self.new) result }
     {

@@ -1,8 +1,8 @@
 -- How calls of a disk go on from each other. For the proofs of callers.
 use Rattle.std.proofs.Common.{inl, inr, ⊎_elim, ℕ, List, refl, sym, ◌∙◌, subst, arith}
 use Rattle.std.specs.Prelude.{Result, Ok, Err, OnOk}
-use Rattle.outside_disk.specs.Disk.{Told, DiskSeen, Untold, Tells, IfTold, Between, image, Passes, Leaves, LeavesOnly}
-use Rattle.outside_disk.specs.Disk.{Reads}
+use Rattle.outside_disk.specs.Disk.{Told, DiskSeen, Untold, Tells, IfTold, Between, image, Passes, Leaves, LeavesNoMore}
+use Rattle.outside_disk.specs.Disk.{LeavesOnly, Reads}
 
 -- nothing was done
 pub only_same : (P : List ℕ → Type 0) (old : Told) → LeavesOnly P old old
@@ -33,7 +33,7 @@ only_passes P old new time now = record {
 }
 
 -- a call that writes nothing
-pub only_leaves : (P : List ℕ → Type 0) (old new : Told) → Leaves old new → ((c : List ℕ) → image old c → P c)
+pub only_leaves : (P : List ℕ → Type 0) (old new : Told) → LeavesNoMore old new → ((c : List ℕ) → image old c → P c)
     → LeavesOnly P old new
 only_leaves P old new leaves was = only_passes P old new leaves.time (λ c now. was c (leaves.from c now))
 
@@ -46,9 +46,12 @@ since_has P old new only first c here = ⊎_elim (first c) (λ p. p) (only.each 
 pub reads_same : (old : Told) → Reads old old
 reads_same old = record { bytes = refl; only = only_same (image old) old; from = λ c now. now }
 
-pub reads_leaves : (old new : Told) → Leaves old new → Reads old new
-reads_leaves old new leaves =
+pub reads_no_more : (old new : Told) → LeavesNoMore old new → Reads old new
+reads_no_more old new leaves =
     record { bytes = leaves.bytes; only = only_leaves (image old) old new leaves (λ c was. was); from = leaves.from }
+
+pub reads_leaves : (old new : Told) → Leaves old new → Reads old new
+reads_leaves old new leaves = reads_no_more old new leaves.no_more
 
 pub reads_then : (old between new : Told) → Reads old between → Reads between new → Reads old new
 reads_then old between new first next = record {

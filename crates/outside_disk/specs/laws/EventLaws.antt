@@ -30,6 +30,11 @@ pub push_to : (b : List ℕ) (I : Images) (es : List Event) (e : Event) (c : Lis
 push_to b I [] e c here = here
 push_to b I (f ∷ es) e c here = push_to (next b f) (after b I f) es e c here
 
+pub push_from : (b : List ℕ) (I : Images) (es : List Event) (e : Event) (c : List ℕ)
+    → after (replay b es) (after_all b I es) e c → after_all b I (es ++ e ∷ []) c
+push_from b I [] e c here = here
+push_from b I (f ∷ es) e c here = push_from (next b f) (after b I f) es e c here
+
 pub since_to : (b : List ℕ) (I : Images) (es : List Event) (e : Event) (t : ℕ) (c : List ℕ) → t ≤ length es
     → since b I (es ++ e ∷ []) t c → since b I es t c ⊎ after_all b I (es ++ e ∷ []) c
 since_to b I [] e zero c le (inl here) = inl here

@@ -1,4 +1,4 @@
-use Rattle.std.proofs.Common.{refl, ap, length, arith}
+use Rattle.std.proofs.Common.{refl, arith}
 use Rattle.std.proofs.lemmas.Grind.{common_steps}
 use Rattle.outside_disk.specs.laws.EventLaws.{replay_to, synced_to, asked_to, within_test}
 use Rattle.outside_disk.proofs.memory.MemoryDisk.write.Goals as goal
@@ -18,7 +18,11 @@ invariant_of-self-2-clause-asked c = asked_to _ _ _ _ _ c.in_ok-push.ensures.ite
 pub returns-clause-done : goal.returns-clause-done
 returns-clause-done c = (
   c.in_ok-part.part,
-  ap length c.in_ok-part.ensures.items,
-  record
-      { first = refl; events = c.in_ok-push.ensures.items },
+  c.in_ok-part.ensures.items,
+  record {
+    first = refl;
+    events = c.in_ok-push.ensures.items;
+    bytes = grind (arith, common_steps);
+    synced = refl;
+  },
 )
