@@ -42,7 +42,6 @@ pub fn assemble<F: Rows>(
     into: &mut Vec<u8>,
 ) -> Result<usize, Assemble>
     requires width { 2 ≤ F.coding.width }
-    requires held { (order : Order) × HasKept F.is_element F.coding receiver.now order }
     ensures leading { IfOk result (λ k. AreLeading (kept_set receiver.now) group k) }
     ensures video { IfOk result (λ k. (order : Order) (p : Packets) → HasKept F.is_element F.coding receiver.now order
         → open_group (kept_set receiver.now) group ≡ Some p
@@ -61,6 +60,7 @@ pub fn assemble<F: Rows>(
         → fits (bytes_of_layer F.coding.width (layers_of p) message 0) (lengths_in p) ≡ false }
     ensures kept { OnErr result (into.new.items ≡ into.old.items) }
 {
+    let _groups = receiver.groups();
     let header = match receiver.header(group) {
         Some(header) => header,
         None => return Err(Assemble::NoTable),

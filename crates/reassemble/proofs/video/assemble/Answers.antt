@@ -35,9 +35,9 @@ put_together-requires-clause-sized g c layer within =
     let shown : c.as_slice.result.now ≡ items = c.as_slice.ensures.value in
     let many : length (bytes_each items) ≡ length items = length-map items (λ (e : ShownLayer). e.bytes.now) in
     let lt : layer < length items = omega (arith, within, ap length shown) in
-    let bytes = c.leading_layers-layers.ensures.bytes c.requires.held.0 p c.requires.held.1 o.1 layer (omega arith) in
+    let bytes = c.leading_layers-layers.ensures.bytes c.groups-groups.ensures.stands.0 p c.groups-groups.ensures.stands.1 o.1 layer (omega arith) in
     let known = (shown_in set c.args.group layer p o.1 (c.leading_layers-layers.ensures.leading.shown layer lt)).0 in
-    let long = shown_length F.is_element F.coding p (numbers_of c.requires.held.0 c.args.group) layer
+    let long = shown_length F.is_element F.coding p (numbers_of c.groups-groups.ensures.stands.0 c.args.group) layer
     (get_or (bytes_each items) layer []) c.requires.width known bytes in
     let lengths = lengths_read (open_group set c.args.group) c.in-Some.header.now p c.layers.result.now
     c.as_slice-2.result.now c.in-Some.ensures o.1 c.layers.ensures.value
