@@ -1,1 +1,2 @@
 pub mod AesLaws
+pub mod OwnLaws

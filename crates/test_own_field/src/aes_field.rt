@@ -5,8 +5,6 @@ ghost use Rattle.test_own_field.specs.Aes.{aes_coding};
 ghost use Rattle.test_own_field.specs.laws.AesLaws.{aes_lawful, aes_equal};
 
 use field_elements::{Field, invert_modulo, multiply_modulo};
-use field_rows::Rows;
-use field_values::AllValues;
 use pet_base::Steps;
 use std::sync::ledger::Ledger;
 
@@ -94,21 +92,3 @@ impl Field for AesField {
         into[0] = a;
     }
 }
-
-/// Rows by the bodies that every field has.
-impl Rows for AesField {
-    type Factor = u8;
-
-    ghost element_of = { λ a. a };
-
-    fn prepare(&self, x: u8) -> u8 {
-        x
-    }
-
-    fn element(&self, factor: &u8) -> u8 {
-        *factor
-    }
-}
-
-/// Values at many points likewise.
-impl AllValues for AesField {}
