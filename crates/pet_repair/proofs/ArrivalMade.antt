@@ -24,12 +24,12 @@ use Rattle.pet_repair.specs.Arrival.{kept_itself, completes, CanMake}
 use Rattle.pet_repair.specs.Repaired.{is_whole}
 use Rattle.pet_repair.specs.declared.arriving.RelayStop.{RelayStop}
 use Rattle.pet_repair.specs.declared.arriving.RelayStop.TheVariants.{Route, Unlike}
-use Rattle.pet_repair.specs.inside.Arrivals.{StandsIn, StopsRelay, SendsLike, PartOfLike, StopsLike, HasLike, all_again}
+use Rattle.pet_repair.specs.inside.Arrivals.{KeepsOnIn, StopsRelay, SendsLike, PartOfLike, StopsLike, HasLike, all_again}
 use Rattle.pet_repair.specs.inside.Arrivals.{SendsCompletion, PartOfCompletion, StopsCompletion, SendsArrival}
 use Rattle.pet_repair.specs.inside.Arrivals.{PartOfArrival, StopsArrival, IsStoppedIn}
 use Rattle.pet_repair.specs.inside.Groups.{IsUnlikeIn}
 use Rattle.pet_repair.specs.laws.CompletesLaws.{not_completed, nothing_itself, alone_itself, completed_not, completed_where}
-use Rattle.pet_repair.proofs.AgainSent.{kept_more}
+use Rattle.pet_repair.proofs.AgainSent.{kept_more, keeps_none, keeps_then}
 
 -- a stop by another word for what was sent
 pub stops_relay : (way : Way) (old new : Routes) (A B : Type 0) (U V : ℕ → ℕ → Type 0) (s : RelayStop)
@@ -69,22 +69,22 @@ module _ (way : Way) (r : ReceiverState ℕ) (group : ℕ) where
               like.again.rebuilt.kept,
             );
         more = like.again.more;
+        stands = like.again.stands;
         sends = like.again.sends;
-        stands = like.stands;
       }
 
   -- a layer is not shown
-  pub completion_hidden : (fault : RepairFault) (now : Routes) → StandsIn r
-      → repair_fault (kept_set r) group ≡ Some fault → SendsCompletion way r group r now now
-  completion_hidden fault now stands is =
+  pub completion_hidden : (fault : RepairFault) (now : Routes) → repair_fault (kept_set r) group ≡ Some fault
+      → SendsCompletion way r group r now now
+  completion_hidden fault now is =
       let no : is_whole (kept_set r) group ≡ false = ap is_none is in
       record {
         sent = [];
         hidden = λ _. (refl, refl);
         shown = λ yes. let out : false ≡ true = sym no ∙ yes in absurd cc;
         more = omega arith;
+        stands = keeps_none r;
         sends = sends_nothing way now now refl refl;
-        stands = stands;
       }
 
   pub stops_shown : (e : Encoding) (old new : Routes) (s : RelayStop) → repair_fault (kept_set r) group ≡ None
@@ -110,13 +110,13 @@ other_verdict Full none = refl
 module _ (way : Way) (r : ReceiverState ℕ) (d : List ℕ) (bytes : All (λ b. b < 256) d) where
   -- the datagram is not kept
   pub arrival_none : (now : ReceiverState ℕ) (rs : Routes) → is_kept (verdict_of (kept_set r) d) ≡ false → now ≡ r
-      → kept_set now ≡ after (kept_set r) d → StandsIn r → SendsArrival way r d now rs rs
-  arrival_none now rs out same kept stands = record {
+      → kept_set now ≡ after (kept_set r) d → SendsArrival way r d now rs rs
+  arrival_none now rs out same kept = record {
     sent = [];
     is = record {
       plain = λ _. (sym (nothing_itself (kept_set r) d out), kept);
       whole = λ is. let no : false ≡ true = sym (not_completed (kept_set r) d out) ∙ is in absurd cc;
-      stands = subst StandsIn (sym same) stands;
+      stands = subst (KeepsOnIn r []) (sym same) (keeps_none r);
       bytes = bytes;
     };
     more = omega (arith, ap (λ (s : ReceiverState ℕ). kept_in_all (kept_set s)) same);
@@ -144,7 +144,7 @@ module _ (way : Way) (r : ReceiverState ℕ) (d : List ℕ) (bytes : All (λ b. 
 
     -- no layer is newly shown
     pub arrival_alone : (now : ReceiverState ℕ) (old new : Routes) → shown.bits ≡ 0
-        → kept_set now ≡ after (kept_set r) d → StandsIn now → Sends way (d ∷ []) old new
+        → kept_set now ≡ after (kept_set r) d → KeepsOnIn r (d ∷ []) now → Sends way (d ∷ []) old new
         → SendsArrival way r d now old new
     arrival_alone now old new none taken stands sends = record {
       sent = d ∷ [];
@@ -161,7 +161,7 @@ module _ (way : Way) (r : ReceiverState ℕ) (d : List ℕ) (bytes : All (λ b. 
     }
 
     module _ (some : shown.bits ≢ 0) (state : ReceiverState ℕ) (taken : kept_set state ≡ after (kept_set r) d)
-        (stands : StandsIn state) (group : ℕ) (at : group ≡ (fields_of d).group) (old mid new : Routes)
+        (stands : KeepsOnIn r (d ∷ []) state) (group : ℕ) (at : group ≡ (fields_of d).group) (old mid new : Routes)
         (grows : OnlyGrows old mid) (itself : Sends way (d ∷ []) old mid) where
       now_whole : completes (kept_set r) d ≡ is_whole (kept_set state) group
       now_whole =
@@ -194,7 +194,7 @@ module _ (way : Way) (r : ReceiverState ℕ) (d : List ℕ) (bytes : All (λ b. 
               λ yes.
               let s = done.shown (sym now_whole ∙ yes) in
               (can_make s.0, ap (λ (t : List (List ℕ)). d ∷ t) s.1, s.2);
-          stands = done.stands;
+          stands = keeps_then r state now (d ∷ []) done.sent stands done.stands;
           bytes = bytes;
         };
         more = omega (arith, done.more, one_more state taken);

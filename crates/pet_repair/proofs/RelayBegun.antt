@@ -1,7 +1,7 @@
 -- What was relayed since FROM was begun and TO made ready, seen from before the command began.
 use Rattle.std.proofs.Common.{◌≡◌, ◌↔◌, ℕ, ◌≤◌, List, [], ◌∷◌, ◌++◌, Option, Bool, true, false, Ok, Err}
 use Rattle.std.proofs.Common.{refl, sym, ap, subst, ◌∙◌, arith, inl, inr}
-use Rattle.std.specs.Prelude.{IsTrue, IfErr, IfSome, IsErrAnd, Result, option_map}
+use Rattle.std.specs.Prelude.{IsTrue, IfErr, IsErrAnd, Result, option_map}
 use Rattle.pet_base.specs.Causes.{stops}
 use Rattle.std.specs.Io.KnownBytes.{append_known}
 use Rattle.pet_base.specs.declared.place.Side.TheVariants.{Read, Written}
@@ -15,7 +15,7 @@ use Rattle.outside_files.specs.laws.PrintedLaws.{Rose-since}
 use Rattle.outside_routes.specs.Bound.{bound_text}
 use Rattle.outside_routes.specs.Coming.{coming, HasInput, HasReadUntil, HaveCome, KeepsFeed}
 use Rattle.outside_routes.specs.RouteFaults.{AimedFailed, InputFailed, IsFailure, stop_of_route, tells_of}
-use Rattle.outside_routes.specs.Sending.{Routes, AreFirstDatagrams, IsOpened, IsUnopened, OnlyOpens, CreatingFailed}
+use Rattle.outside_routes.specs.Sending.{Routes, IsOpened, IsUnopened, OnlyOpens, CreatingFailed}
 use Rattle.outside_routes.specs.Sending.{IsOpen, OutputFailed}
 use Rattle.outside_routes.specs.Way.{Way, OnFile, OnLink}
 use Rattle.outside_routes.specs.declared.fault.RouteFailed.{RouteFailed}
@@ -25,8 +25,8 @@ use Rattle.outside_routes.specs.declared.fault.RouteStop.TheVariants as stop
 use Rattle.packet_reading.specs.Begun.{Begun, Begins, EnteringFailed, IsBoundWhereStopped, IsToCome, OpeningFailed, OutStops}
 use Rattle.packet_reading.specs.Begun.{StopsBeginning}
 use Rattle.packet_reading.specs.Opened.{IsBoundTo, KeepsLink, PrintedPort}
-use Rattle.packet_reading.specs.Layers.{HaveComeFirst, HaveLeft, IsReadFirst}
-use Rattle.packet_reading.specs.laws.BegunLaws.{file_read_until, is_read, link_failed, there}
+use Rattle.packet_reading.specs.Layers.{HaveComeFirst}
+use Rattle.packet_reading.specs.laws.BegunLaws.{file_read_until, is_read, link_failed}
 use Rattle.pet_receive.specs.Arrivals.{ReceiverState, kept_set}
 use Rattle.pet_receive.specs.ShownBytes.{IsComplete}
 use Rattle.packet_met.specs.Kept.{nothing_of}
@@ -45,12 +45,12 @@ use Rattle.pet_repair.specs.Failures.{failure_of}
 use Rattle.pet_repair.specs.inside.Arrivals.{HaveArrivedIn, StandsIn, relay_of_output, relay_tells}
 use Rattle.pet_repair.specs.inside.Handed.{Handed, HandedPart}
 use Rattle.pet_repair.specs.inside.RelayEnds.{OnlyBegins, IsRelayingOf, IsEndOf, end_of_relay}
-use Rattle.pet_repair.specs.inside.RelaySoFar.{RelayedAll, CameFirst, CameTo, RelayedPart, RelayedTo, RelayedUntil}
+use Rattle.pet_repair.specs.inside.RelaySoFar.{RelayedAll, CameTo, RelayedPart, RelayedTo, RelayedUntil}
 use Rattle.pet_repair.specs.inside.RelaySoFar.{KeepsAddresses, StopsRelaying}
 use Rattle.pet_repair.specs.laws.SessionRelayed.{nothing_relayed}
 use Rattle.pet_repair.proofs.ArrivalMade.{err_is}
 use Rattle.pet_repair.proofs.HandedOn.{sent_to, sent_front, sent_since, front_since, aimed_failed}
-use Rattle.pet_repair.proofs.RelayedMore.{receiving_since}
+use Rattle.pet_repair.proofs.RelayedMore.{receiving_since, stands_after}
 
 -- the link has sent nothing while FROM was begun, and is aimed where it was
 sent_kept : (from : Way) (old new : LinkSeen) → KeepsLink from old new → new.sent ≡ old.sent
@@ -174,7 +174,7 @@ module _ (from : Way) (session : List ℕ) (to : Way) (before mid : OutsideSeen)
           ))
 
     module _ (is_opened : IsOpened to (routes_of mid) opened) (keeps : KeepsAddresses opened.link new.link)
-        (start : ReceiverState ℕ) (empty : kept_set start ≡ nothing_of session) (stands : StandsIn start) where
+        (start : ReceiverState ℕ) (empty : kept_set start ≡ nothing_of session) (stands : StandsIn start []) where
       printed : PrintedPort from before new
       printed = printed_later from before mid new written (keeps.port ∙ opens.link.port) begins.printed
 
@@ -195,8 +195,15 @@ module _ (from : Way) (session : List ℕ) (to : Way) (before mid : OutsideSeen)
       -- what was relayed of the session
       abbrev as_relayed : (read : List (List ℕ)) (sent : List (List (List ℕ))) (now : ReceiverState ℕ)
           → HaveArrivedIn start read sent now → Relayed session read
-      as_relayed read sent now arrived =
-          record { start = start; stands = stands; empty = empty; sent = sent; now = now; arrived = arrived }
+      as_relayed read sent now arrived = record {
+        start = start;
+        stands = stands;
+        empty = empty;
+        sent = sent;
+        now = now;
+        arrived = arrived;
+        held = stands_after start now read sent arrived [] stands;
+      }
 
       -- all datagrams of FROM
       pub relays : (n : ℕ) (r : ReceiverState ℕ) → RelayedAll from to start n opened (routes_of new) r
@@ -231,15 +238,6 @@ module _ (from : Way) (session : List ℕ) (to : Way) (before mid : OutsideSeen)
         printed,
       )
 
-      input_first : (w : Way) (read : List (List ℕ)) → Begun w before mid → KeepsFeed w before.link mid.link
-          → CameFirst w read opened (routes_of new) → IsReadFirst w read before new
-      input_first (OnFile name) read begun feed came =
-          there before.place.files name (λ bytes. AreFirstDatagrams read (datagrams bytes)) begun.found
-          (subst (λ (o : Option (List ℕ)). IfSome o (λ bytes. AreFirstDatagrams read (datagrams bytes)))
-          (opens.input.rest ∙ begun.rest) came)
-      input_first (OnLink address) read begun feed came =
-          subst (λ (o : Option (List (List ℕ))). HaveLeft read o new.link.feed) (opens.link.feed ∙ feed) came
-
       input_to : (w : Way) (read : List (List ℕ)) → Begun w before mid → KeepsFeed w before.link mid.link
           → CameTo w read opened (routes_of new) → HaveComeFirst w read before new
       input_to (OnFile name) read begun feed came =
@@ -254,7 +252,7 @@ module _ (from : Way) (session : List ℕ) (to : Way) (before mid : OutsideSeen)
         next = part.next;
         one = part.one;
         few = part.few;
-        input = input_first from (part.read ++ part.next) begins.begun only.untouched.feed part.came;
+        input = input_to from (part.read ++ part.next) begins.begun only.untouched.feed part.came;
         relayed = as_relayed part.read part.sent part.state part.arrived;
         more = part.more;
         may = part.may;

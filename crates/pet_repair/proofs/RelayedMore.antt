@@ -1,6 +1,6 @@
 -- One datagram more is relayed, and what stands after a failure.
 use Rattle.std.proofs.Common.{◌≡◌, ℕ, ◌+◌, ◌<◌, ◌≤◌, take, List, [], ◌∷◌, ◌++◌, length, length-append, Option}
-use Rattle.std.proofs.Common.{refl, sym, ap, subst, ◌∙◌, arith, inl, inr}
+use Rattle.std.proofs.Common.{refl, sym, ap, subst, ◌∙◌, arith, append_assoc, inl, inr}
 use Rattle.std.specs.Prelude.{option_map, IfSome}
 use Rattle.std.proofs.lemmas.List.{length_push, append-nil}
 use Rattle.pet_base.specs.declared.limits.TheConstants.{MAX_DATAGRAMS}
@@ -24,19 +24,20 @@ use Rattle.outside_routes.specs.declared.fault.RouteStop.{RouteStop}
 use Rattle.outside_routes.specs.declared.fault.RouteStop.TheVariants as stop
 use Rattle.outside_routes.specs.Sending.{Routes, Sends, SendsPart, OnlyGrows, OutputFailed}
 use Rattle.outside_routes.specs.Sending.{IsOpen, SendingFailed}
-use Rattle.outside_routes.specs.laws.ComingLaws.{come_nothing, come_more, come_until, come_whole, until_first}
+use Rattle.outside_routes.specs.laws.ComingLaws.{come_nothing, come_more, come_until, come_whole}
 use Rattle.outside_routes.specs.laws.SendingLaws.{sends_nothing, sends_then, part_after}
 use Rattle.pet_receive.specs.Arrivals.{ReceiverState}
 use Rattle.pet_repair.specs.Repaired.{on_end}
 use Rattle.pet_repair.specs.declared.arriving.RelayStop.{RelayStop}
 use Rattle.pet_repair.specs.declared.arriving.RelayStop.TheVariants.{Route, Unlike}
 use Rattle.pet_repair.specs.inside.Arrivals.{IsArrivalIn, HaveArrivedIn, IsStoppedIn, SendsArrival, PartOfArrival}
-use Rattle.pet_repair.specs.inside.Arrivals.{StopsArrival}
+use Rattle.pet_repair.specs.inside.Arrivals.{StopsArrival, StandsIn}
 use Rattle.pet_repair.specs.inside.Handed.{Handed, HandedPart}
-use Rattle.pet_repair.specs.inside.RelaySoFar.{RelayedSoFar, RelayedAll, CameFirst, CameTo, RelayedPart, RelayedTo}
+use Rattle.pet_repair.specs.inside.RelaySoFar.{RelayedSoFar, RelayedAll, CameTo, RelayedPart, RelayedTo}
 use Rattle.pet_repair.specs.inside.RelaySoFar.{RelayedUntil, IsLater}
 use Rattle.pet_repair.specs.inside.RelaySoFar.{StopsRelaying}
 use Rattle.pet_repair.specs.laws.RepairLaws.{on_end_push}
+use Rattle.pet_repair.proofs.AgainSent.{keeps_none}
 
 -- one arrival behind others
 pub arrived_push : (r mid now : ReceiverState ℕ) (ds : List (List ℕ)) (sent : List (List (List ℕ))) (d : List ℕ)
@@ -48,6 +49,17 @@ arrived_push r mid now [] (x ∷ sent) d one is a = absurd is
 arrived_push r mid now (e ∷ ds) [] d one is a = absurd is
 arrived_push r mid now (e ∷ ds) (x ∷ sent) d one is a =
     (is.0, is.1, arrived_push is.0 mid now ds sent d one is.2 a)
+
+-- what is kept then: all that was sent, behind what was kept
+pub stands_after : (r now : ReceiverState ℕ) (ds : List (List ℕ)) (sent : List (List (List ℕ)))
+    → HaveArrivedIn r ds sent now → (kept : List (List ℕ)) → StandsIn r kept → StandsIn now (kept ++ on_end sent)
+stands_after r now [] [] is kept stands =
+    subst (λ (x : ReceiverState ℕ). StandsIn x (kept ++ [])) (sym is) (keeps_none r kept stands)
+stands_after r now [] (one ∷ more) is kept stands = absurd is
+stands_after r now (d ∷ ds) [] is kept stands = absurd is
+stands_after r now (d ∷ ds) (one ∷ more) is kept stands =
+    subst (StandsIn now) (append_assoc kept one (on_end more))
+    (stands_after is.0 now ds more is.2 (kept ++ one) (is.1.stands kept stands))
 
 -- what is to come stays, where only what was sent has grown
 coming_same : (from : Way) (between now : Routes) → OnlyGrows between now
@@ -111,17 +123,6 @@ so_far_start from to r now = record {
 came_to : (from : Way) (read : List (List ℕ)) (first now : Routes)
     → HaveCome read (coming from first.place first.link) (coming from now.place now.link) → CameTo from read first now
 came_to from read first now come = come_whole from read first.place now.place first.link now.link come
-
--- so they came first
-came_first : (from : Way) (read : List (List ℕ)) (first now : Routes) → length read ≤ MAX_DATAGRAMS
-    → CameTo from read first now → CameFirst from read first now
-came_first (OnFile name) read first now few came = until_first read first.place.rest now.place.rest came
-came_first (OnLink address) read first now few came = (
-  [],
-  omega arith,
-  omega (arith, few),
-  subst (λ (ds : List (List ℕ)). HaveCome ds first.link.feed now.link.feed) (sym (append-nil read)) came,
-)
 
 module _ (from to : Way) (start : ReceiverState ℕ) (n : ℕ) (first before between : Routes) (r : ReceiverState ℕ)
     (s : RelayedSoFar from to start n first before r) (target : before.place.target ≡ first.place.target)
@@ -200,9 +201,7 @@ module _ (from to : Way) (start : ReceiverState ℕ) (n : ℕ) (first before bet
       next = d ∷ [];
       one = omega arith;
       few = omega (arith, s.many, room);
-      came =
-          came_first from (s.read ++ d ∷ []) first now (omega (arith, length_push s.read d, s.many, room))
-          (came_to from (s.read ++ d ∷ []) first now come);
+      came = came_to from (s.read ++ d ∷ []) first now come;
       more = part.0;
       may = part.1;
       handed =

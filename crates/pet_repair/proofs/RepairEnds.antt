@@ -13,11 +13,11 @@ use Rattle.outside_routes.specs.declared.fault.RouteFailed.{RouteFailed}
 use Rattle.outside_routes.specs.declared.fault.RouteFailed.TheVariants as failed
 use Rattle.packet_met.specs.Gf16.{HasKeptIn}
 use Rattle.packet_verdicts.specs.KeptSet.{IsKeptSet}
-use Rattle.packet_verdicts.specs.Union.{frames_in}
 use Rattle.pet_receive.specs.Arrivals.{ReceiverState, kept_set}
 use Rattle.pet_receive.specs.ShownBytes.{groups_told}
 use Rattle.store_text.specs.Files.{HasStore}
 use Rattle.store_merge.specs.Files.{IsStop}
+use Rattle.store_merge.specs.Reading.{pairs_in}
 use Rattle.store_merge.specs.declared.read_files.StoreStop.{StoreStop}
 use Rattle.store_merge.specs.declared.read_files.StoreStop.TheVariants as unread
 use Rattle.pet_repair.specs.Repaired.{count_whole, on_end}
@@ -38,11 +38,10 @@ repair_end_is P (Err x) e is p = subst P (sym is) p
 
 -- the receiver that has read the store
 abbrev pub state_read : (store : List ℕ) (old : Seen) (r : ReceiverState ℕ)
-    → HasKeptIn r (map (λ f. (f.group, f.number)) (frames_in (kept_set r))) → IsKeptSet (kept_set r)
+    → HasKeptIn r (pairs_in (kept_set r)) → IsKeptSet (kept_set r)
     → HasStore old.files store (kept_set r) → HasState store old
 state_read store old r stands sound file = record {
   state = r;
-  order = map (λ f. (f.group, f.number)) (frames_in (kept_set r));
   stands = stands;
   sound = sound;
   file = file;

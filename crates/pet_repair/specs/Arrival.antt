@@ -1,5 +1,5 @@
 -- What a relay sends at the arrival of a datagram, by what it has kept, and what it has kept then. This project's own.
-use Rattle.std.specs.Prelude.{◌≡◌, ◌⊎◌, ℕ, ◌<◌, Bool, true, false, ◌&&◌, if◌then◌else◌, List, [], ◌∷◌, map, All}
+use Rattle.std.specs.Prelude.{◌≡◌, ◌⊎◌, ℕ, ◌<◌, Bool, true, false, ◌&&◌, if◌then◌else◌, List, [], ◌∷◌, ◌++◌, map, All}
 use Rattle.std.specs.Prelude.{None, is_none, is_some}
 use Rattle.field_elements.specs.Field.{Coding}
 use Rattle.packet_frame.specs.Frame.{Fields, text}
@@ -21,19 +21,26 @@ completes set d =
     is_kept (verdict_of set d)
     && (is_none (repair_fault (after set d) (fields_of d).group) && is_some (repair_fault set (fields_of d).group))
 
+-- the pairs of a group and a packet number of some datagrams, in their order
+abbrev pub order_of : List (List ℕ) → Order
+order_of ds = map (λ d. ((fields_of d).group, (fields_of d).number)) ds
+
 module _ {E : Type 0} (is_element : E → Type 0) (c : Coding E) where
-  -- a receiver that has kept some packets in some order
-  pub record Stands (r : ReceiverState E) : Type 0 where
-    pub order : Order
-    pub held : HasKept is_element c r order
+  -- a receiver that has kept the packets of these datagrams, in this order
+  pub record Stands (r : ReceiverState E) (kept : List (List ℕ)) : Type 0 where
+    pub held : HasKept is_element c r (order_of kept)
     pub sound : IsKeptSet (kept_set r)
 
+  -- and behind them those of some more
+  abbrev pub KeepsOn : ReceiverState E → List (List ℕ) → ReceiverState E → Type 0
+  KeepsOn r more now = (kept : List (List ℕ)) → Stands r kept → Stands now (kept ++ more)
+
   module _ (r : ReceiverState E) (d : List ℕ) where
-    -- the receiver with the datagram, and the encoder of its group, which makes what is kept of it
+    -- the receiver with the datagram, which it has kept last, and the encoder of its group, which makes what is kept of it
     pub record CanMake : Type 0 where
       pub state : ReceiverState E
       pub taken : kept_set state ≡ after (kept_set r) d
-      pub stands : Stands state
+      pub stands : KeepsOn r (d ∷ []) state
       pub encoder : Encoding
       pub is_its : IsEncoderOf is_element c state (fields_of d).group encoder
       pub like : first_unlike_of c (kept_set state) encoder ≡ None
@@ -49,13 +56,13 @@ module _ {E : Type 0} (is_element : E → Type 0) (c : Coding E) where
         (sent ≡ kept_itself (kept_set r) d)
         ⊎ ((completes (kept_set r) d ≡ true) × (can : CanMake) × (sent ≡ d ∷ map text (others can)))
 
-    -- what is sent, and what is kept then: all of that
+    -- what is sent, and what is kept then: all of that, in the order in which it is sent
     pub record IsArrival (sent : List (List ℕ)) (now : ReceiverState E) : Type 0 where
       pub plain : completes (kept_set r) d ≡ false
           → (sent ≡ kept_itself (kept_set r) d) × (kept_set now ≡ after (kept_set r) d)
       pub whole : completes (kept_set r) d ≡ true
           → (can : CanMake) × (sent ≡ d ∷ map text (others can)) × (kept_set now ≡ keep_all (kept_set can.state) (others can))
-      pub stands : Stands now
+      pub stands : KeepsOn r sent now
       pub bytes : All (λ b. b < 256) d
 
     -- it makes its group whole, but a packet that is kept of it is not the one that its encoder makes, and this is the
@@ -65,7 +72,7 @@ module _ {E : Type 0} (is_element : E → Type 0) (c : Coding E) where
       pub group_is : group ≡ (fields_of d).group
       pub state : ReceiverState E
       pub taken : kept_set state ≡ after (kept_set r) d
-      pub stands : Stands state
+      pub stands : KeepsOn r (d ∷ []) state
       pub unlike : IsUnlike is_element c state group number
       pub bytes : All (λ b. b < 256) d
 

@@ -12,7 +12,7 @@ use Rattle.outside_routes.specs.Sending.{Routes}
 use Rattle.outside_routes.specs.Way.{Way, OnFile, OnLink}
 use Rattle.packet_reading.specs.Opened.{IsBoundTo, IsUntouched, IsUnused, PortFailed, PrintedPort}
 use Rattle.packet_reading.specs.Begun.{EnteringFailed, FailsBefore, IsToCome, OpeningFailed, OutStops}
-use Rattle.packet_reading.specs.Layers.{IsRead, IsReadFirst, HaveComeFirst}
+use Rattle.packet_reading.specs.Layers.{IsRead, HaveComeFirst}
 use Rattle.pet_repair.specs.Failures.{relay_end_of_output}
 use Rattle.field_elements.specs.Gf16.{gf16_coding}
 use Rattle.pet_receive.specs.Arrivals.{ReceiverState, kept_set}
@@ -30,14 +30,15 @@ abbrev pub routes_of : OutsideSeen → Routes
 routes_of outside = record { place = outside.place; link = outside.link }
 
 -- Datagrams were relayed, one after the other, by a receiver that had kept nothing of the session: what they sent, arrival by
--- arrival, and what is kept of it.
+-- arrival, and what is kept of it, which is that, in that order.
 pub record Relayed (session : List ℕ) (read : List (List ℕ)) : Type 0 where
   pub start : ReceiverState ℕ
-  pub stands : Stands (λ a. a < 65536) gf16_coding start
+  pub stands : Stands (λ a. a < 65536) gf16_coding start []
   pub empty : kept_set start ≡ nothing_of session
   pub sent : List (List (List ℕ))
   pub now : ReceiverState ℕ
   pub arrived : HaveArrived (λ a. a < 65536) gf16_coding start read sent now
+  pub held : Stands (λ a. a < 65536) gf16_coding now (on_end sent)
 
 -- The datagrams of FROM were relayed, and TO has what they sent.
 pub record Relays (from : Way) (session : List ℕ) (to : Way) (before after : OutsideSeen) : Type 0 where
@@ -58,7 +59,7 @@ pub record RelaysFront (from : Way) (session : List ℕ) (to : Way) (before afte
   pub next : List (List ℕ)
   pub one : length next ≤ 1
   pub few : length read + length next ≤ MAX_DATAGRAMS
-  pub input : IsReadFirst from (read ++ next) before after
+  pub input : HaveComeFirst from (read ++ next) before after
   pub relayed : Relayed session read
   pub more : List (List ℕ)
   pub may : MayGiveNext relayed.now next more

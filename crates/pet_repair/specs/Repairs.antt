@@ -10,12 +10,13 @@ use Rattle.field_elements.specs.Gf16.{gf16_coding}
 use Rattle.packet_frame.specs.Frame.{text}
 use Rattle.packet_session.specs.Session.{Session, IsSession, Fits}
 use Rattle.packet_verdicts.specs.KeptSet.{IsKeptSet}
-use Rattle.pet_receive.specs.Arrivals.{Order, ReceiverState, kept_set}
+use Rattle.pet_receive.specs.Arrivals.{ReceiverState, kept_set}
 use Rattle.pet_receive.specs.ShownBytes.{groups_told}
 use Rattle.packet_met.specs.Gf16.{HasKeptIn}
 use Rattle.packet_met.specs.Met.{Pair}
 use Rattle.packet_met.specs.MetStore.{pairs_store}
 use Rattle.packet_rebuild.specs.Message.{HaveZeroEnds}
+use Rattle.store_merge.specs.Reading.{pairs_in}
 use Rattle.store_text.specs.Files.{HasStore, HasBadStore}
 use Rattle.store_text.specs.declared.fault.BadStore.TheVariants.{At}
 use Rattle.pet_repair.specs.Repaired.{count_whole, on_end, AreRepaired, IsUnlike, complete_packets, complete_groups}
@@ -24,11 +25,10 @@ use Rattle.pet_repair.specs.declared.repair.RepairEnd.{RepairEnd}
 use Rattle.pet_repair.specs.declared.repair.RepairEnd.TheVariants.{Done, NoMemory, PlaceFault, LinkFault, BadStore}
 use Rattle.pet_repair.specs.declared.repair.RepairEnd.TheVariants.{Unlike}
 
--- The file is a store, as a receiver holds it that has kept its packets in some order.
+-- The file is a store, as a receiver holds it that has kept its packets in the store's order: by group, then number.
 pub record HasState (store : List ℕ) (old : Seen) : Type 0 where
   pub state : ReceiverState ℕ
-  pub order : Order
-  pub stands : HasKeptIn state order
+  pub stands : HasKeptIn state (pairs_in (kept_set state))
   pub sound : IsKeptSet (kept_set state)
   pub file : HasStore old.files store (kept_set state)
 

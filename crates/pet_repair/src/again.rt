@@ -8,7 +8,7 @@ ghost use Rattle.pet_receive.specs.Arrivals.{kept_set};
 ghost use Rattle.packet_rebuild.specs.MadeRange.{IsMadeRange};
 ghost use Rattle.packet_rebuild.specs.Rebuilding.{IsOpenFor};
 ghost use Rattle.packet_rebuild.specs.Repairs.{made_again};
-ghost use Rattle.pet_repair.specs.inside.Arrivals.{SendsAgain, StandsIn};
+ghost use Rattle.pet_repair.specs.inside.Arrivals.{SendsAgain};
 
 use outside_routes::{Route, RouteStop, put_datagram};
 use packet_rebuild::{MadeRange, make_frame, make_range, next_count};
@@ -35,11 +35,9 @@ pub(crate) fn put_others<P: Place, K: Link, L: Ledger>(
     requires open { IsOpen (way_of to) (routes P.Place K.Link place.old link.old) }
     requires made { IsMadeRange gf16_coding encoder.now made.old }
     requires opened { IsOpenFor (kept_set receiver.old) encoder.now }
-    requires stands { StandsIn receiver.old }
-    ensures again { OnOk result (SendsAgain (way_of to.entry) (kept_set receiver.old) encoder.now 0
-        encoder.now.header.table.packets (kept_set receiver.new)
+    ensures again { OnOk result (SendsAgain (way_of to.entry) receiver.old encoder.now 0
+        encoder.now.header.table.packets receiver.new
         (routes P.Place K.Link place.old link.old) (routes P.Place K.Link place.new link.new)) }
-    ensures stands { OnOk result (StandsIn receiver.new) }
     ensures part { OnErr result (SendsPart (way_of to.entry)
         (map text (made_again gf16_coding (kept_set receiver.old) encoder.now 0 encoder.now.header.table.packets))
         (routes P.Place K.Link place.old link.old) (routes P.Place K.Link place.new link.new)) }
@@ -75,12 +73,10 @@ fn put_others_of<P: Place, K: Link, L: Ledger>(
     requires open { IsOpen (way_of to) (routes P.Place K.Link place.old link.old) }
     requires made { IsMadeRange gf16_coding encoder.now made.now }
     requires opened { IsOpenFor (kept_set receiver.old) encoder.now }
-    requires stands { StandsIn receiver.old }
-    ensures again { OnOk result (SendsAgain (way_of to.entry) (kept_set receiver.old) encoder.now
-        made.now.first made.now.count (kept_set receiver.new)
+    ensures again { OnOk result (SendsAgain (way_of to.entry) receiver.old encoder.now
+        made.now.first made.now.count receiver.new
         (routes P.Place K.Link place.old link.old) (routes P.Place K.Link place.new link.new)) }
     ensures opened { OnOk result (IsOpenFor (kept_set receiver.new) encoder.now) }
-    ensures stands { OnOk result (StandsIn receiver.new) }
     ensures part { OnErr result (SendsPart (way_of to.entry)
         (map text (made_again gf16_coding (kept_set receiver.old) encoder.now made.now.first made.now.count))
         (routes P.Place K.Link place.old link.old) (routes P.Place K.Link place.new link.new)) }
@@ -114,12 +110,10 @@ fn put_other<P: Place, K: Link, L: Ledger>(
     requires from { made.now.first ≤ number }
     requires before { number < made.now.first + made.now.count }
     requires opened { IsOpenFor (kept_set receiver.old) encoder.now }
-    requires stands { StandsIn receiver.old }
-    ensures again { OnOk result (SendsAgain (way_of to.entry) (kept_set receiver.old) encoder.now number 1
-        (kept_set receiver.new)
+    ensures again { OnOk result (SendsAgain (way_of to.entry) receiver.old encoder.now number 1
+        receiver.new
         (routes P.Place K.Link place.old link.old) (routes P.Place K.Link place.new link.new)) }
     ensures opened { OnOk result (IsOpenFor (kept_set receiver.new) encoder.now) }
-    ensures stands { OnOk result (StandsIn receiver.new) }
     ensures part { OnErr result (SendsPart (way_of to.entry)
         (map text (made_again gf16_coding (kept_set receiver.old) encoder.now number 1))
         (routes P.Place K.Link place.old link.old) (routes P.Place K.Link place.new link.new)) }

@@ -3,9 +3,10 @@ ghost use Rattle.std.specs.Prelude.{◌≡◌, ◌≢◌, ◌≤◌, length, OnO
 ghost use Rattle.pet_base.specs.declared.limits.TheConstants.{MAX_ENTRY};
 ghost use Rattle.outside_routes.specs.Sending.{routes, GrowsTold, IsOpen};
 ghost use Rattle.outside_routes.specs.Way.{way_of};
+ghost use Rattle.packet_verdicts.specs.KeptSet.{IsKeptSet};
 ghost use Rattle.pet_receive.specs.Arrivals.{kept_set};
 ghost use Rattle.packet_rebuild.specs.Rebuilding.{IsOpenFor};
-ghost use Rattle.pet_repair.specs.inside.Arrivals.{StandsIn, SendsLike, StopsLike, SendsCompletion, StopsCompletion, SendsArrival, StopsArrival, relay_of_place, relay_of_link};
+ghost use Rattle.pet_repair.specs.inside.Arrivals.{SendsLike, StopsLike, SendsCompletion, StopsCompletion, SendsArrival, StopsArrival, relay_of_place, relay_of_link};
 
 use crate::again::put_others;
 use outside_routes::{Route, RouteFailed, RouteStop, put_datagram};
@@ -85,7 +86,7 @@ pub(crate) fn relay_one<P: Place, K: Link, L: Ledger>(
 ) -> Result<(), RelayStop>
     requires open { IsOpen (way_of to) (routes P.Place K.Link place.old link.old) }
     requires short { length datagram.now ≤ MAX_ENTRY }
-    requires stands { StandsIn receiver.old }
+    requires sound { IsKeptSet (kept_set receiver.old) }
     ensures done { OnOk result (SendsArrival (way_of to.entry) receiver.old datagram.now receiver.new
         (routes P.Place K.Link place.old link.old) (routes P.Place K.Link place.new link.new)) }
     ensures stopped { IfErr result (StopsArrival (way_of to.entry) receiver.old datagram.now
@@ -119,7 +120,7 @@ fn complete<P: Place, K: Link, L: Ledger>(
     steps: &mut Steps<L>,
 ) -> Result<(), RelayStop>
     requires open { IsOpen (way_of to) (routes P.Place K.Link place.old link.old) }
-    requires stands { StandsIn receiver.old }
+    requires sound { IsKeptSet (kept_set receiver.old) }
     ensures done { OnOk result (SendsCompletion (way_of to.entry) receiver.old group receiver.new
         (routes P.Place K.Link place.old link.old) (routes P.Place K.Link place.new link.new)) }
     ensures stopped { IfErr result (StopsCompletion (way_of to.entry) receiver.old group
@@ -161,7 +162,6 @@ fn make_whole<P: Place, K: Link, L: Ledger>(
 ) -> Result<(), RelayStop>
     requires open { IsOpen (way_of to) (routes P.Place K.Link place.old link.old) }
     requires opened { IsOpenFor (kept_set receiver.old) encoder.now }
-    requires stands { StandsIn receiver.old }
     ensures done { OnOk result (SendsLike (way_of to.entry) receiver.old encoder.now receiver.new
         (routes P.Place K.Link place.old link.old) (routes P.Place K.Link place.new link.new)) }
     ensures stopped { IfErr result (StopsLike (way_of to.entry) receiver.old encoder.now group

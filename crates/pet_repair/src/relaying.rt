@@ -1,5 +1,5 @@
 //! Reading the datagrams of a file or of a link, and sending what each gives.
-ghost use Rattle.std.specs.Prelude.{◌≡◌, ◌↔◌, ◌≤◌, ℕ, length, IsTrue, IfOk, IfErr, OnOk, vec_len};
+ghost use Rattle.std.specs.Prelude.{◌≡◌, ◌↔◌, ◌≤◌, ℕ, [], length, IsTrue, IfOk, IfErr, OnOk, vec_len};
 ghost use Rattle.pet_base.specs.declared.limits.TheConstants.{MAX_ENTRY};
 ghost use Rattle.pet_base.specs.Causes.{stops};
 ghost use Rattle.pet_base.specs.Lent.{seen, AreSame};
@@ -148,7 +148,7 @@ fn relay_all<P: Place, K: Link, L: Ledger>(
     requires input { HasInput (way_of from) (P.seen place.old) }
     requires open { IsOpen (way_of to) (routes P.Place K.Link place.old link.old) }
     requires room { MAX_ENTRY ≤ length buffer.old }
-    requires stands { StandsIn receiver.old }
+    requires stands { StandsIn receiver.old [] }
     ensures done { IfOk result (λ n. RelayedAll (way_of from.entry) (way_of to.entry) receiver.old n
         (routes P.Place K.Link place.old link.old) (routes P.Place K.Link place.new link.new) receiver.new) }
     ensures stopped { IfErr result (StopsRelaying (way_of from.entry) (way_of to.entry) receiver.old

@@ -8,18 +8,21 @@ use Rattle.field_elements.specs.Gf16.{gf16_coding}
 use Rattle.packet_reading.specs.Begun.{stop_of_an_output}
 use Rattle.packet_frame.specs.Frame.{Fields, text}
 use Rattle.packet_session.specs.Encoding.{Encoding}
-use Rattle.packet_verdicts.specs.KeptSet.{KeptSet, kept_in_all}
+use Rattle.packet_verdicts.specs.KeptSet.{kept_in_all}
 use Rattle.pet_receive.specs.Arrivals.{ReceiverState, kept_set}
 use Rattle.packet_rebuild.specs.Rebuilding.{HasRebuilt}
 use Rattle.packet_rebuild.specs.Repairs.{IsEncoderOf, first_unlike_of, made_again, keep_all}
-use Rattle.pet_repair.specs.Arrival.{Stands, IsArrival, IsStopped, MayGive, HaveArrived}
+use Rattle.pet_repair.specs.Arrival.{Stands, KeepsOn, IsArrival, IsStopped, MayGive, HaveArrived}
 use Rattle.pet_repair.specs.Repaired.{is_whole}
 use Rattle.pet_repair.specs.inside.Groups.{IsUnlikeIn}
 use Rattle.pet_repair.specs.declared.arriving.RelayStop.{RelayStop}
 use Rattle.pet_repair.specs.declared.arriving.RelayStop.TheVariants.{Route, Unlike}
 
-abbrev pub StandsIn : ReceiverState ℕ → Type 0
-StandsIn r = Stands (λ a. a < 65536) gf16_coding r
+abbrev pub StandsIn : ReceiverState ℕ → List (List ℕ) → Type 0
+StandsIn r kept = Stands (λ a. a < 65536) gf16_coding r kept
+
+abbrev pub KeepsOnIn : ReceiverState ℕ → List (List ℕ) → ReceiverState ℕ → Type 0
+KeepsOnIn r more now = KeepsOn (λ a. a < 65536) gf16_coding r more now
 
 abbrev pub IsArrivalIn : ReceiverState ℕ → List ℕ → List (List ℕ) → ReceiverState ℕ → Type 0
 IsArrivalIn r d sent now = IsArrival (λ a. a < 65536) gf16_coding r d sent now
@@ -54,11 +57,12 @@ StopsRelay way old new Part AtUnlike (Route stop) =
 StopsRelay way old new Part AtUnlike (Unlike group number) = AtUnlike group number
 
 -- the packets of these numbers of the encoder's group that were not kept were sent and kept
-pub record SendsAgain (way : Way) (set : KeptSet) (e : Encoding) (first count : ℕ) (now : KeptSet)
+pub record SendsAgain (way : Way) (r : ReceiverState ℕ) (e : Encoding) (first count : ℕ) (now : ReceiverState ℕ)
     (old new : Routes) : Type 0 where
   pub sent : List (List ℕ)
-  pub rebuilt : HasRebuilt gf16_coding set e first count sent now
-  pub more : kept_in_all now ≡ kept_in_all set + length sent
+  pub rebuilt : HasRebuilt gf16_coding (kept_set r) e first count sent (kept_set now)
+  pub more : kept_in_all (kept_set now) ≡ kept_in_all (kept_set r) + length sent
+  pub stands : KeepsOnIn r sent now
   pub sends : Sends way sent old new
 
 -- all of a group that were not kept
@@ -69,8 +73,7 @@ all_again r e = made_again gf16_coding (kept_set r) e 0 e.header.table.packets
 pub record SendsLike (way : Way) (r : ReceiverState ℕ) (e : Encoding) (now : ReceiverState ℕ)
     (old new : Routes) : Type 0 where
   pub like : first_unlike_of gf16_coding (kept_set r) e ≡ None
-  pub again : SendsAgain way (kept_set r) e 0 e.header.table.packets (kept_set now) old new
-  pub stands : StandsIn now
+  pub again : SendsAgain way r e 0 e.header.table.packets now old new
 
 abbrev pub PartOfLike : Way → ReceiverState ℕ → Encoding → Routes → Routes → Type 0
 PartOfLike way r e old new =
@@ -97,8 +100,8 @@ pub record SendsCompletion (way : Way) (r : ReceiverState ℕ) (group : ℕ) (no
       → (has : HasLike r group) × (sent ≡ map text (all_again r has.encoder))
       × (kept_set now ≡ keep_all (kept_set r) (all_again r has.encoder))
   pub more : kept_in_all (kept_set now) ≡ kept_in_all (kept_set r) + length sent
+  pub stands : KeepsOnIn r sent now
   pub sends : Sends way sent old new
-  pub stands : StandsIn now
 
 abbrev pub PartOfCompletion : Way → ReceiverState ℕ → ℕ → Routes → Routes → Type 0
 PartOfCompletion way r group old new =

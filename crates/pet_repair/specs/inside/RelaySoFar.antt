@@ -1,15 +1,13 @@
 -- What a relay has read and sent so far, since FROM was begun and TO was made ready. This project's own.
 use Rattle.std.specs.Prelude.{◌≡◌, ◌⊎◌, ℕ, ◌+◌, ◌<◌, ◌≤◌, List, [], ◌∷◌, ◌++◌, length, IfSome}
 use Rattle.pet_base.specs.declared.limits.TheConstants.{MAX_DATAGRAMS}
-use Rattle.pet_base.specs.Entries.{datagrams}
 use Rattle.pet_base.specs.Seen.{KeepsNames}
 use Rattle.pet_base.specs.LinkSeen.{LinkSeen}
-use Rattle.outside_routes.specs.Way.{Way, OnFile, OnLink}
+use Rattle.outside_routes.specs.Way.{Way}
 use Rattle.outside_routes.specs.Coming.{coming, HaveCome, HaveComeUntil}
 use Rattle.outside_routes.specs.RouteFaults.{InputFailed, ReceivingFailed}
 use Rattle.outside_routes.specs.declared.fault.RouteStop.TheVariants as stop
-use Rattle.outside_routes.specs.Sending.{Routes, AreFirstDatagrams, OutputFailed, SendingFailed}
-use Rattle.packet_reading.specs.Layers.{HaveLeft}
+use Rattle.outside_routes.specs.Sending.{Routes, OutputFailed, SendingFailed}
 use Rattle.pet_receive.specs.Arrivals.{ReceiverState, kept_set}
 use Rattle.packet_verdicts.specs.KeptSet.{kept_in_all}
 use Rattle.pet_repair.specs.Repaired.{on_end}
@@ -37,12 +35,7 @@ pub record RelayedAll (from to : Way) (start : ReceiverState ℕ) (n : ℕ) (fir
   pub few : n ≤ MAX_DATAGRAMS
   pub ended : n < MAX_DATAGRAMS → IfSome (coming from now.place now.link) (λ more. more ≡ [])
 
--- these datagrams stand at the front of the input, or have left the link, maybe with one more
-abbrev pub CameFirst : Way → List (List ℕ) → Routes → Routes → Type 0
-CameFirst (OnFile name) read first now = IfSome first.place.rest (λ bytes. AreFirstDatagrams read (datagrams bytes))
-CameFirst (OnLink address) read first now = HaveLeft read first.link.feed now.link.feed
-
--- or these came, and no others
+-- these datagrams came, and no others
 abbrev pub CameTo : Way → List (List ℕ) → Routes → Routes → Type 0
 CameTo from read first now = HaveComeUntil from read first.place first.link now.place now.link
 
@@ -65,7 +58,7 @@ pub record RelayedPart (from to : Way) (start : ReceiverState ℕ) (first now : 
   pub next : List (List ℕ)
   pub one : length next ≤ 1
   pub few : length read + length next ≤ MAX_DATAGRAMS
-  pub came : CameFirst from (read ++ next) first now
+  pub came : CameTo from (read ++ next) first now
   pub more : List (List ℕ)
   pub may : MayGiveNext state next more
   pub handed : HandedPart to (on_end sent ++ more) first now

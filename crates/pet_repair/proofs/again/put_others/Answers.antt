@@ -1,7 +1,8 @@
-use Rattle.std.proofs.Common.{◌+◌, map, refl, subst, arith}
+use Rattle.std.proofs.Common.{◌≡◌, ◌+◌, map, refl, subst, ap, ◌∙◌, arith}
 use Rattle.pet_base.specs.laws.Through.{on_any_err}
 use Rattle.field_elements.specs.Gf16.{gf16_coding}
 use Rattle.packet_frame.specs.Frame.{text}
+use Rattle.packet_frame.specs.declared.frame.Header.{Header}
 use Rattle.outside_routes.specs.Sending.{routes, SendsPart}
 use Rattle.outside_routes.specs.Way.{way_of}
 use Rattle.outside_routes.specs.laws.SendingLaws.{part_nothing, calm_same, calm_then, grows_open}
@@ -17,9 +18,8 @@ loop-first-init g c =
     record {
       within = omega arith;
       made = c.requires.made;
-      again = again_none (way_of c.args.to) c.args.encoder.now (kept_set c.args.receiver.now) 0 r;
+      again = again_none (way_of c.args.to) c.args.encoder.now c.args.receiver.now 0 r;
       opened = c.requires.opened;
-      stands = c.requires.stands;
       calm = calm_same r;
     }
 
@@ -29,7 +29,7 @@ returns-in_err-make_range-clause-part g c =
     let mid = kept_set c.loop-first.receiver in
     let before = routes g.P.Place g.K.Link c.loop-first.place c.loop-first.link in
     on_any_err c.from_residual.result
-    (again_part (way_of c.args.to) e (kept_set c.args.receiver.now) mid 0 c.loop-first.first c.loop-first.first 0
+    (again_part (way_of c.args.to) e c.args.receiver.now c.loop-first.receiver 0 c.loop-first.first c.loop-first.first 0
     e.header.table.packets (routes g.P.Place g.K.Link c.args.place.now c.args.link.now) before before
     c.loop-first.invariant.calm.others.place.target c.loop-first.invariant.again (omega arith)
     (omega (arith, c.loop-first.invariant.within))
@@ -47,7 +47,7 @@ returns-in_err-put_others_of-clause-part g c =
     let before = routes g.P.Place g.K.Link c.loop-first.place c.loop-first.link in
     let after = routes g.P.Place g.K.Link c.put_others_of.new.place c.put_others_of.new.link in
     on_any_err c.from_residual-in_err-put_others_of.result
-    (again_part (way_of c.args.to) e (kept_set c.args.receiver.now) (kept_set c.loop-first.receiver) 0
+    (again_part (way_of c.args.to) e c.args.receiver.now c.loop-first.receiver 0
     c.loop-first.first c.loop-first.first c.next_count-count.result e.header.table.packets
     (routes g.P.Place g.K.Link c.args.place.now c.args.link.now)
     (routes g.P.Place g.K.Link c.loop-first.place c.loop-first.link)
@@ -72,16 +72,24 @@ loop-first-preserved g c =
       within = c.next_count-count.ensures.within;
       made = c.in_ok-make_range.ensures.made;
       again =
-          again_then (way_of c.args.to) e (kept_set c.args.receiver.now) (kept_set c.loop-first.receiver)
-          (kept_set c.put_others_of.new.receiver) 0 c.loop-first.first c.loop-first.first c.next_count-count.result
+          again_then (way_of c.args.to) e c.args.receiver.now c.loop-first.receiver
+          c.put_others_of.new.receiver 0 c.loop-first.first c.loop-first.first c.next_count-count.result
           (c.loop-first.first + c.next_count-count.result) first before after
           c.loop-first.invariant.calm.others.place.target c.loop-first.invariant.again (omega arith)
-          (subst (λ n. SendsAgain (way_of c.args.to) (kept_set c.loop-first.receiver) e n c.next_count-count.result
-          (kept_set c.put_others_of.new.receiver) before after) c.in_ok-make_range.ensures.first
-          (subst (λ n. SendsAgain (way_of c.args.to) (kept_set c.loop-first.receiver) e c.make_range.new.made.first n
-          (kept_set c.put_others_of.new.receiver) before after) c.in_ok-make_range.ensures.count
+          (subst (λ n. SendsAgain (way_of c.args.to) c.loop-first.receiver e n c.next_count-count.result
+          c.put_others_of.new.receiver before after) c.in_ok-make_range.ensures.first
+          (subst (λ n. SendsAgain (way_of c.args.to) c.loop-first.receiver e c.make_range.new.made.first n
+          c.put_others_of.new.receiver before after) c.in_ok-make_range.ensures.count
           c.in_ok-put_others_of.ensures.again)) refl;
       opened = c.in_ok-put_others_of.ensures.opened;
-      stands = c.in_ok-put_others_of.ensures.stands;
       calm = calm_then first before after c.loop-first.invariant.calm told.others told.once_place told.once_link;
     }
+
+pub returns-clause-again : goal.returns-clause-again
+returns-clause-again g c =
+    let packets = c.packets-packets.ensures.value ∙ ap (λ (h : Header). h.table.packets) c.header.ensures.value in
+    let all : c.loop-first.first ≡ c.args.encoder.now.header.table.packets =
+    omega (arith, packets, c.loop-first.invariant.within) in
+    subst (λ n. SendsAgain (way_of c.args.to) c.args.receiver.now c.args.encoder.now 0 n c.loop-first.receiver
+    (routes g.P.Place g.K.Link c.args.place.now c.args.link.now)
+    (routes g.P.Place g.K.Link c.loop-first.place c.loop-first.link)) all c.loop-first.invariant.again

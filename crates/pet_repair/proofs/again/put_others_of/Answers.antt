@@ -1,9 +1,9 @@
-use Rattle.std.proofs.Common.{◌+◌, ◌≤◌, refl, arith}
+use Rattle.std.proofs.Common.{◌≡◌, ◌+◌, ◌≤◌, refl, subst, arith}
 use Rattle.pet_base.specs.laws.Through.{on_any_err}
 use Rattle.outside_routes.specs.Sending.{routes}
 use Rattle.outside_routes.specs.Way.{way_of}
 use Rattle.outside_routes.specs.laws.SendingLaws.{calm_same, calm_then, grows_open}
-use Rattle.pet_receive.specs.Arrivals.{kept_set}
+use Rattle.pet_repair.specs.inside.Arrivals.{SendsAgain}
 use Rattle.pet_repair.proofs.AgainSent.{again_none, again_then, again_part}
 use Rattle.pet_repair.proofs.again.put_others_of.Goals as goal
 
@@ -11,9 +11,8 @@ pub loop-p-init : goal.loop-p-init
 loop-p-init g c =
     let r = routes g.P.Place g.K.Link c.args.place.now c.args.link.now in
     record {
-      again = again_none (way_of c.args.to) c.args.encoder.now (kept_set c.args.receiver.now) c.args.made.now.first r;
+      again = again_none (way_of c.args.to) c.args.encoder.now c.args.receiver.now c.args.made.now.first r;
       opened = c.requires.opened;
-      stands = c.requires.stands;
       calm = calm_same r;
     }
 
@@ -26,7 +25,7 @@ pub returns-in_err-put_other-clause-part : goal.returns-in_err-put_other-clause-
 returns-in_err-put_other-clause-part g c =
     let le : c.loop-p.p + 1 ≤ c.args.made.now.count = omega arith in
     on_any_err c.from_residual.result
-    (again_part (way_of c.args.to) c.args.encoder.now (kept_set c.args.receiver.now) (kept_set c.loop-p.receiver)
+    (again_part (way_of c.args.to) c.args.encoder.now c.args.receiver.now c.loop-p.receiver
     c.args.made.now.first c.loop-p.p (c.args.made.now.first + c.loop-p.p) 1 c.args.made.now.count
     (routes g.P.Place g.K.Link c.args.place.now c.args.link.now)
     (routes g.P.Place g.K.Link c.loop-p.place c.loop-p.link)
@@ -41,12 +40,18 @@ loop-p-preserved g c =
     let told = c.in_ok-put_other.ensures.told.grows in
     record {
       again =
-          again_then (way_of c.args.to) c.args.encoder.now (kept_set c.args.receiver.now)
-          (kept_set c.loop-p.receiver) (kept_set c.put_other.new.receiver) c.args.made.now.first c.loop-p.p
+          again_then (way_of c.args.to) c.args.encoder.now c.args.receiver.now
+          c.loop-p.receiver c.put_other.new.receiver c.args.made.now.first c.loop-p.p
           (c.args.made.now.first + c.loop-p.p) 1 (c.loop-p.p + 1) first before after
           c.loop-p.invariant.calm.others.place.target c.loop-p.invariant.again refl c.in_ok-put_other.ensures.again
           refl;
       opened = c.in_ok-put_other.ensures.opened;
-      stands = c.in_ok-put_other.ensures.stands;
       calm = calm_then first before after c.loop-p.invariant.calm told.others told.once_place told.once_link;
     }
+
+pub returns-clause-again : goal.returns-clause-again
+returns-clause-again g c =
+    let all : c.loop-p.p ≡ c.args.made.now.count = omega arith in
+    subst (λ n. SendsAgain (way_of c.args.to) c.args.receiver.now c.args.encoder.now c.args.made.now.first n
+    c.loop-p.receiver (routes g.P.Place g.K.Link c.args.place.now c.args.link.now)
+    (routes g.P.Place g.K.Link c.loop-p.place c.loop-p.link)) all c.loop-p.invariant.again

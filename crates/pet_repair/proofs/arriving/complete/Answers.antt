@@ -11,7 +11,7 @@ use Rattle.pet_repair.proofs.arriving.complete.Goals as goal
 
 pub make_whole-requires-clause-opened : goal.make_whole-requires-clause-opened
 make_whole-requires-clause-opened g c =
-    opened_for (λ a. a < 65536) gf16_coding c.args.receiver.now c.args.group c.in-Ok.encoder c.requires.stands.sound
+    opened_for (λ a. a < 65536) gf16_coding c.args.receiver.now c.args.group c.in-Ok.encoder c.requires.sound
     c.in-Ok.ensures.encoder
 
 pub returns-in-Ok-clause-done : goal.returns-in-Ok-clause-done
@@ -34,8 +34,8 @@ pub returns-in-Err-clause-done : goal.returns-in-Err-clause-done
 returns-in-Err-clause-done g c =
     on_ok_weaker c.not_whole.result
     (λ other. completion_hidden (way_of c.args.to) c.args.receiver.now c.args.group c.in-Err.fault
-    (routes g.P.Place g.K.Link c.args.place.now c.args.link.now) c.requires.stands
-    (c.in-Err.ensures.refused other)) c.not_whole.ensures.other
+    (routes g.P.Place g.K.Link c.args.place.now c.args.link.now) (c.in-Err.ensures.refused other))
+    c.not_whole.ensures.other
 
 pub returns-in-Err-clause-stopped : goal.returns-in-Err-clause-stopped
 returns-in-Err-clause-stopped g c =

@@ -1,11 +1,10 @@
-use Rattle.std.proofs.Common.{◌<◌, [], ◌∷◌, ◌++◌, refl, sym, ap, ◌∙◌, arith}
+use Rattle.std.proofs.Common.{◌<◌, [], ◌∷◌, refl, sym, ap, ◌∙◌, arith}
 use Rattle.std.proofs.lemmas.List.Elements.{All-from_get_or}
 use Rattle.std.proofs.lemmas.Result.{on_ok_weaker, IfErr-weaker}
 use Rattle.outside_routes.specs.Sending.{routes}
 use Rattle.outside_routes.specs.Way.{way_of}
 use Rattle.outside_routes.specs.declared.fault.RouteStop.TheVariants as stop
 use Rattle.outside_routes.specs.laws.SendingLaws.{part_nothing, grows_open}
-use Rattle.packet_frame.specs.Refusals.{fields_of}
 use Rattle.packet_met.specs.laws.KeptDatagram.{kept_frame}
 use Rattle.packet_verdicts.specs.Group.{group_in}
 use Rattle.packet_verdicts.specs.Verdicts.{is_kept}
@@ -13,7 +12,7 @@ use Rattle.pet_receive.specs.Arrivals.{kept_set}
 use Rattle.pet_repair.specs.Arrival.{kept_itself}
 use Rattle.pet_repair.specs.declared.arriving.RelayStop.TheVariants.{Route}
 use Rattle.pet_repair.specs.inside.Arrivals.{StopsArrival}
-use Rattle.pet_repair.proofs.AgainSent.{stands_with}
+use Rattle.pet_repair.proofs.AgainSent.{keeps_one}
 use Rattle.pet_repair.proofs.ArrivalMade.{err_is, part_itself, part_alone, arrival_none, arrival_alone, arrival_more}
 use Rattle.pet_repair.proofs.ArrivalMade.{arrival_stops, other_verdict}
 use Rattle.pet_repair.proofs.arriving.relay_one.Goals as goal
@@ -42,19 +41,17 @@ returns-in_err-put_datagram-in-Kept-clause-stopped g c =
     err_is (StopsArrival way c.args.receiver.now d old new) c.from_residual-in_err-put_datagram-in-Kept.result (Route s)
     c.from_residual-in_err-put_datagram-in-Kept.ensures.1 (
       c.in_err-put_datagram-in-Kept.ensures.cause,
-      part_alone way c.args.receiver.now d bytes c.in-Kept.shown c.requires.stands.sound
+      part_alone way c.args.receiver.now d bytes c.in-Kept.shown c.requires.sound
           (sym c.in-Kept.is ∙ c.in_ok-shown.ensures.verdict) old new c.in_err-put_datagram-in-Kept.ensures.part,
     )
 
 pub returns-then-shown-eq0-clause-done : goal.returns-then-shown-eq0-clause-done
 returns-then-shown-eq0-clause-done g c =
     let d = c.args.datagram.now in
-    let f = fields_of d in
     let bytes = All-from_get_or (λ b. b < 256) d 0 (λ i lt. omega (arith, (c.type_inv.datagram i).fits)) in
-    let stands = stands_with c.accept.new.self (c.requires.stands.order ++ (f.group, f.number) ∷ [])
-    (c.in_ok-shown.ensures.order (ap is_kept c.in-Kept.is) c.requires.stands.order c.requires.stands.held)
+    let stands = keeps_one c.args.receiver.now c.accept.new.self d (c.in_ok-shown.ensures.order (ap is_kept c.in-Kept.is))
     c.accept.ensures.sound in
-    arrival_alone (way_of c.args.to) c.args.receiver.now d bytes c.in-Kept.shown c.requires.stands.sound
+    arrival_alone (way_of c.args.to) c.args.receiver.now d bytes c.in-Kept.shown c.requires.sound
     (sym c.in-Kept.is ∙ c.in_ok-shown.ensures.verdict) c.accept.new.self
     (routes g.P.Place g.K.Link c.args.place.now c.args.link.now)
     (routes g.P.Place g.K.Link c.put_datagram.new.place c.put_datagram.new.link) c.if-shown-eq0.true
@@ -71,24 +68,15 @@ complete-requires-clause-open g c =
     (routes g.P.Place g.K.Link c.put_datagram.new.place c.put_datagram.new.link) c.put_datagram.ensures.others
     c.requires.open
 
-pub complete-requires-clause-stands : goal.complete-requires-clause-stands
-complete-requires-clause-stands g c =
-    let f = fields_of c.args.datagram.now in
-    stands_with c.accept.new.self (c.requires.stands.order ++ (f.group, f.number) ∷ [])
-    (c.in_ok-shown.ensures.order (ap is_kept c.in-Kept.is) c.requires.stands.order c.requires.stands.held)
-    c.accept.ensures.sound
-
 pub returns-else-shown-eq0-clause-done : goal.returns-else-shown-eq0-clause-done
 unfolding group_in
 returns-else-shown-eq0-clause-done g c =
     let d = c.args.datagram.now in
-    let f = fields_of d in
     let bytes = All-from_get_or (λ b. b < 256) d 0 (λ i lt. omega (arith, (c.type_inv.datagram i).fits)) in
-    let stands = stands_with c.accept.new.self (c.requires.stands.order ++ (f.group, f.number) ∷ [])
-    (c.in_ok-shown.ensures.order (ap is_kept c.in-Kept.is) c.requires.stands.order c.requires.stands.held)
+    let stands = keeps_one c.args.receiver.now c.accept.new.self d (c.in_ok-shown.ensures.order (ap is_kept c.in-Kept.is))
     c.accept.ensures.sound in
     on_ok_weaker c.complete.result
-    (λ done. arrival_more (way_of c.args.to) c.args.receiver.now d bytes c.in-Kept.shown c.requires.stands.sound
+    (λ done. arrival_more (way_of c.args.to) c.args.receiver.now d bytes c.in-Kept.shown c.requires.sound
     (sym c.in-Kept.is ∙ c.in_ok-shown.ensures.verdict) c.if-shown-eq0.false c.accept.new.self
     c.in_ok-shown.ensures.kept stands c.group_of-group.result c.group_of-group.ensures
     (routes g.P.Place g.K.Link c.args.place.now c.args.link.now)
@@ -100,13 +88,11 @@ pub returns-else-shown-eq0-clause-stopped : goal.returns-else-shown-eq0-clause-s
 unfolding group_in
 returns-else-shown-eq0-clause-stopped g c =
     let d = c.args.datagram.now in
-    let f = fields_of d in
     let bytes = All-from_get_or (λ b. b < 256) d 0 (λ i lt. omega (arith, (c.type_inv.datagram i).fits)) in
-    let stands = stands_with c.accept.new.self (c.requires.stands.order ++ (f.group, f.number) ∷ [])
-    (c.in_ok-shown.ensures.order (ap is_kept c.in-Kept.is) c.requires.stands.order c.requires.stands.held)
+    let stands = keeps_one c.args.receiver.now c.accept.new.self d (c.in_ok-shown.ensures.order (ap is_kept c.in-Kept.is))
     c.accept.ensures.sound in
     IfErr-weaker c.complete.result _ _
-    (λ s stops. arrival_stops (way_of c.args.to) c.args.receiver.now d bytes c.in-Kept.shown c.requires.stands.sound
+    (λ s stops. arrival_stops (way_of c.args.to) c.args.receiver.now d bytes c.in-Kept.shown c.requires.sound
     (sym c.in-Kept.is ∙ c.in_ok-shown.ensures.verdict) c.if-shown-eq0.false c.accept.new.self
     c.in_ok-shown.ensures.kept stands c.group_of-group.result c.group_of-group.ensures
     (routes g.P.Place g.K.Link c.args.place.now c.args.link.now)
@@ -121,4 +107,4 @@ returns-in_default-clause-done g c =
     let out = other_verdict c.in_ok-shown.field-0 c.in_default.not-Kept in
     arrival_none (way_of c.args.to) c.args.receiver.now d bytes c.accept.new.self
     (routes g.P.Place g.K.Link c.args.place.now c.args.link.now) (sym (ap is_kept c.in_ok-shown.ensures.verdict) ∙ out)
-    (c.in_ok-shown.ensures.unchanged out).0 c.in_ok-shown.ensures.kept c.requires.stands
+    (c.in_ok-shown.ensures.unchanged out).0 c.in_ok-shown.ensures.kept

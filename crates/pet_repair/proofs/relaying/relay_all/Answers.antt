@@ -1,4 +1,4 @@
-use Rattle.std.proofs.Common.{◌+◌, ◌∙◌, take, arith, refl, subst}
+use Rattle.std.proofs.Common.{◌+◌, ◌∙◌, [], take, arith, refl, subst}
 use Rattle.outside_routes.specs.Way.{way_of}
 use Rattle.outside_routes.specs.Coming.{coming, TakesDatagram}
 use Rattle.outside_routes.specs.RouteFaults.{stop_of_route}
@@ -10,7 +10,7 @@ use Rattle.pet_repair.specs.inside.RelaySoFar.{StopsRelaying}
 use Rattle.pet_repair.specs.laws.SessionRelayed.{between_same}
 use Rattle.pet_repair.proofs.ArrivalMade.{err_is}
 use Rattle.pet_repair.proofs.BetweenKept.{between_then, between_more, between_sent, between_stopped}
-use Rattle.pet_repair.proofs.RelayedMore.{so_far_start, relayed_all, relayed_more, stops_taking, stops_at_one}
+use Rattle.pet_repair.proofs.RelayedMore.{stands_after, so_far_start, relayed_all, relayed_more, stops_taking, stops_at_one}
 use Rattle.pet_repair.proofs.RelayedMore.{later_same, later_taken, later_grown, open_taken, relayed_many}
 use Rattle.pet_repair.proofs.relaying.relay_all.Goals as goal
 
@@ -19,7 +19,6 @@ loop-turn-init g c =
     let r = routes g.P.Place g.K.Link c.args.place.now c.args.link.now in
     record {
       so_far = so_far_start (way_of c.args.from) (way_of c.args.to) c.args.receiver.now r;
-      stands = c.requires.stands;
       input = c.requires.input;
       is_open = c.requires.open;
       later = later_same r;
@@ -54,6 +53,11 @@ returns-in-End-clause-done g c =
     relayed_all from (way_of c.args.to) c.args.receiver.now c.loop-turn.turn first before now c.loop-turn.receiver
     c.loop-turn.invariant.so_far c.loop-turn.invariant.later.names.target c.next_datagram.ensures.others into
     (omega arith) step
+
+pub relay_one-requires-clause-sound : goal.relay_one-requires-clause-sound
+relay_one-requires-clause-sound g c =
+    let s = c.loop-turn.invariant.so_far in
+    (stands_after c.args.receiver.now c.loop-turn.receiver s.read s.sent s.arrived [] c.requires.stands).sound
 
 pub relay_one-requires-clause-open : goal.relay_one-requires-clause-open
 relay_one-requires-clause-open g c =
@@ -103,7 +107,6 @@ loop-turn-preserved g c =
           relayed_more from to c.args.receiver.now c.loop-turn.turn first before between c.loop-turn.receiver
           held.so_far held.later.names.target takes c.in-Datagram.len into step now grows (c.loop-turn.turn + 1)
           c.relay_one.new.receiver refl done;
-      stands = done.is.stands;
       input =
           input_kept from before.place now.place (grows.place.has_input ∙ takes.place.has_input) held.input;
       is_open = grows_open to between now grows (open_taken from to before between takes held.is_open);

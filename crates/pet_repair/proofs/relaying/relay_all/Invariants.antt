@@ -3,7 +3,6 @@ use Rattle.outside_routes.specs.Coming.{HasInput}
 use Rattle.outside_routes.specs.Sending.{routes, IsOpen}
 use Rattle.outside_routes.specs.Way.{way_of}
 use Rattle.pet_repair.specs.Relays.{KeepsLinkBetween}
-use Rattle.pet_repair.specs.inside.Arrivals.{StandsIn}
 use Rattle.pet_repair.specs.inside.RelaySoFar.{IsLater, RelayedSoFar}
 use Rattle.pet_repair.proofs.relaying.relay_all.Given as goal
 
@@ -11,7 +10,6 @@ abbrev pub invariant-loop-turn : goal.invariant-loop-turn
 invariant-loop-turn g l = record {
   so_far : RelayedSoFar (way_of l.from) (way_of l.to) l.initial.receiver l.turn
       (routes g.P.Place g.K.Link l.initial.place l.initial.link) (routes g.P.Place g.K.Link l.place l.link) l.receiver;
-  stands : StandsIn l.receiver;
   input : HasInput (way_of l.from) (g.P.Place.seen l.place);
   is_open : IsOpen (way_of l.to) (routes g.P.Place g.K.Link l.place l.link);
   later : IsLater (routes g.P.Place g.K.Link l.initial.place l.initial.link)

@@ -8,7 +8,7 @@ use Rattle.packet_reading.specs.Begun.{Begins}
 use Rattle.pet_repair.specs.Relays.{EndsRelay}
 use Rattle.pet_repair.specs.declared.arriving.RelayStop.TheVariants.{Route}
 use Rattle.pet_repair.specs.inside.RelayEnds.{OnlyBegins, end_of_relay}
-use Rattle.pet_repair.proofs.AgainSent.{stands_with}
+use Rattle.pet_repair.specs.inside.Arrivals.{StandsIn}
 use Rattle.pet_repair.proofs.ArrivalMade.{err_is}
 use Rattle.pet_repair.proofs.BetweenKept.{between_sending, between_unopened}
 use Rattle.pet_repair.proofs.RelayBegun.{stops_opening, stops_relaying, relays_with, input_opened, open_opened}
@@ -52,7 +52,7 @@ returns-in_err-read-clause-stopped g c =
     let new = outside_seen g.P.Place g.K.Link g.S.Sink c.relay_all.new.place c.relay_all.new.link o.out.now
     c.relay_all.new.steps in
     let s = c.in_err-read.field-0.0 in
-    let stands = stands_with c.new-receiver.result [] c.new-receiver.ensures.order c.new-receiver.ensures.sound in
+    let stands : StandsIn c.new-receiver.result [] = record { held = c.new-receiver.ensures.order; sound = c.new-receiver.ensures.sound } in
     err_is (λ s. (before : OutsideSeen) → Begins from before mid → OnlyBegins from before mid
     → EndsRelay from c.args.session to before new (end_of_relay s)) c.from_residual-in_err-read.result s
     c.from_residual-in_err-read.ensures.1
@@ -69,7 +69,7 @@ returns-clause-done g c before begins only =
     let opened = routes g.P.Place g.K.Link c.open_route.new.place c.open_route.new.link in
     let new = outside_seen g.P.Place g.K.Link g.S.Sink c.relay_all.new.place c.relay_all.new.link o.out.now
     c.relay_all.new.steps in
-    let stands = stands_with c.new-receiver.result [] c.new-receiver.ensures.order c.new-receiver.ensures.sound in
+    let stands : StandsIn c.new-receiver.result [] = record { held = c.new-receiver.ensures.order; sound = c.new-receiver.ensures.sound } in
     let told = c.relaying_of.ensures in
     relays_with from c.args.session to before mid only begins opened new c.open_route.ensures.others refl
     c.in_ok-open_route.ensures.opened c.relay_all.ensures.keeps c.new-receiver.result c.new-receiver.ensures.empty
