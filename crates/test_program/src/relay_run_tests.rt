@@ -1,5 +1,5 @@
 //! `relay`: its words, and runs over files in memory and by a link; and of both commands that make packets again, a forged one. What
-//! a relay does at each of its ends is tested in `test_repair`.
+//! a relay does at each of its ends is tested in `test_stores`.
 use crate::run_fixtures::{Case, Files, NO_RUN, Step, all_end, first_wrong, place_of};
 use crate::text_tests::is_refused;
 use pet_base::NoMemory;

@@ -1,4 +1,4 @@
-//! `repair`: its words, and runs over files in memory. What it does of stores at each of its ends is tested in `test_repair`.
+//! `repair`: its words, and runs over files in memory. What it does of stores at each of its ends is tested in `test_stores`.
 use crate::run_fixtures::{Case, Files, NOTHING, Step, all_end, first_wrong, place_of};
 use crate::text_tests::is_refused;
 use pet_base::NoMemory;

@@ -1,29 +1,30 @@
-//! Tests over the public calls of `store_merge`, `store_groups` and `reassemble`, as a caller sees
-//! them.
+//! Tests over the calls that make, read and join stores, and over the commands on packets, as a caller sees them: transcripts.
 //!
 //! They stand apart because the gate proves a crate with tests twice, once alone and once with them: here the second time is
 //! the tests' own. No program uses this crate.
 #![tactic(auto)]
 
-mod group_fixtures;
-
-pub use group_fixtures::{ENTRY, entry};
-
 #[cfg(test)]
-mod assemble_tests;
+mod calls;
 #[cfg(test)]
-mod files_tests;
+mod commands;
 #[cfg(test)]
-mod group_tests;
+mod hearing;
 #[cfg(test)]
 mod merge_tests;
 #[cfg(test)]
-mod migrate_tests;
+mod objects;
 #[cfg(test)]
-mod read_tests;
+mod old_stores_tests;
 #[cfg(test)]
-mod split_tests;
+mod receive_tests;
 #[cfg(test)]
-mod store_fixtures;
+mod repair_tests;
 #[cfg(test)]
-mod union_tests;
+mod shelf;
+#[cfg(test)]
+mod splitting;
+#[cfg(test)]
+mod stores_tests;
+#[cfg(test)]
+mod video_tests;

@@ -1,4 +1,0 @@
-use Rattle.test_stores.proofs.read_tests.read.Given as goal
-
-abbrev pub ghosts-read_counted : goal.ghosts-read_counted
-ghosts-read_counted a = record { name = a.blank.name; parts = a.blank.parts }
