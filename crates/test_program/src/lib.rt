@@ -1,34 +1,37 @@
-//! Tests over the public calls of `pet_text` and `pet_tool`: words, statuses and lines, and `run` on files and links in memory.
+//! Tests over the public calls of `pet_text` and `pet_tool`, as transcripts: words, statuses and lines, `run` on files and links in
+//! memory, and what a run leaves behind each call of the outside that fails.
 //!
 //! They stand apart because the gate proves a crate with tests twice, once alone and once with them: here the second time is
 //! the tests' own. No program uses this crate.
 #![tactic(auto)]
 
-mod statuses;
-
-pub use statuses::bad_line;
-
 #[cfg(test)]
-mod breceive_run_tests;
+mod byte_tests;
 #[cfg(test)]
-mod bsend_run_tests;
+mod each;
 #[cfg(test)]
-mod migrate_tests;
+mod failure_tests;
 #[cfg(test)]
-mod relay_run_tests;
+mod files;
 #[cfg(test)]
-mod repair_run_tests;
+mod input_tests;
 #[cfg(test)]
-mod run_fixtures;
+mod line_tests;
+#[cfg(test)]
+mod packet_tests;
+#[cfg(test)]
+mod run;
 #[cfg(test)]
 mod run_tests;
 #[cfg(test)]
-mod system_tests;
+mod sample_tests;
 #[cfg(test)]
-mod text_fixtures;
+mod statuses;
 #[cfg(test)]
-mod text_tests;
+mod stream_tests;
 #[cfg(test)]
-mod world_run_tests;
+mod terminal;
 #[cfg(test)]
-mod world_text_tests;
+mod texts;
+#[cfg(test)]
+mod word_tests;

@@ -1,4 +1,4 @@
-use Rattle.test_failures.proofs.first_failure_tests.run_failing.Given as goal
+use Rattle.test_program.proofs.run.run_alone.Given as goal
 
 abbrev pub ghosts-run_counted : goal.ghosts-run_counted
 ghosts-run_counted a = record { name = a.blank.name; parts = a.blank.parts }
