@@ -79,6 +79,16 @@ $ receive file:c a5ac9461b03bcf36 l t
 $ repair t file:e
 > fault unlike 0 5
 = 21
+put g 0039 50455432 a5ac9461b03bcf36 00000001 00000000 0006 0005 02 000000020001000000040002 00010305 1bdbae9a9059cdd0e95542deb60716bc
+put h 0039 50455432 a5ac9461b03bcf36 00000001 00000000 0006 0002 02 000000020001000000040002 00020302 b4ade17f999b2dd7d90855b4519c33b9
+put k =g =h
+$ relay file:k a5ac9461b03bcf36 file:q
+> fault unlike 0 2
+= 21
+put t 50545332 a5ac9461b03bcf36 00000002 =h =g 78998c19ea25f9434984930209e2c7b7
+$ repair t file:u
+> fault unlike 0 5
+= 21
 $ relay file:a 0001020304050607 file:i
 > read 7 sent 0
 > fault incomplete
@@ -91,7 +101,9 @@ is o @packet:3 @packet:0 @packet:4 @packet:5 @packet:1 @packet:2
 long n 182
 is n @packet:5 @packet:2
 same m c
+same q k
 is e
+is u
 is i
 no j
 new

@@ -146,6 +146,12 @@ $ receive file:first 0001020304050607 c21 d21
 = PlaceFault
 is c21 =first_layers
 is d21 50545332 0001020304050607 00000002 =first0 =first1
+-- the second put of LAYERS, of seven packets
+fail place 9
+$ receive file:all a5ac9461b03bcf36 c0 d0
+= PlaceFault
+is c0 00000003 00000000 00 0000002e
+no d0
 -- there are no more calls of the place, and none of the output
 fail place 16
 $ receive file:first 0001020304050607 c22 d22

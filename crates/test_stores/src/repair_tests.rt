@@ -20,6 +20,11 @@ put one_forged 50545332 a5ac9461b03bcf36 00000005 @packet:0 @packet:1 @packet:3 
 put two 50545332 a5ac9461b03bcf36 00000002 @packet:2 @packet:5 4ffe1b3405c1d8c8a26256d3ba20341f
 put bad 50545332 a5ac9461b03bcf36 00000002 @packet:2 @packet:5 9b9348fce87487396c2fc07a22de8b74
 
+-- packets 5 and 2 of a session with needs 1 and 2, whose words of stripe 0 differ, and their store
+put w5 0039 50455432 a5ac9461b03bcf36 00000001 00000000 0006 0005 02 000000020001000000040002 00010305 1bdbae9a9059cdd0e95542deb60716bc
+put w2 0039 50455432 a5ac9461b03bcf36 00000001 00000000 0006 0002 02 000000020001000000040002 00020302 b4ade17f999b2dd7d90855b4519c33b9
+put w 50545332 a5ac9461b03bcf36 00000002 =w2 =w5 78998c19ea25f9434984930209e2c7b7
+
 -- of how many groups a receiver of these packets was told, and why a group has no encoder
 $ encoder_of 1000
 = 0 Err(NotOpen)
@@ -41,6 +46,11 @@ $ encoder_of 1000 @packet:3 @packet:1 @packet:0 @packet:4 =forged
 = 1 Ok(Some(5))
 $ encoder_of 1000 @packet:0 @packet:1 @packet:2 @packet:3 @packet:4 =forged
 = 1 Ok(Some(5))
+-- the first that came is the one that is taken
+$ encoder_of 1000 =w5 =w2
+= 1 Ok(Some(2))
+$ encoder_of 1000 =w2 =w5
+= 1 Ok(Some(5))
 
 -- to a file: a packet that lacks, none that lacks, too few, a forged one, a store that is refused
 $ repair five file:t0
@@ -58,6 +68,10 @@ is t3
 $ repair bad file:t4
 = BadStore(198, Tag)
 no t4
+-- a store's packets come by their numbers
+$ repair w file:t8
+= Unlike(0, 5)
+is t8
 -- the store cannot be entered, TO not be made, and the first packet not be put
 fail place 0
 $ repair five file:t5
@@ -103,6 +117,15 @@ put from @packet:0 @packet:1 @packet:3 @packet:4 =forged
 $ relay file:from a5ac9461b03bcf36 file:r4
 = Unlike(0, 5)
 is r4 @packet:0 @packet:1 @packet:3 @packet:4 =forged
+-- by the order in which they came, and not by their numbers
+put from =w5 =w2
+$ relay file:from a5ac9461b03bcf36 file:r8
+= Unlike(0, 2)
+is r8 =w5 =w2
+put from =w2 =w5
+$ relay file:from a5ac9461b03bcf36 file:r9
+= Unlike(0, 5)
+is r9 =w2 =w5
 -- FROM cannot be entered, TO not be made, and the second packet not be put
 put from @packet:3 @packet:3 @packet:0 @packet:4 @packet:5 @packet:1 @packet:2
 fail place 0

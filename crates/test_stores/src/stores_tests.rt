@@ -40,6 +40,7 @@ put one_two 50545332 a5ac9461b03bcf36 00000002 @packet:1 @packet:2 9090df044921d
 put two_five 50545332 a5ac9461b03bcf36 00000002 @packet:2 @packet:5 4ffe1b3405c1d8c8a26256d3ba20341f
 put one_two_five 50545332 a5ac9461b03bcf36 00000003 @packet:1 @packet:2 @packet:5 a6fbdc8e7461ddc05f716a9f3e1c0c4a
 put changed_five 50545332 a5ac9461b03bcf36 00000002 =changed @packet:5 b8071f066f8e72c0224f483f4fe4f527
+put two_one_falling 50545332 a5ac9461b03bcf36 00000002 @packet:2 @packet:1 9e58c63dd8d9f9517c7ea57fec2b3bc3
 put damaged 50545332 a5ac9461b03bcf36 00000002 @packet:1 @packet:2 00000000000000000000000000000000
 
 -- stores of the session of two groups
@@ -98,6 +99,9 @@ $ merge_stores 1000 damaged damaged
 is out
 $ merge_stores 1000 one_two damaged
 = Err(Second(198, Tag))
+is out
+$ merge_stores 1000 one_two two_one_falling
+= Err(Second(107, Order))
 is out
 $ merge_stores 391 two_zero two_one
 = Err(Full(1))
