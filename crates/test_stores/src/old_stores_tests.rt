@@ -156,4 +156,14 @@ $ migrate_store 100000 wide
 = Err(TooWide(0))
 $ migrate_store 64999 wide
 = Err(TooWide(0))
+-- three groups of 1, 10 and 1 packets, of 41 bytes each, and of 49 today: with the second there are 539, with the third 588
+put three 50455453 a5ac9461b03bcf36 00000003 0029 50455431 a5ac9461b03bcf36 00000003 00000000 0001 0000 01 000000020001 0000 7ad8fd4486478ab6 0029 50455431 a5ac9461b03bcf36 00000003 00000001 000a 0000 01 000000020001 0001 e271824d962dcba2 0029 50455431 a5ac9461b03bcf36 00000003 00000002 0001 0000 01 000000020001 0002 cf790e5f230f1ea2 1acb5f7f7adfa541
+$ migrate_store 491 three
+= Err(At(102, Full))
+$ migrate_store 500 three
+= Err(Full(1))
+$ migrate_store 539 three
+= Err(Full(2))
+$ migrate_store 588 three
+= Ok(3)
 ";
