@@ -4,8 +4,11 @@
 pet tells the kind of a refusal alone, as `fault priority NeedRange`. This tells the line and the layer as well, and what stands
 there. It finds the same first cause as pet does, by the table of docs/FORMATS.md, which is below; pet alone decides, and what
 is checked here is not proved. It needs Python 3.11 or later, which reads TOML. The exit status is 0 where the file is
-accepted, and 1 where it is not.
+accepted, and 1 where it is not. Of a file that is accepted it tells on standard error where two needs that differ are nearer than
+a burst of losses, of 5 packets, or of as many as BURST=10 says: such a burst more takes both layers at once.
 """
+import itertools
+import os
 import re
 import sys
 import tomllib
@@ -201,7 +204,24 @@ def place_of(text, path):
     return f"line {line_of(text, path)}, layer {path[1]}{named}: "
 
 
-def main(name):
+def near_needs(document, burst):
+    """Pairs of layers whose needs differ, but by less than a burst: their names and needs, the lower one first."""
+    packets = document["packets"]
+    needs = {}
+    for layer in document["layer"]:
+        needs.setdefault(layer.get("need") or max(1, layer["percent"] * packets // 100), layer["name"])
+    for low, high in itertools.pairwise(sorted(needs)):
+        if high - low < burst:
+            yield needs[low], low, needs[high], high
+
+
+def burst_of(text):
+    if not text.isdecimal() or int(text) == 0:
+        sys.exit(f"check_priorities.py: BURST is a number of packets from 1 on, and not {text}")
+    return int(text)
+
+
+def main(name, burst):
     text = ""
     try:
         with open(name, "rb") as file:
@@ -214,10 +234,12 @@ def main(name):
         print(f"{refused.kind} is where {WHERE[refused.kind]}")
         return 1
     print(f"accepted: packets {document['packets']} layers {len(document['layer'])}")
+    for lower, low, higher, high in near_needs(document, burst):
+        print(f"warning: the needs {low} of {lower} and {high} of {higher} are nearer than a burst of {burst} packets", file=sys.stderr)
     return 0
 
 
 if __name__ == "__main__":
     if len(sys.argv) != 2:
         sys.exit("usage: check_priorities.py PRIORITY")
-    sys.exit(main(sys.argv[1]))
+    sys.exit(main(sys.argv[1], burst_of(os.environ.get("BURST", "5"))))

@@ -29,14 +29,14 @@ def number(data):
     return int.from_bytes(data, "big")
 
 
-def records(file):
-    """The records that are whole, in their order: the group, the layer, and its bytes."""
+def records_of(file):
+    """The records that are whole, in their order: the arrival at which the layer was shown, the group, the layer, and its bytes."""
     while len(head := file.read(HEAD)) == HEAD:
         size = number(head[9:])
         data = file.read(size)
         if len(data) < size:
             return
-        yield number(head[4:8]), head[8], data
+        yield number(head[:4]), number(head[4:8]), head[8], data
 
 
 def table_of(layer):
@@ -86,7 +86,7 @@ def main(layers, out, hold):
     groups, written = {}, 0
     with open(layers, "rb") as file:
         at_once = not stat.S_ISREG(os.fstat(file.fileno()).st_mode)
-        for group, layer, data in records(file):
+        for _, group, layer, data in records_of(file):
             if group >= written:
                 groups.setdefault(group, {})[layer] = data
             elif data:
